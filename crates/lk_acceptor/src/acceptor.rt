@@ -51,7 +51,7 @@ impl Model for Acceptor {
         }) };
 }
 
-// Shows the prover that each vote is in its range. Has no effect.
+// Shows the prover that each vote is in its range. Does nothing at run time.
 fn votes_facts(votes: &[Vote])
     ensures { AllByRecursion IsVote votes.now }
 {
@@ -109,7 +109,7 @@ impl Acceptor {
         self.snapshot_position
     }
 
-    /// Shows the prover that each part is in its range, and the votes in order. Has no effect.
+    /// Shows the prover that each part is in its range, and the votes in order. Does nothing at run time.
     pub fn facts(&self)
         ensures { IsAcceptor self.now }
     {

@@ -15,7 +15,7 @@ ghost use Rattle.lk_acceptor.specs.States.{IsOrdered, with_vote, without_votes_t
 ghost use Rattle.lk_acceptor.specs.declared.response.Response.{Response};
 
 /// Keeping a granted vote, and forgetting votes that a snapshot replaces, are changes that the protocol permits.
-pub fn votes_are_taken_over()
+pub fn vote_changes_are_permitted()
     ensures vote { (a : AcceptorValue) (e : ℕ) (x : Vote) → IsOrdered a.state → GrantsAccept a e x
         → AddsVote a.state x (with_vote a.state x) }
     ensures snapshot { (s : AcceptorState) (i : ℕ) → s.snapshot_position ≤ i

@@ -78,7 +78,7 @@ module _ (genesis : Genesis) (sent : List Datagram) (sound : Sound genesis sent)
 
     -- by a node that voted in b and then promised c
     by_report : (c : BallotValue) → Earlier c → (w : Command) → IsBelow b c → (j : Justified genesis sent c i w)
-        → (r : ReceivedPromise) → Contains j.reports r
+        → (r : ReceivedPromise) → Contains j.received r
         → HasSent genesis sent r.node (Accepted (vote i b v)) → w ≡ v
     by_report c earlier w lt j r h voted =
         let p = j.promised r h in
@@ -95,7 +95,7 @@ module _ (genesis : Genesis) (sent : List Datagram) (sound : Sound genesis sent)
         → IsMajority j.nodes (members genesis M i) → w ≡ v
     by_majority c earlier w lt j majority =
         let n = majorities_meet (members genesis M i) j.nodes acc.nodes majority acc.majority in
-        let r = j.reporters n.0 n.1 in
+        let r = j.promisers n.0 n.1 in
         by_report c earlier w lt j r.0 r.1
         (subst (λ k. HasSent genesis sent k (Accepted (vote i b v))) (sym r.2) (acc.accepted n.0 n.2))
 

@@ -9,13 +9,14 @@ use Rattle.lk_agreement_laws.specs.Ballots.{BallotValue, IsBelow, IsAtMost}
 use Rattle.lk_agreement_laws.specs.Datagrams.{Genesis, Vote, NodeMessage, Datagram, Prepare, Promise, Accept, Accepted}
 use Rattle.lk_agreement_laws.specs.Datagrams.{HasSent, WasSent}
 use Rattle.lk_agreement_laws.specs.Chosen.{Command, Chosen, ChosenAt}
-use Rattle.lk_agreement_laws.specs.Soundness.{ReceivedPromise, WasPromised, IsReported, Justified, Sound}
+use Rattle.lk_agreement_laws.specs.Soundness.{ReceivedPromise, WasPromised, IsPromisedVote, Justified, Sound}
 use Rattle.lk_agreement_laws.specs.Acceptors.{AcceptorState, CoversVote, Covers, CoversSent, AreProposed, AddsVote}
 use Rattle.lk_agreement_laws.specs.Acceptors.{ForgetsVotes}
 use Rattle.lk_agreement_laws.specs.Nodes.{Pair, Acceptance, Term, new_term, PaxosState, TermFits, Stems, PaxosFits}
-use Rattle.lk_agreement_laws.specs.Changes.{MayPropose, with_promise, holding_acceptor, in_term, with_report}
+use Rattle.lk_agreement_laws.specs.Changes.{MayPropose, with_promise, holding_acceptor, with_paxos_term, with_received}
 use Rattle.lk_agreement_laws.specs.Changes.{with_proposal}
-use Rattle.lk_agreement_laws.specs.Changes.{with_acceptance, Changes, promises, accepts, packs, begins, hears, proposes}
+use Rattle.lk_agreement_laws.specs.Changes.{with_acceptance, Changes, promises, accepts, compacts, begins, hears}
+use Rattle.lk_agreement_laws.specs.Changes.{proposes}
 use Rattle.lk_agreement_laws.specs.Changes.{counts, leaves, learns, executes, installs, restarts, Becomes, stays}
 use Rattle.lk_agreement_laws.specs.Changes.{goes_on}
 use Rattle.lk_agreement_laws.proofs.BallotOrder.{below_self, below_trans, at_most_below, at_most_trans}
@@ -114,7 +115,7 @@ module _ (genesis : Genesis) (sent : List Datagram) (sound : Sound genesis sent)
     term_ahead old new t le f = record {
       own = f.own;
       promised = at_most_trans t.ballot old.promised new.promised f.promised le;
-      reports = f.reports;
+      received = f.received;
       accepted = f.accepted;
       complete = f.complete;
       one_each = f.one_each;
@@ -143,7 +144,7 @@ module _ (genesis : Genesis) (sent : List Datagram) (sound : Sound genesis sent)
     unused s b i v c own lt h =
         let mine : HasSent genesis sent n (Accept (vote i b v)) =
         subst (λ k. HasSent genesis sent k (Accept (vote i b v)))
-        (sym (sound.owned h.sender (vote i b v) h.has_sent) ∙ own) h.has_sent in
+        (sym (sound.own h.sender (vote i b v) h.has_sent) ∙ own) h.has_sent in
         below_self b (at_most_below b s.promised b (c (Accept (vote i b v)) mine) lt)
 
     new_term_fits : (s new : AcceptorState) (b : BallotValue) → new.promised ≡ b → CoversSent genesis sent n s
@@ -152,20 +153,20 @@ module _ (genesis : Genesis) (sent : List Datagram) (sound : Sound genesis sent)
     new_term_fits s new b is c own lt = record {
       own = own;
       promised = inr (sym is);
-      reports = λ r h. absurd (omega (arith, h.1));
+      received = λ r h. absurd (omega (arith, h.1));
       accepted = λ a h. absurd (omega (arith, h.1));
       complete = λ i v h. absurd (unused s b i v c own lt h);
       one_each = λ i v w h. absurd (omega (arith, h.1));
       justified = λ i v h. absurd (omega (arith, h.1));
     }
 
-    report_fits : (s : AcceptorState) (t : Term) (r : ReceivedPromise) → WasPromised genesis sent t.ballot r
-        → TermFits genesis sent n s t → TermFits genesis sent n s (with_report t r)
-    report_fits s t r h f = record {
+    received_fits : (s : AcceptorState) (t : Term) (r : ReceivedPromise) → WasPromised genesis sent t.ballot r
+        → TermFits genesis sent n s t → TermFits genesis sent n s (with_received t r)
+    received_fits s t r h f = record {
       own = f.own;
       promised = f.promised;
-      reports = λ q c. elim (Contains-push_cases t.reports r q c)
-          [ inl old ↦ f.reports q old | inr e ↦ subst (λ x. WasPromised genesis sent t.ballot x) e h ];
+      received = λ q c. elim (Contains-push_cases t.received r q c)
+          [ inl old ↦ f.received q old | inr e ↦ subst (λ x. WasPromised genesis sent t.ballot x) e h ];
       accepted = f.accepted;
       complete = f.complete;
       one_each = f.one_each;
@@ -178,7 +179,7 @@ module _ (genesis : Genesis) (sent : List Datagram) (sound : Sound genesis sent)
     acceptance_fits s t a h f = record {
       own = f.own;
       promised = f.promised;
-      reports = f.reports;
+      received = f.received;
       accepted = λ q c. elim (Contains-push_cases t.accepted a q c) [
         | inl old ↦ f.accepted q old
         | inr e ↦
@@ -190,11 +191,11 @@ module _ (genesis : Genesis) (sent : List Datagram) (sound : Sound genesis sent)
     }
 
     -- a vote that a term's promises report, where the term has proposed nothing, is of an earlier ballot
-    earlier_vote : (s : AcceptorState) (t : Term) (y : Vote) → TermFits genesis sent n s t → IsReported t.reports y
+    earlier_vote : (s : AcceptorState) (t : Term) (y : Vote) → TermFits genesis sent n s t → IsPromisedVote t.received y
         → ((w : Command) → Contains t.proposals (y.position, w) → ⊥) → IsBelow y.ballot t.ballot
     earlier_vote s t y f told new =
         let r = sound.reported told.0.node (record { ballot = t.ballot; first = told.0.first; votes = told.0.votes })
-        (f.reports told.0 told.1) y told.2 in
+        (f.received told.0 told.1) y told.2 in
         elim r.1 [
           | inl lt ↦ lt
           | inr e ↦ absurd (new y.command
@@ -209,13 +210,13 @@ module _ (genesis : Genesis) (sent : List Datagram) (sound : Sound genesis sent)
       under = done;
       chosen = chosen;
       reaches = c.reaches;
-      reports = c.reports;
+      received = c.received;
       nodes = c.nodes;
       majority = c.majority;
-      reporters = c.reporters;
-      promised = λ r h. let a = c.among r h in (a.1, f.reports r a.0);
+      promisers = c.promisers;
+      promised = λ r h. let a = c.among r h in (a.1, f.received r a.0);
       highest = λ x told at. let y = c.highest x told at in
-          let told' : IsReported t.reports y.0 = (y.1.0, (c.among y.1.0 y.1.1).0, y.1.2) in (
+          let told' : IsPromisedVote t.received y.0 = (y.1.0, (c.among y.1.0 y.1.1).0, y.1.2) in (
             y.0,
             y.1,
             y.2,
@@ -238,7 +239,7 @@ module _ (genesis : Genesis) (sent : List Datagram) (sound : Sound genesis sent)
     proposal_fits s done t i v chosen c f = record {
       own = f.own;
       promised = f.promised;
-      reports = f.reports;
+      received = f.received;
       accepted = f.accepted;
       complete = λ j w h. Contains-append_left t.proposals ((i, v) ∷ []) _ (f.complete j w h);
       one_each = λ j u w hu hw. elim (pair_cases t.proposals i j v u hu) [
@@ -262,11 +263,12 @@ module _ (genesis : Genesis) (sent : List Datagram) (sound : Sound genesis sent)
         → TermFits genesis sent n s u
     only_term s t f u e = let same : t ≡ u = cc e in subst (λ x. TermFits genesis sent n s x) same f
 
-    with_term_stems : (w : PaxosState) (t : Option Term) → Stems genesis sent w → Stems genesis sent (in_term w t)
+    with_term_stems : (w : PaxosState) (t : Option Term) → Stems genesis sent w
+        → Stems genesis sent (with_paxos_term w t)
     with_term_stems w t f = record { votes = f.votes; done = f.done; snapshot = f.snapshot; pairs = f.pairs }
 
     with_term_fits : (w : PaxosState) (t : Term) → PaxosFits genesis sent n w → TermFits genesis sent n w.acceptor t
-        → PaxosFits genesis sent n (in_term w (Some t))
+        → PaxosFits genesis sent n (with_paxos_term w (Some t))
     with_term_fits w t f g =
         record { covers = f.covers; stems = with_term_stems w (Some t) f.stems; term = only_term w.acceptor t g }
 
@@ -276,7 +278,7 @@ module _ (genesis : Genesis) (sent : List Datagram) (sound : Sound genesis sent)
     change_fits old new f (accepts x s le was t) =
         with_acceptor_fits old s f (vote_ahead old.acceptor s x le f.stems.votes was t)
         (vote_proposed old.acceptor s x le f.stems.votes was t) (omega (arith, t.snapshot, f.stems.snapshot))
-    change_fits old new f (packs i s within t) =
+    change_fits old new f (compacts i s within t) =
         with_acceptor_fits old s f (snapshot_ahead old.acceptor s i t)
         (λ x h. subst (λ b. WasSent genesis sent (Accept x) × IsAtMost x.ballot b) (sym t.promised)
         (f.stems.votes x (t.only x h)))
@@ -285,7 +287,7 @@ module _ (genesis : Genesis) (sent : List Datagram) (sound : Sound genesis sent)
         with_term_fits (holding_acceptor old (with_promise old.acceptor b)) (new_term b) (promise_fits old b f (inl lt))
         (new_term_fits old.acceptor (with_promise old.acceptor b) b refl f.covers own lt)
     change_fits old new f (hears t r at h) =
-        with_term_fits old (with_report t r) f (report_fits old.acceptor t r h (f.term t at))
+        with_term_fits old (with_received t r) f (received_fits old.acceptor t r h (f.term t at))
     change_fits old new f (proposes t i v at c) =
         with_term_fits old (with_proposal t (i, v)) f
         (proposal_fits old.acceptor old.done t i v f.stems.done c (f.term t at))

@@ -13,7 +13,7 @@ use Rattle.lk_agreement_laws.specs.Ballots.{BallotValue}
 use Rattle.lk_agreement_laws.specs.Datagrams.{Genesis, Vote, NodeMessage, Datagram, said_by, Promise, Accept, Accepted}
 use Rattle.lk_agreement_laws.specs.Datagrams.{HasSent, WasSent}
 use Rattle.lk_agreement_laws.specs.Chosen.{Command, IsAcceptedIn, Chosen, ChosenAt}
-use Rattle.lk_agreement_laws.specs.Soundness.{ReceivedPromise, IsReported, IsReporter}
+use Rattle.lk_agreement_laws.specs.Soundness.{ReceivedPromise, IsPromisedVote, IsPromiser}
 use Rattle.lk_agreement_laws.specs.Acceptors.{AcceptorState, AddsVote}
 use Rattle.lk_agreement_laws.specs.Nodes.{Pair, Term, new_term, PaxosState, MayPromise, MaySend, MaySendDatagram}
 use Rattle.lk_agreement_laws.specs.Nodes.{MaySendDatagrams}
@@ -51,8 +51,8 @@ second_vote = record { position = 2; ballot = ballot; command = Noop }
 abbrev promise_from : ℕ → PromiseValue
 promise_from first = record { ballot = ballot; first = first; votes = [] }
 
-abbrev report : ℕ → ℕ → ReceivedPromise
-report n first = record { node = n; first = first; votes = [] }
+abbrev empty_promise : ℕ → ℕ → ReceivedPromise
+empty_promise n first = record { node = n; first = first; votes = [] }
 
 abbrev say : ℕ → NodeMessage → Datagram
 say n m = record { from = party.Node n; to = party.Node 1; bytes = spelling (said_by alone n m) }
@@ -135,65 +135,71 @@ takes old x = record {
   only = λ y h. elim (Contains-push_cases old.votes x y h) [ inl before ↦ inr before | inr e ↦ inl (sym e) ];
 }
 
-none_reported : (reports : List ReceivedPromise) → ((r : ReceivedPromise) → Contains reports r → r.votes ≡ [])
+none_reported : (received : List ReceivedPromise) → ((r : ReceivedPromise) → Contains received r → r.votes ≡ [])
     → (x : Vote)
-    → IsReported reports x → ⊥
-none_reported reports none x told =
+    → IsPromisedVote received x → ⊥
+none_reported received none x told =
     let no : Contains {X = Vote} [] x = subst (λ l. Contains l x) (none told.0 told.1) told.2 in
     omega (arith, no.1)
 
 abbrev one_heard : Term
-one_heard = record { ballot = ballot; reports = report 1 1 ∷ []; proposals = []; accepted = [] }
+one_heard = record { ballot = ballot; received = empty_promise 1 1 ∷ []; proposals = []; accepted = [] }
 
 first_choice : MayPropose alone [] one_heard 1 join
 unfolding members roster_of effects positioned
 first_choice = record {
   new = λ w h. omega (arith, h.1);
   reaches = omega arith;
-  reports = report 1 1 ∷ [];
-  among = λ r h. (h, subst (λ (q : ReceivedPromise). q.first ≤ 1) (only (report 1 1) r h) (omega arith));
+  received = empty_promise 1 1 ∷ [];
+  among = λ r h. (h, subst (λ (q : ReceivedPromise). q.first ≤ 1) (only (empty_promise 1 1) r h) (omega arith));
   nodes = 1 ∷ [];
   majority = record { within = refl; more_than_half = omega arith };
-  reporters = λ n h. (report 1 1, (0, omega arith, refl), only 1 n h);
+  promisers = λ n h. (empty_promise 1 1, (0, omega arith, refl), only 1 n h);
   highest = λ x told at. absurd
-      (none_reported (report 1 1 ∷ []) (λ r h. ap (λ (q : ReceivedPromise). q.votes)
-      (sym (only (report 1 1) r h))) x told);
+      (none_reported (empty_promise 1 1 ∷ []) (λ r h. ap (λ (q : ReceivedPromise). q.votes)
+      (sym (only (empty_promise 1 1) r h))) x told);
 }
 
 abbrev both_reports : List ReceivedPromise
-both_reports = report 1 1 ∷ report 2 2 ∷ []
+both_reports = empty_promise 1 1 ∷ empty_promise 2 2 ∷ []
 
-each_report : (P : ReceivedPromise → Type 0) → P (report 1 1) → P (report 2 2) → (r : ReceivedPromise)
+each_report : (P : ReceivedPromise → Type 0) → P (empty_promise 1 1) → P (empty_promise 2 2) → (r : ReceivedPromise)
     → Contains both_reports r → P r
 each_report P one two r h =
-    elim (cons_cases (report 1 1) (report 2 2 ∷ []) r h)
-    [ inl e ↦ subst P e one | inr more ↦ subst P (only (report 2 2) r more) two ]
+    elim (cons_cases (empty_promise 1 1) (empty_promise 2 2 ∷ []) r h)
+    [ inl e ↦ subst P e one | inr more ↦ subst P (only (empty_promise 2 2) r more) two ]
 
 each_node : (P : ℕ → Type 0) → P 1 → P 2 → (n : ℕ) → Contains (1 ∷ 2 ∷ []) n → P n
 each_node P one two n h =
     elim (cons_cases 1 (2 ∷ []) n h) [ inl e ↦ subst P e one | inr more ↦ subst P (only 2 n more) two ]
 
 abbrev first_proposed : Term
-first_proposed = record { ballot = ballot; reports = report 1 1 ∷ []; proposals = (1, join) ∷ []; accepted = [] }
+first_proposed = record {
+  ballot = ballot;
+  received = empty_promise 1 1 ∷ [];
+  proposals =
+      (1, join) ∷ [];
+  accepted = [];
+}
 
 abbrev both_heard : Term
-both_heard = record { ballot = ballot; reports = both_reports; proposals = (1, join) ∷ []; accepted = [] }
+both_heard = record { ballot = ballot; received = both_reports; proposals = (1, join) ∷ []; accepted = [] }
 
 abbrev second_proposed : Term
 second_proposed =
-    record { ballot = ballot; reports = both_reports; proposals = (1, join) ∷ (2, Noop) ∷ []; accepted = [] }
+    record { ballot = ballot; received = both_reports; proposals = (1, join) ∷ (2, Noop) ∷ []; accepted = [] }
 
 second_choice : MayPropose alone (join ∷ []) both_heard 2 Noop
 unfolding members roster_of effects positioned
 second_choice = record {
   new = λ w h. elsewhere w (only (1, join) (2, w) h);
   reaches = omega arith;
-  reports = both_reports;
+  received = both_reports;
   among = λ r h. (h, each_report (λ q. q.first ≤ 2) (omega arith) (omega arith) r h);
   nodes = 1 ∷ 2 ∷ [];
   majority = record { within = refl; more_than_half = omega arith };
-  reporters = λ n h. each_node (λ k. IsReporter both_reports k) (report 1 1, (0, omega arith, refl), refl)
-      (report 2 2, (1, omega arith, refl), refl) n h;
+  promisers = λ n h. each_node (λ k. IsPromiser both_reports k) (empty_promise 1 1, (0, omega arith, refl), refl)
+      (empty_promise 2 2, (1, omega arith, refl), refl) n h;
   highest = λ x told at. absurd (none_reported both_reports (each_report (λ q. q.votes ≡ []) refl refl) x told);
 }
   where
@@ -297,7 +303,7 @@ w3 = with_paxos w2 1 (one_state [] [] [] one_heard)
 
 reach3 : IsReachable alone w3
 reach3 = next reach2 (changes 1 (one_state [] [] [] one_heard)
-    (hears (new_term ballot) (report 1 1) refl
+    (hears (new_term ballot) (empty_promise 1 1) refl
     (has_said w2.sent 1 (Promise (promise_from 1)) one_promises (0, 0-of-1, refl))))
 
 abbrev w4 : PaxosWorld
@@ -362,7 +368,7 @@ w12 = with_paxos w11 1 (one_state (first_vote ∷ []) (join ∷ []) [] both_hear
 
 reach12 : IsReachable alone w12
 reach12 = next reach11 (changes 1 (one_state (first_vote ∷ []) (join ∷ []) [] both_heard)
-    (hears first_proposed (report 2 2) refl
+    (hears first_proposed (empty_promise 2 2) refl
     (has_said w11.sent 2 (Promise (promise_from 2)) two_promises (3, 3-of-4, refl))))
 
 abbrev w13 : PaxosWorld

@@ -51,10 +51,10 @@ module _ (genesis : Genesis) (sent new : List Datagram) where
     under = j.under;
     chosen = still_chosen j.under j.chosen;
     reaches = j.reaches;
-    reports = j.reports;
+    received = j.received;
     nodes = j.nodes;
     majority = j.majority;
-    reporters = j.reporters;
+    promisers = j.promisers;
     promised = λ r h. let p = j.promised r h in (p.0, still_sent _ _ p.1);
     highest = j.highest;
   }

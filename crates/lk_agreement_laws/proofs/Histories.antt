@@ -11,5 +11,5 @@ pub use Rattle.lk_agreement_laws.proofs.ChangeLaws.{change_fits, changes_fit, re
 pub use Rattle.lk_agreement_laws.proofs.Runs.{start_fits, covers_both, batch_fits, covers_elsewhere, asked_fits}
 pub use Rattle.lk_agreement_laws.proofs.Runs.{with_paxos_fits, kept_by_majority}
 pub use Rattle.lk_agreement_laws.proofs.Slices.{same_length_same, slices_concatenate, whole_slice, still_slice}
-pub use Rattle.lk_agreement_laws.proofs.Slices.{beginning_slice}
+pub use Rattle.lk_agreement_laws.proofs.Slices.{prefix_slice}
 pub use Rattle.lk_agreement_laws.proofs.Lists.{cons_cases, contains_more, filter_from, filter_passes_at, only}

@@ -8,7 +8,7 @@ use Rattle.lk_agreement_laws.specs.Ballots.{BallotValue, IsBelow, IsAtMost}
 use Rattle.lk_agreement_laws.specs.Datagrams.{Genesis, Vote, NodeMessage, Datagram, said_by, Prepare, Promise, Accept}
 use Rattle.lk_agreement_laws.specs.Datagrams.{Accepted, Decided, HasSent, WasSent}
 use Rattle.lk_agreement_laws.specs.Chosen.{Command}
-use Rattle.lk_agreement_laws.specs.Soundness.{ReportsFrom, Justified, Sound}
+use Rattle.lk_agreement_laws.specs.Soundness.{HasVoteAtOrAbove, Justified, Sound}
 use Rattle.lk_agreement_laws.specs.Acceptors.{AcceptorState, Covers}
 use Rattle.lk_agreement_laws.specs.Nodes.{Term, PaxosState, TermFits, PaxosFits, MayPromise, MaySend}
 use Rattle.lk_agreement_laws.proofs.BallotOrder.{below_self, below_at_most}
@@ -17,7 +17,7 @@ use Rattle.lk_agreement_laws.proofs.Grow.{still_sent, still_was, still_chosen_fr
 
 -- a promise reports what its node has accepted
 complete_now : (s : AcceptorState) (p : PromiseValue) (x : Vote) → MayPromise s p → Covers s (Accepted x)
-    → p.first ≤ x.position → ReportsFrom p.votes x.position x.ballot
+    → p.first ≤ x.position → HasVoteAtOrAbove p.votes x.position x.ballot
 complete_now s p x o c le =
     elim c.1 [
       | inl under ↦ absurd (omega (arith, o.above))
@@ -79,7 +79,7 @@ module _ (genesis : Genesis) (sent new : List Datagram) (states : ℕ → PaxosS
 
   complete : (k : ℕ) (p : PromiseValue) (x : Vote) → HasSent genesis (sent ++ new) k (Promise p)
       → HasSent genesis (sent ++ new) k (Accepted x)
-      → IsBelow x.ballot p.ballot → p.first ≤ x.position → ReportsFrom p.votes x.position x.ballot
+      → IsBelow x.ballot p.ballot → p.first ≤ x.position → HasVoteAtOrAbove p.votes x.position x.ballot
   complete k p x hp ha lt le =
       elim (cases k (Promise p) hp) [
         | inl old ↦ elim (cases k (Accepted x) ha) [
@@ -96,8 +96,8 @@ module _ (genesis : Genesis) (sent new : List Datagram) (states : ℕ → PaxosS
   sound_after = record {
     signed = λ d h. elim (Contains-append_cases sent new d h) [ inl old ↦ sound.signed d old | inr now ↦ signed d now ];
     one_value = one_value;
-    owned = λ k x h. elim (cases k (Accept x) h) [
-      | inl old ↦ sound.owned k x old
+    own = λ k x h. elim (cases k (Accept x) h) [
+      | inl old ↦ sound.own k x old
       | inr o ↦ ap (λ (d : BallotValue). d.node) (sym o.1.2) ∙ ((fits k).term o.1.0 o.1.1).own
     ];
     proposed = λ k x h. still_was genesis sent new (Accept x) (elim (cases k (Accepted x) h) [
@@ -148,7 +148,7 @@ module _ (genesis : Genesis) (sent new : List Datagram) (states : ℕ → PaxosS
     term = λ t at. let f = (fits k).term t at in record {
       own = f.own;
       promised = f.promised;
-      reports = λ r c. still_sent genesis sent new _ _ (f.reports r c);
+      received = λ r c. still_sent genesis sent new _ _ (f.received r c);
       accepted = λ a c. still_sent genesis sent new _ _ (f.accepted a c);
       complete = λ i v h. complete_after k i v t at h;
       one_each = f.one_each;

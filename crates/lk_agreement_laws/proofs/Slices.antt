@@ -65,11 +65,11 @@ still_slice genesis sent new text position total offset bytes p =
     }
 
 -- what is sent of the text of a beginning
-pub beginning_slice : (genesis : Genesis) (sent : List Datagram) (text : List Command → List ℕ) (L : List Command)
+pub prefix_slice : (genesis : Genesis) (sent : List Datagram) (text : List Command → List ℕ) (L : List Command)
     (position offset : ℕ) (bytes : List ℕ) → Chosen genesis sent L
     → position ≤ length L → bytes ≡ take (length bytes) (drop offset (text (take position L)))
     → IsSlice genesis sent text position (length (text (take position L))) offset bytes
-beginning_slice genesis sent text L position offset bytes chosen within slice =
+prefix_slice genesis sent text L position offset bytes chosen within slice =
     record {
       under = take position L;
       chosen = chosen_take genesis sent L position chosen;

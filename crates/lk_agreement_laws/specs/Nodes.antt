@@ -24,12 +24,12 @@ pub record Acceptance : Type 0 where
 -- a ballot in progress: the promises that were heard, what was proposed, and who was heard to accept it
 pub record Term : Type 0 where
   pub ballot : BallotValue
-  pub reports : List ReceivedPromise
+  pub received : List ReceivedPromise
   pub proposals : List Pair
   pub accepted : List Acceptance
 
 abbrev pub new_term : BallotValue → Term
-new_term b = record { ballot = b; reports = []; proposals = []; accepted = [] }
+new_term b = record { ballot = b; received = []; proposals = []; accepted = [] }
 
 -- an acceptor's state, the commands that were executed, decided commands of later positions, and the term, if any
 pub record PaxosState : Type 0 where
@@ -52,7 +52,7 @@ fresh = record {
 pub record TermFits (genesis : Genesis) (sent : List Datagram) (n : ℕ) (s : AcceptorState) (t : Term) : Type 0 where
   pub own : t.ballot.node ≡ n
   pub promised : IsAtMost t.ballot s.promised
-  pub reports : (r : ReceivedPromise) → Contains t.reports r → WasPromised genesis sent t.ballot r
+  pub received : (r : ReceivedPromise) → Contains t.received r → WasPromised genesis sent t.ballot r
   pub accepted : (a : Acceptance) → Contains t.accepted a
       → HasSent genesis sent a.node
       (Accepted (record { position = a.position; ballot = t.ballot; command = a.command }))

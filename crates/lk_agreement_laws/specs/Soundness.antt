@@ -22,16 +22,16 @@ WasPromised genesis sent b r =
     HasSent genesis sent r.node (Promise (record { ballot = b; first = r.first; votes = r.votes }))
 
 -- one of the promises reports the vote
-abbrev pub IsReported : List ReceivedPromise → Vote → Type 0
-IsReported reports x = (r : ReceivedPromise) × Contains reports r × Contains r.votes x
+abbrev pub IsPromisedVote : List ReceivedPromise → Vote → Type 0
+IsPromisedVote received x = (r : ReceivedPromise) × Contains received r × Contains r.votes x
 
 -- one of them is of this node
-abbrev pub IsReporter : List ReceivedPromise → ℕ → Type 0
-IsReporter reports n = (r : ReceivedPromise) × Contains reports r × (r.node ≡ n)
+abbrev pub IsPromiser : List ReceivedPromise → ℕ → Type 0
+IsPromiser received n = (r : ReceivedPromise) × Contains received r × (r.node ≡ n)
 
 -- one of the votes is for the position, in this ballot or a greater one
-abbrev pub ReportsFrom : List Vote → ℕ → BallotValue → Type 0
-ReportsFrom votes i c = (x : Vote) × Contains votes x × (x.position ≡ i) × IsAtMost c x.ballot
+abbrev pub HasVoteAtOrAbove : List Vote → ℕ → BallotValue → Type 0
+HasVoteAtOrAbove votes i c = (x : Vote) × Contains votes x × (x.position ≡ i) × IsAtMost c x.ballot
 
 -- why a command may be proposed at a position in a ballot
 pub record Justified (genesis : Genesis) (sent : List Datagram) (b : BallotValue) (i : ℕ) (v : Command) : Type 0 where
@@ -40,15 +40,15 @@ pub record Justified (genesis : Genesis) (sent : List Datagram) (b : BallotValue
   pub chosen : Chosen genesis sent under
   pub reaches : i ≤ length under + genesis.alpha
   -- a majority of them has promised the ballot, from the position or one before it on
-  pub reports : List ReceivedPromise
+  pub received : List ReceivedPromise
   pub nodes : List ℕ
   pub majority : IsMajority nodes (members genesis under i)
-  pub reporters : (n : ℕ) → Contains nodes n → IsReporter reports n
-  pub promised : (r : ReceivedPromise) → Contains reports r → (r.first ≤ i) × WasPromised genesis sent b r
+  pub promisers : (n : ℕ) → Contains nodes n → IsPromiser received n
+  pub promised : (r : ReceivedPromise) → Contains received r → (r.first ≤ i) × WasPromised genesis sent b r
   -- each vote that they report at the position is matched by one for this command, in a ballot at least as great, and
   -- below the one of the proposal. So none is reported, or the command is that of the greatest
-  pub highest : (x : Vote) → IsReported reports x → x.position ≡ i
-      → (y : Vote) × IsReported reports y × (y.position ≡ i) × (y.command ≡ v)
+  pub highest : (x : Vote) → IsPromisedVote received x → x.position ≡ i
+      → (y : Vote) × IsPromisedVote received y × (y.position ≡ i) × (y.command ≡ v)
       × IsAtMost x.ballot y.ballot × IsBelow y.ballot b
 
 pub record Sound (genesis : Genesis) (sent : List Datagram) : Type 0 where
@@ -60,7 +60,7 @@ pub record Sound (genesis : Genesis) (sent : List Datagram) : Type 0 where
       → WasSent genesis sent (Accept (record { position = i; ballot = b; command = v }))
       → WasSent genesis sent (Accept (record { position = i; ballot = b; command = w })) → v ≡ w
   -- a node proposes only in ballots of its own
-  pub owned : (n : ℕ) (x : Vote) → HasSent genesis sent n (Accept x) → x.ballot.node ≡ n
+  pub own : (n : ℕ) (x : Vote) → HasSent genesis sent n (Accept x) → x.ballot.node ≡ n
   -- what is accepted was proposed
   pub proposed : (n : ℕ) (x : Vote) → HasSent genesis sent n (Accepted x) → WasSent genesis sent (Accept x)
   -- what a promise reports was proposed, in a ballot that is not above the promise
@@ -69,7 +69,7 @@ pub record Sound (genesis : Genesis) (sent : List Datagram) : Type 0 where
   -- a promise reports, at each position from its first on, each vote of its node in an earlier ballot, or one above it
   pub complete : (n : ℕ) (p : PromiseValue) (x : Vote) → HasSent genesis sent n (Promise p)
       → HasSent genesis sent n (Accepted x)
-      → IsBelow x.ballot p.ballot → p.first ≤ x.position → ReportsFrom p.votes x.position x.ballot
+      → IsBelow x.ballot p.ballot → p.first ≤ x.position → HasVoteAtOrAbove p.votes x.position x.ballot
   -- what is proposed is justified
   pub justified : (x : Vote) → WasSent genesis sent (Accept x) → Justified genesis sent x.ballot x.position x.command
   -- what is sent as decided is chosen

@@ -14,7 +14,7 @@ ghost use Rattle.lk_agreement_laws.specs.Chosen.{Command, command_at, Chosen, Ch
 ghost use Rattle.lk_agreement_laws.specs.Soundness.{Sound};
 ghost use Rattle.lk_agreement_laws.specs.Acceptors.{AcceptorState, CoversSent, AddsVote, ForgetsVotes};
 ghost use Rattle.lk_agreement_laws.specs.Nodes.{Term, PaxosState, Stems, PaxosFits, MayPromise, MaySendDatagrams};
-ghost use Rattle.lk_agreement_laws.specs.Changes.{in_term, Changes, Becomes};
+ghost use Rattle.lk_agreement_laws.specs.Changes.{with_paxos_term, Changes, Becomes};
 ghost use Rattle.lk_agreement_laws.specs.Snapshots.{IsSlice};
 ghost use Rattle.lk_agreement_laws.specs.Worlds.{PaxosWorld, start, with_sent, with_paxos, IsClientRequest};
 ghost use Rattle.lk_agreement_laws.specs.Worlds.{IsReachable};
@@ -45,7 +45,7 @@ pub fn chosen_lists_grow()
         → Chosen genesis sent L → ChosenAt genesis sent (suc (length L)) v → Chosen genesis sent (L ++ v ∷ []) }
     ensures each { (genesis : Genesis) (sent : List Datagram) (L : List Command) (i : ℕ) (v : Command)
         → Chosen genesis sent L → command_at L i ≡ Some v → ChosenAt genesis sent i v }
-    ensures beginning { (genesis : Genesis) (sent : List Datagram) (L : List Command) (k : ℕ)
+    ensures prefix { (genesis : Genesis) (sent : List Datagram) (L : List Command) (k : ℕ)
         → Chosen genesis sent L → Chosen genesis sent (take k L) }
 {}
 
@@ -149,10 +149,10 @@ pub fn votes_may_be_kept_in_a_list()
         → p.votes ≡ filter (λ y. nat_le p.first y.position) s.votes → MayPromise s p }
 {}
 
-/// Slices of snapshots of one position, from whichever nodes, join into one text, which when complete is that of a
+/// Slices of snapshots of one position, from any nodes, make one text, which when complete is that of a
 /// chosen list. Slices of the text of a prefix of a chosen list are such.
 pub fn slices_concatenate()
-    ensures join { (genesis : Genesis) (sent : List Datagram) (text : List Command → List ℕ) (position total : ℕ)
+    ensures concatenate { (genesis : Genesis) (sent : List Datagram) (text : List Command → List ℕ) (position total : ℕ)
         (gathered bytes : List ℕ)
         → Sound genesis sent → IsSlice genesis sent text position total 0 gathered
         → IsSlice genesis sent text position total (length gathered) bytes
@@ -165,7 +165,7 @@ pub fn slices_concatenate()
         (position total offset : ℕ) (bytes : List ℕ)
         → IsSlice genesis sent text position total offset bytes
         → IsSlice genesis (sent ++ new) text position total offset bytes }
-    ensures beginning { (genesis : Genesis) (sent : List Datagram) (text : List Command → List ℕ) (L : List Command)
+    ensures prefix { (genesis : Genesis) (sent : List Datagram) (text : List Command → List ℕ) (L : List Command)
         (position offset : ℕ) (bytes : List ℕ)
         → Chosen genesis sent L → position ≤ length L
         → bytes ≡ take (length bytes) (drop offset (text (take position L)))
@@ -186,7 +186,7 @@ pub fn worlds_come_about()
         → CoversSent genesis w.sent n recovered.acceptor → Stems genesis w.sent recovered → recovered.term ≡ None
         → IsReachable genesis (with_paxos w n recovered) }
     ensures leaves { (genesis : Genesis) (w : PaxosWorld) (n : ℕ) → IsReachable genesis w
-        → IsReachable genesis (with_paxos w n (in_term (w.states n) None)) }
+        → IsReachable genesis (with_paxos w n (with_paxos_term (w.states n) None)) }
 {}
 
 /// In every reachable world chosen lists agree, and a majority keeps each command of a chosen list.

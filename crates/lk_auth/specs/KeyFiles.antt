@@ -19,9 +19,9 @@ abbrev pub IsLine : List ℕ → Type 0
 IsLine text = list_any (λ b. b == 10) text ≡ false
 
 -- it is empty, or a comment, which begins with #
-abbrev pub is_idle : List ℕ → Bool
-is_idle [] = true
-is_idle (byte ∷ line) = byte == 35
+abbrev pub is_blank_or_comment : List ℕ → Bool
+is_blank_or_comment [] = true
+is_blank_or_comment (byte ∷ line) = byte == 35
 
 -- the key that a line spells in 64 hex digits
 abbrev pub key_in : List ℕ → Option (List ℕ)
@@ -36,7 +36,7 @@ both (Some key) (Some keys) = Some (key ∷ keys)
 -- the keys that lines spell. None if a line is no key, not empty and no comment
 abbrev pub keys_in : List (List ℕ) → Option (List (List ℕ))
 keys_in [] = Some []
-keys_in (line ∷ lines) = if is_idle line then keys_in lines else both (key_in line) (keys_in lines)
+keys_in (line ∷ lines) = if is_blank_or_comment line then keys_in lines else both (key_in line) (keys_in lines)
 
 -- one key or two
 abbrev pub one_or_two : Option (List (List ℕ)) → Option (List (List ℕ))

@@ -3,7 +3,8 @@
 ghost use Rattle.std.specs.Prelude.{◌≡◌, ◌∷◌, ◌++◌, [], List, ℕ, Some, None, IfSome, IsNone, OnOk};
 ghost use Rattle.std.specs.Io.KnownBytes.{Appends};
 ghost use Rattle.hex.specs.Hex.{encode_lower};
-ghost use Rattle.lk_auth.specs.KeyFiles.{IsLine, is_idle, key_in, keys_in, one_or_two, with_others, key_file};
+ghost use Rattle.lk_auth.specs.KeyFiles.{IsLine, is_blank_or_comment, key_in, keys_in, one_or_two, with_others};
+ghost use Rattle.lk_auth.specs.KeyFiles.{key_file};
 ghost use Rattle.lk_auth.specs.KeyFiles.{key_lines};
 ghost use Rattle.lk_auth.specs.Seals.{key_list};
 
@@ -13,8 +14,8 @@ use std::io;
 use std::io::Write;
 
 // Whether a line is empty or a comment, which begins with `#`.
-fn is_idle(line: &[u8]) -> bool
-    ensures { result ≡ is_idle line.now }
+fn is_blank_or_comment(line: &[u8]) -> bool
+    ensures { result ≡ is_blank_or_comment line.now }
 {
     line.first().copied().unwrap_or(b'#') == b'#'
 }
@@ -73,7 +74,7 @@ impl Keys {
         ensures none { IsNone result → (after : List (List ℕ))
             → one_or_two (with_others (key_list self) (keys_in (line.now ∷ after))) ≡ None }
     {
-        if is_idle(line) {
+        if is_blank_or_comment(line) {
             return Some(self);
         }
         let Some(key) = key_in(line) else {

@@ -77,9 +77,10 @@ module _ {S : Type 0} (sent : S → List (SocketAddr × List ℕ)) (failures : S
       → Tries sent failures next q most port bytes told old new
       → SendsOnly q (sent old.socket) (sent new.socket)
   only_tries {most = most} {port = port} {bytes = bytes} {told = told} {old = old} {new = new} asked t =
-      only_both (only_once q (q.destination.address, port) bytes (sent old.socket) (failures old.socket) (sent t.begun)
-      (failures t.begun) asked t.asks)
-      (only_waits most bytes told (record { socket = t.begun; followed = old.followed }) new asked t.waits)
+      only_both (only_once q (q.destination.address, port) bytes (sent old.socket) (failures old.socket)
+      (sent t.asked_on)
+      (failures t.asked_on) asked t.asks)
+      (only_waits most bytes told (record { socket = t.asked_on; followed = old.followed }) new asked t.waits)
 
   only_vain : (most : ℕ) (ports bytes : List ℕ) (old new : Asker S) → IsAsked q bytes
       → TriesInVain sent failures next q most ports bytes old new

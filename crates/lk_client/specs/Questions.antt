@@ -123,10 +123,10 @@ module _ {S : Type 0} (sent : S → List (SocketAddr × List ℕ)) (failures : S
 
   -- the bytes went to this port of the question's address, and then the client waited for at most so many receives
   pub record Tries (most port : ℕ) (bytes : List ℕ) (told : Option ReplyValue) (old new : Asker S) : Type 0 where
-    pub begun : S
+    pub asked_on : S
     pub asks : SendsOnce (q.destination.address, port) bytes (sent old.socket) (failures old.socket)
-        (sent begun) (failures begun)
-    pub waits : WaitsFor most bytes told (record { socket = begun; followed = old.followed }) new
+        (sent asked_on) (failures asked_on)
+    pub waits : WaitsFor most bytes told (record { socket = asked_on; followed = old.followed }) new
 
   -- the client tried each of these ports in turn, and none brought a reply
   abbrev pub TriesInVain : ℕ → List ℕ → List ℕ → Asker S → Asker S → Type 0

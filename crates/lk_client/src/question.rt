@@ -10,7 +10,7 @@ ghost use Rattle.lk_client.specs.declared.reply.Reply.{Reply as ReplyValue};
 use crate::destination::Destination;
 use crate::reply::{Reply, read_reply};
 use bytes::BytesMut;
-use lk_transport::fault::ServiceFault;
+use lk_transport::fault::ProgramFault;
 use lk_transport::receive_buffer::ReceiveBuffer;
 use lk_transport::socket::DatagramSocket;
 use lk_types::{Port, Request};
@@ -37,21 +37,21 @@ pub struct Question {
 }
 
 // Serialises a message. Fails only when out of memory.
-fn written(alloc: Global, message: &Message) -> Result<BytesMut, ServiceFault>
+fn written(alloc: Global, message: &Message) -> Result<BytesMut, ProgramFault>
     ensures spells { IfOk result (λ bytes. Spells message.now bytes.items) }
-    ensures only { IfErr result (λ f. f ≡ ServiceFault.NoMemory) }
+    ensures only { IfErr result (λ f. f ≡ ProgramFault.NoMemory) }
 {
     let mut bytes = BytesMut::new(alloc);
     match write(message, &mut bytes) {
         Ok(()) => Ok(bytes),
-        Err(_) => Err(ServiceFault::NoMemory),
+        Err(_) => Err(ProgramFault::NoMemory),
     }
 }
 
 /// Returns the datagram of the request, without a frame. Fails only when out of memory.
-pub fn datagram(alloc: Global, question: &Question) -> Result<BytesMut, ServiceFault>
+pub fn datagram(alloc: Global, question: &Question) -> Result<BytesMut, ProgramFault>
     ensures asks { IfOk result (λ bytes. Spells (asking question.now) bytes.items) }
-    ensures only { IfErr result (λ f. f ≡ ServiceFault.NoMemory) }
+    ensures only { IfErr result (λ f. f ≡ ProgramFault.NoMemory) }
 {
     let message = Message {
         cluster: question.cluster,
@@ -98,9 +98,9 @@ pub fn next_reply<S: DatagramSocket>(
 
 // Returns the bytes to send for the request: its datagram, in a frame if the client has a key. Fails only when out of
 // memory.
-fn bytes_to_send(alloc: Global, question: &Question) -> Result<Vec<u8>, ServiceFault>
+fn bytes_to_send(alloc: Global, question: &Question) -> Result<Vec<u8>, ProgramFault>
     ensures asks { IfOk result (λ bytes. IsAsked question.now bytes.items) }
-    ensures only { IfErr result (λ f. f ≡ ServiceFault.NoMemory) }
+    ensures only { IfErr result (λ f. f ≡ ProgramFault.NoMemory) }
 {
     let bytes = datagram(alloc, question)?;
     let mut frame = Vec::new(alloc);
@@ -190,7 +190,7 @@ fn exchange_in_turn<S: DatagramSocket>(
     question: &Question,
     ports: &[Port],
     patience: u32,
-) -> Result<Option<Reply>, ServiceFault>
+) -> Result<Option<Reply>, ProgramFault>
     // The bytes of the question go to each port in turn until it is told something, and further only to the members of
     // Elsewhere that it hears.
     ensures tries { S.is_observable
@@ -198,7 +198,7 @@ fn exchange_in_turn<S: DatagramSocket>(
         (next_of S.incoming) question.now patience ports.now told socket.old socket.new) }
     ensures told { IfOk result (λ reply. IfSome reply IsFinal) }
     ensures unchanged { OnErr result (socket.new ≡ socket.old) }
-    ensures only { IfErr result (λ f. f ≡ ServiceFault.NoMemory) }
+    ensures only { IfErr result (λ f. f ≡ ProgramFault.NoMemory) }
 {
     let bytes = bytes_to_send(alloc, question)?;
     let (mut buffer, mut followed) = (ReceiveBuffer::new(), 0);
@@ -226,7 +226,7 @@ pub fn exchange<S: DatagramSocket>(
     socket: &mut S,
     question: &Question,
     ports: &[Port],
-) -> Result<Option<Reply>, ServiceFault>
+) -> Result<Option<Reply>, ProgramFault>
     // Whether it fails or not, it has sent nothing but that request.
     ensures same { S.is_observable → SendsOnly question.now (S.sent socket.old) (S.sent socket.new) }
     // It keeps the rule of a client that asks one request.
@@ -235,7 +235,7 @@ pub fn exchange<S: DatagramSocket>(
         (next_of S.incoming) question.now ports.now told socket.old socket.new) }
     ensures told { IfOk result (λ reply. IfSome reply IsFinal) }
     ensures unchanged { OnErr result (socket.new ≡ socket.old) }
-    ensures only { IfErr result (λ f. f ≡ ServiceFault.NoMemory) }
+    ensures only { IfErr result (λ f. f ≡ ProgramFault.NoMemory) }
 {
     match ports {
         [] => exchange_in_turn(alloc, socket, question, &[question.port], ALONE),
@@ -245,7 +245,7 @@ pub fn exchange<S: DatagramSocket>(
 
 // Writes a reply that tells what became of the request: an answer's text, or `passed LAST`, as a line. Returns whether
 // it is such a reply; an Elsewhere is not.
-fn write_told<W: Write>(reply: &Reply, out: &mut W) -> io::Result<bool>
+fn write_final<W: Write>(reply: &Reply, out: &mut W) -> io::Result<bool>
     ensures told { IfOk result (λ is_told. is_told ≡ true ↔ IsFinal reply.now) }
 {
     match reply {
@@ -261,7 +261,7 @@ pub fn write_reply<W: Write>(reply: Option<Reply>, out: &mut W) -> io::Result<bo
     ensures told { IfOk result (λ is_told. is_told ≡ true ↔ IsSomeAnd reply IsFinal) }
 {
     let is_told = match reply {
-        Some(reply) => write_told(&reply, out)?,
+        Some(reply) => write_final(&reply, out)?,
         None => false,
     };
     if !is_told {
@@ -279,19 +279,19 @@ fn ask_and_write<S: DatagramSocket, W: Write>(
     question: &Question,
     ports: &[Port],
     out: &mut W,
-) -> Result<bool, ServiceFault>
+) -> Result<bool, ProgramFault>
     // Whether it fails or not, it has sent nothing but that request.
     ensures same { S.is_observable → SendsOnly question.now (S.sent socket.old) (S.sent socket.new) }
     // It learned the fate exactly if the exchange got a reply.
     ensures told { S.is_observable
         → IfOk result (λ is_told. Comes S.sent S.failures
         (next_of S.incoming) question.now ports.now is_told socket.old socket.new) }
-    ensures only { IfErr result (λ f. (f ≡ ServiceFault.NoMemory) ⊎ (f ≡ ServiceFault.Write)) }
+    ensures only { IfErr result (λ f. (f ≡ ProgramFault.NoMemory) ⊎ (f ≡ ProgramFault.Write)) }
 {
     let reply = exchange(alloc, socket, question, ports)?;
     match (write_reply(reply, out), out.flush()) {
         (Ok(is_told), Ok(())) => Ok(is_told),
-        _ => Err(ServiceFault::Write),
+        _ => Err(ProgramFault::Write),
     }
 }
 

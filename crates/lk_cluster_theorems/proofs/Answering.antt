@@ -80,13 +80,13 @@ pub was_given : (genesis : Genesis) (sent : List Datagram) (trace : List Note) �
     → (q : Question) (d : SocketAddr × List ℕ) (answer : Answer)
     → q.cluster ≡ genesis.cluster → BringsAnswer q d answer → MayReach genesis sent q d
     → HasAnswer trace q.request answer
-was_given genesis sent trace told q d answer cluster tells may =
+was_given genesis sent trace told q d answer cluster answered may =
     let a : Answered = record { client = q.request.client; number = q.request.number; answer = answer } in
     let bytes : List ℕ = replied (key_list q.destination.seals.keys) q.destination.seals.cluster q.request.client d.1 in
-    let spelled : Spells (answer_of genesis.cluster tells.0 a) bytes =
-    subst (λ (k : ℕ). Spells (answer_of k tells.0 a) bytes) cluster tells.1 in
-    let s : HasSent genesis sent tells.0 (message.Answer a) = may tells.0 (message.Answer a) spelled in (
-      tells.0,
-      filter_from is_told trace (noted_as tells.0 a)
-          (noted sent (filter is_told trace) told s.datagram s.listed genesis.cluster tells.0 a s.spelled),
+    let spelled : Spells (answer_of genesis.cluster answered.0 a) bytes =
+    subst (λ (k : ℕ). Spells (answer_of k answered.0 a) bytes) cluster answered.1 in
+    let s : HasSent genesis sent answered.0 (message.Answer a) = may answered.0 (message.Answer a) spelled in (
+      answered.0,
+      filter_from is_told trace (noted_as answered.0 a)
+          (noted sent (filter is_told trace) told s.datagram s.listed genesis.cluster answered.0 a s.spelled),
     )

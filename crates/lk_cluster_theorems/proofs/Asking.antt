@@ -195,9 +195,9 @@ runs_follow : (client : ℕ) (before : List Note) (runs : List Run) → FollowsR
     → AreRuns client before runs → FollowsRule (notes_of before runs) client
 runs_follow client before [] rule are = rule
 runs_follow client before (run ∷ runs) rule are =
-    let own_letters : FollowsRule before run.question.request.client = subst (FollowsRule before) (sym are.0) rule in
+    let loopback : FollowsRule before run.question.request.client = subst (FollowsRule before) (sym are.0) rule in
     let further : FollowsRule (before ++ run.later) run.question.request.client =
-    follows_rule run.question before run.later run.sends.more run.sends.same own_letters are.1 are.2 in
+    follows_rule run.question before run.later run.sends.more run.sends.same loopback are.1 are.2 in
     runs_follow client (before ++ run.later) runs (subst (FollowsRule (before ++ run.later)) are.0 further) are.3
 
 pub all_follow : (client : ℕ) (runs : List Run) → AreRuns client [] runs → FollowsRule (notes_of [] runs) client

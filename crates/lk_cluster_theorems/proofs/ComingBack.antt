@@ -26,17 +26,17 @@ excused disks left n genesis number by why = elim by [
   | inr (inr last) ↦ inr (inr (last, why.last last))
 ]
 
-pub comes_back : (May : Network) (Metered tells : Type 0) → Unforged May → (Honest : Type 0) → Honest
-    → (genesis : Genesis) (cluster : Cluster) → IsReachable May Metered tells genesis cluster
+pub comes_back : (May : Network) (Metered observable : Type 0) → Unforged May → (Honest : Type 0) → Honest
+    → (genesis : Genesis) (cluster : Cluster) → IsReachable May Metered observable genesis cluster
     → (index n : ℕ) (device : Memory) → HasNode cluster index n (Down device)
     → (disks : Side → Disk) → ((s : Side) → disk_of device s ≡ disks s) → (number : ℕ) (left : Side → Disk)
     → IsRestartRefused table_meaning IsTableText Honest disks (header_of cluster.genesis n) number left
     → IsExcused disks number
-comes_back May Metered tells unforged Honest honest genesis cluster all index n device at disks
+comes_back May Metered observable unforged Honest honest genesis cluster all index n device at disks
     same number left refused =
     let h = happened cluster.genesis cluster.sent cluster.trace in
     let down = holds_down ServerHolds server_disks table_meaning cluster
-    (reachable_sound May Metered tells unforged genesis cluster all).holds index
+    (reachable_sound May Metered observable unforged genesis cluster all).holds index
     (node_of n (Down device)) at device refl in
     let fit : DisksFit table_meaning h n disks =
     subst (λ (d : Side → Disk). DisksFit table_meaning h n d) (λ i s. same s i) down.1 in

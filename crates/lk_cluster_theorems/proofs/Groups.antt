@@ -13,7 +13,7 @@ use Rattle.lk_log.specs.StoreValue.{disks}
 use Rattle.lk_log.proofs.Room.{never_longer}
 use Rattle.lk_messages.specs.declared.message.NodeMessage.TheVariants as kinds
 use Rattle.lk_agreement_laws.specs.Snapshots.{IsSlice}
-use Rattle.lk_agreement_laws.proofs.Histories.{beginning_slice, still_sent}
+use Rattle.lk_agreement_laws.proofs.Histories.{prefix_slice, still_sent}
 use Rattle.lk_node_interface.specs.Letters.{LetterValue, batch_of, datagram_of}
 use Rattle.lk_node_interface.specs.declared.input.Input.{Input}
 use Rattle.lk_node_interface.specs.declared.input.Input.TheVariants.{Tick, Datagram as Heard}
@@ -27,7 +27,7 @@ use Rattle.lk_replica.specs.Posts.{AreOf}
 use Rattle.lk_recovery.specs.Remembering.{ReplicaRemembers}
 use Rattle.lk_replica.specs.ReplicaValue.{ReplicaValue, device_of}
 use Rattle.lk_recovery.specs.Rooms.{max_after}
-use Rattle.lk_served_replica.specs.Sayings.{SaysByGroup, IsSilenced, SaysOf}
+use Rattle.lk_server_replica.specs.Sayings.{SaysByGroup, IsSilenced, SaysOf}
 use Rattle.lk_server.specs.Servers.{ServerValue}
 use Rattle.lk_sim.specs.Events.{ReplacesSeat}
 use Rattle.lk_sim.specs.Networks.{MayCome, AreAsking, MayHear, RecordsReplies, GoesBy, GoesOn}
@@ -84,7 +84,7 @@ hears_later genesis sent trace more (Some bytes) hears =
 silent_here : (n : ℕ) (o : Option (List ℕ)) (here : List Note) (j : TracesStep n o ([], []) here)
     → here ≡ asked_note j.request
 silent_here n o here j =
-    j.joins ∙ ap (λ (l : List Note). (asked_note j.request ++ []) ++ l) j.tells_of
+    j.trace_is ∙ ap (λ (l : List Note). (asked_note j.request ++ []) ++ l) j.tells_of
     ∙ append-nil (asked_note j.request ++ []) ∙ append-nil (asked_note j.request)
 
 -- what is given may be heard, once all that it asks is noted
@@ -113,7 +113,7 @@ lawful genesis seats sent trace w = record {
   parts = λ n p s.
       let b = w.messages n (kinds.Part p) s in
       subst (λ (total : ℕ). IsSlice genesis sent (text table_meaning genesis) p.position total p.offset p.bytes) b.total
-      (beginning_slice genesis sent
+      (prefix_slice genesis sent
       (text table_meaning genesis) w.list p.position p.offset p.bytes w.chosen b.reaches b.slice);
 }
 
@@ -253,7 +253,7 @@ module _ (genesis : Genesis) (n : ℕ) (seats : List Node) (index : ℕ) (node :
         goes = λ h f hears. goes.0 h f (input_fits h i hears) step.1 (λ l c. c);
         short = λ before. never_longer (disks r.store) (disks mid.store) goes.1 before;
       } in
-      subst (λ (l : List Note). IsUpWith mid (sent ++ batch_of n step.1) (trace ++ l)) (sym j.joins)
+      subst (λ (l : List Note). IsUpWith mid (sent ++ batch_of n step.1) (trace ++ l)) (sym j.trace_is)
       (goes_by r mid (heard_by i) j.request step.0 j.told (batch_of n step.1) j.asks j.tells_of by sent trace may w)
 
   -- the end of a group

@@ -20,7 +20,7 @@ use Rattle.lk_transport.specs.Addresses.{AddressBook}
 use Rattle.lk_transport.specs.Posts.{SendState, Becomes}
 use Rattle.lk_pacing.specs.Paces.{ticks_after, MayFollow}
 use Rattle.lk_server.specs.ProbeHandling.{HandlesProbes}
-use Rattle.lk_served_replica.specs.Showing.{IsShown}
+use Rattle.lk_server_replica.specs.Showing.{IsShown}
 use Rattle.lk_probe.specs.declared.reported.Reported.{Reported}
 use Rattle.lk_transport.specs.declared.received_probe.ReceivedProbe.{ReceivedProbe}
 use Rattle.lk_server.specs.Servers.{ServerValue, DeliversLetters, Given, IsIdle, one_more, inputs, all_inputs}
@@ -29,7 +29,7 @@ use Rattle.lk_server.specs.Servers.{IsPrefix, send_state_at}
 use Rattle.lk_pacing.specs.declared.pace.Pace.{Pace}
 use Rattle.lk_pacing.specs.declared.pace.Pace.TheVariants.{Datagrams, Clock}
 use Rattle.lk_sim.specs.Events.{ReplacesSeat, Adds}
-use Rattle.lk_sim.specs.Networks.{MayCome, Steps, Appears, Rests, Stops, nothing}
+use Rattle.lk_sim.specs.Networks.{MayCome, Steps, Appears, IsStillDown, Stops, nothing}
 use Rattle.lk_sim_nodes.specs.Rooms.{AreShort}
 use Rattle.lk_sim_nodes.specs.Seats.{At, UpFits}
 use Rattle.lk_sim.specs.Traces.{happened}
@@ -38,7 +38,7 @@ use Rattle.lk_sim_nodes.specs.declared.seat.Life.TheVariants.{Up, Down}
 use Rattle.lk_sim.proofs.Networks.{step_holds, at_set, at_set_here, at_push, nothing_holds, set_twice, went_down}
 use Rattle.lk_cluster_theorems.specs.Clusters.{Node, Cluster, Network, ForgesNothing, ServerHolds, server_disks, Says}
 use Rattle.lk_cluster_theorems.specs.Clusters.{Starts}
-use Rattle.lk_cluster_theorems.specs.Clusters.{TakesTurn, Idles, EndsByTurn, Happens, HappenAll, IsReachable}
+use Rattle.lk_cluster_theorems.specs.Clusters.{DoesTurn, Idles, EndsByTurn, Happens, HappenAll, IsReachable}
 use Rattle.lk_cluster_theorems.proofs.Groups.{AllMay, group_leaves}
 use Rattle.lk_cluster_theorems.proofs.Mapped.{device_disks}
 
@@ -52,46 +52,48 @@ in_map f (y ∷ xs) x c = elim (cons_cases y xs x c) [
 ]
 
 -- letters that were taken, and the others, stood there
-in_front : (k : ℕ) (own_letters : List LetterValue) (l : LetterValue) → Contains (take k own_letters) l
-    → Contains own_letters l
-in_front zero own_letters l c = absurd (omega (arith, c.1))
+in_front : (k : ℕ) (loopback : List LetterValue) (l : LetterValue) → Contains (take k loopback) l
+    → Contains loopback l
+in_front zero loopback l c = absurd (omega (arith, c.1))
 in_front (suc k) [] l c = c
-in_front (suc k) (x ∷ own_letters) l c = elim (cons_cases x (take k own_letters) l c) [
+in_front (suc k) (x ∷ loopback) l c = elim (cons_cases x (take k loopback) l c) [
   | inl here ↦ (0, omega arith, here)
-  | inr later ↦ contains_more x own_letters l (in_front k own_letters l later)
+  | inr later ↦ contains_more x loopback l (in_front k loopback l later)
 ]
 
-in_rest : (k : ℕ) (own_letters : List LetterValue) (l : LetterValue) → Contains (drop k own_letters) l
-    → Contains own_letters l
-in_rest zero own_letters l c = c
+in_rest : (k : ℕ) (loopback : List LetterValue) (l : LetterValue) → Contains (drop k loopback) l
+    → Contains loopback l
+in_rest zero loopback l c = c
 in_rest (suc k) [] l c = c
-in_rest (suc k) (x ∷ own_letters) l c = contains_more x own_letters l (in_rest k own_letters l c)
+in_rest (suc k) (x ∷ loopback) l c = contains_more x loopback l (in_rest k loopback l c)
 
-kept_one : (tells : Type 0) (node : ℕ) (book : AddressBook) (old new : SendState) (x : LetterValue) (is_sent : Bool)
-    → Becomes tells node book old x is_sent new → (l : LetterValue) → Contains new.own_letters l
-    → Contains old.own_letters l ⊎ (x ≡ l)
-kept_one tells node book old new x true (inl keeps) l c =
-    Contains-push_cases old.own_letters x l (subst (λ (ls : List LetterValue). Contains ls l) keeps.own_letters c)
-kept_one tells node book old new x true (inr sends) l c =
-    inl (subst (λ (ls : List LetterValue). Contains ls l) sends.own_letters c)
-kept_one tells node book old new x false loses l c = inl (subst (λ
-    (ls : List LetterValue). Contains ls l) loses.own_letters c)
+kept_one : (observable : Type 0) (node : ℕ) (book : AddressBook) (old new : SendState) (x : LetterValue)
+    (is_sent : Bool)
+    → Becomes observable node book old x is_sent new → (l : LetterValue) → Contains new.loopback l
+    → Contains old.loopback l ⊎ (x ≡ l)
+kept_one observable node book old new x true (inl keeps) l c =
+    Contains-push_cases old.loopback x l (subst (λ (ls : List LetterValue). Contains ls l) keeps.loopback c)
+kept_one observable node book old new x true (inr sends) l c =
+    inl (subst (λ (ls : List LetterValue). Contains ls l) sends.loopback c)
+kept_one observable node book old new x false loses l c = inl (subst (λ
+    (ls : List LetterValue). Contains ls l) loses.loopback c)
 
 -- what is kept stood there or was given
-kept_of : (tells : Type 0) (node : ℕ) (book : AddressBook) (old new : SendState) (letters : List LetterValue)
-    → CarriesAll (Becomes tells node book) old letters new → (l : LetterValue) → Contains new.own_letters l
-    → Contains old.own_letters l ⊎ Contains letters l
-kept_of tells node book old new [] all l c = inl (subst (λ (t : SendState). Contains t.own_letters l) all c)
-kept_of tells node book old new (x ∷ letters) all l c = elim (kept_of tells node book all.1 new letters all.3 l c) [
-  | inl before ↦ elim (kept_one tells node book old all.1 x all.0 all.2 l before)
-      [ inl old_one ↦ inl old_one | inr here ↦ inr (0, omega arith, here) ]
-  | inr later ↦ inr (contains_more x letters l later)
-]
+kept_of : (observable : Type 0) (node : ℕ) (book : AddressBook) (old new : SendState) (letters : List LetterValue)
+    → CarriesAll (Becomes observable node book) old letters new → (l : LetterValue) → Contains new.loopback l
+    → Contains old.loopback l ⊎ Contains letters l
+kept_of observable node book old new [] all l c = inl (subst (λ (t : SendState). Contains t.loopback l) all c)
+kept_of observable node book old new (x ∷ letters) all l c = elim
+    (kept_of observable node book all.1 new letters all.3 l c) [
+      | inl before ↦ elim (kept_one observable node book old all.1 x all.0 all.2 l before)
+          [ inl old_one ↦ inl old_one | inr here ↦ inr (0, omega arith, here) ]
+      | inr later ↦ inr (contains_more x letters l later)
+    ]
 
 -- a server that goes on, all of whose letters to itself were given to be sent
 pub record IsKept (sent : List Datagram) (n : ℕ) (q : ServerValue ReplicaValue) : Type 0 where
   pub alive : q.replica.failed ≡ false
-  pub own_letters : (l : LetterValue) → Contains q.own_letters l → Contains sent (datagram_of n l)
+  pub loopback : (l : LetterValue) → Contains q.loopback l → Contains sent (datagram_of n l)
 
 abbrev pub OwnOf : List Node → List Datagram → Type 0
 OwnOf seats sent =
@@ -101,8 +103,8 @@ own_later : (sent now : List Datagram) (n : ℕ) (q : ServerValue ReplicaValue)
     → ((d : Datagram) → Contains sent d → Contains now d) → IsKept sent n q → IsKept now n q
 own_later sent now n q among k = record {
   alive = k.alive;
-  own_letters = λ l c. among (datagram_of n l)
-      (k.own_letters l c);
+  loopback = λ l c. among (datagram_of n l)
+      (k.loopback l c);
 }
 
 pub same_up : (p q : ServerValue ReplicaValue) → Up p ≡ Up q → p ≡ q
@@ -118,19 +120,20 @@ own_set seats index next sent now old among mine k s at q up = elim (at_set seat
 ]
 
 -- a server that has taken a turn
-after_turn : (tells : Type 0) (Says : ReplicaValue → List (Option (List ℕ)) → List LetterValue → ReplicaValue → Type 0)
+after_turn : (observable : Type 0) (Says : ReplicaValue → List (Option (List ℕ)) → List LetterValue → ReplicaValue
+    → Type 0)
     (given : List (Option (List ℕ))) (count : ℕ) (sent : List Datagram) (n : ℕ)
     (server after : ServerValue ReplicaValue)
-    → IsKept sent n server → (h : DeliversLetters Says tells given (drop count server.own_letters) server after)
+    → IsKept sent n server → (h : DeliversLetters Says observable given (drop count server.loopback) server after)
     → after.replica.failed ≡ false → IsKept (sent ++ batch_of n h.letters) n after
-after_turn tells Says given count sent n server after kept h alive = record {
+after_turn observable Says given count sent n server after kept h alive = record {
   alive = alive;
-  own_letters = λ l c. elim (kept_of tells after.node after.addresses (send_state_at
-      (drop count server.own_letters) server)
-      (send_state_at after.own_letters after) h.letters h.carried l c) [
+  loopback = λ l c. elim (kept_of observable after.node after.addresses (send_state_at
+      (drop count server.loopback) server)
+      (send_state_at after.loopback after) h.letters h.carried l c) [
         | inl old ↦
             Contains-append_left sent (batch_of n h.letters) (datagram_of n l)
-            (kept.own_letters l (in_rest count server.own_letters l old))
+            (kept.loopback l (in_rest count server.loopback l old))
         | inr new ↦
             Contains-append_right sent (batch_of n h.letters) (datagram_of n l) (in_map (datagram_of n) h.letters l new)
       ];
@@ -181,29 +184,29 @@ module _ (genesis : Genesis) (sent : List Datagram) where
   came_may [] may = tt
   came_may (c ∷ came) may = (may.0, came_may came may.1)
 
-  datagrams_may : (own_letters : List LetterValue) (came : List (SocketAddr × List ℕ))
-      → ((l : LetterValue) → Contains own_letters l → MayCome genesis sent (Some l.bytes))
+  datagrams_may : (loopback : List LetterValue) (came : List (SocketAddr × List ℕ))
+      → ((l : LetterValue) → Contains loopback l → MayCome genesis sent (Some l.bytes))
       → AllByRecursion (λ (c : SocketAddr × List ℕ). MayCome genesis sent (Some c.1)) came
-      → AreFree (datagrams_in own_letters came)
+      → AreFree (datagrams_in loopback came)
   datagrams_may [] came mine may = came_may came may
-  datagrams_may (l ∷ own_letters) came mine may = (
+  datagrams_may (l ∷ loopback) came mine may = (
     mine l (0, omega arith, refl),
-    datagrams_may own_letters came (λ x c. mine x
-        (contains_more l own_letters x c)) may,
+    datagrams_may loopback came (λ x c. mine x
+        (contains_more l loopback x c)) may,
   )
 
   front_may : (given rest : List (Option (List ℕ))) → AllMay genesis sent (given ++ rest) → AllMay genesis sent given
   front_may [] rest may = tt
   front_may (o ∷ given) rest may = (may.0, front_may given rest may.1)
 
-  pub given_may : (pace : Pace) (count received : ℕ) (own_letters : List LetterValue)
+  pub given_may : (pace : Pace) (count received : ℕ) (loopback : List LetterValue)
       (came : List (SocketAddr × List ℕ)) (given : List (Option (List ℕ)))
-      → Given pace received (datagrams_in (take count own_letters) came) given
-      → ((l : LetterValue) → Contains own_letters l → MayCome genesis sent (Some l.bytes))
+      → Given pace received (datagrams_in (take count loopback) came) given
+      → ((l : LetterValue) → Contains loopback l → MayCome genesis sent (Some l.bytes))
       → AllByRecursion (λ (c : SocketAddr × List ℕ). MayCome genesis sent (Some c.1)) came → AllMay genesis sent given
-  given_may pace count received own_letters came given is mine may =
-      turn_may pace received (datagrams_in (take count own_letters) came) given is
-      (datagrams_may (take count own_letters) came (λ l c. mine l (in_front count own_letters l c)) may)
+  given_may pace count received loopback came given is mine may =
+      turn_may pace received (datagrams_in (take count loopback) came) given is
+      (datagrams_may (take count loopback) came (λ l c. mine l (in_front count loopback l c)) may)
 
   pub ended_may : (given whole : List (Option (List ℕ))) → IsPrefix given whole → AllMay genesis sent whole
       → AllMay genesis sent given
@@ -214,13 +217,13 @@ module _ (genesis : Genesis) (sent : List Datagram) where
 
 pub record IsSound (c : Cluster) : Type 0 where
   pub holds : WorldInvariant ServerHolds server_disks table_meaning c.genesis c.seats c.sent c.trace
-  pub own_letters : OwnOf c.seats c.sent
+  pub loopback : OwnOf c.seats c.sent
 
 -- nothing has happened yet
 pub begun : (genesis : Genesis) → IsSound (nothing genesis)
 begun genesis = record {
   holds = nothing_holds ServerHolds server_disks table_meaning genesis;
-  own_letters = λ k s at q up. absurd (omega (arith, at.0));
+  loopback = λ k s at q up. absurd (omega (arith, at.0));
 }
 
 -- what the network brings is not forged, where that holds
@@ -231,9 +234,9 @@ Unforged May = (c : Cluster) → IsSound c → (server : ServerValue ReplicaValu
 module _ (old : Cluster) (w : IsSound old) where
   -- a letter of the node to itself may come
   pub own_may : (n : ℕ) (server : ServerValue ReplicaValue) → IsKept old.sent n server → (l : LetterValue)
-      → Contains server.own_letters l → MayCome old.genesis old.sent (Some l.bytes)
+      → Contains server.loopback l → MayCome old.genesis old.sent (Some l.bytes)
   own_may n server k l c =
-      λ j x said. heard_was_sent old.genesis old.sent w.holds.world.sound (datagram_of n l) (k.own_letters l c) j x said
+      λ j x said. heard_was_sent old.genesis old.sent w.holds.world.sound (datagram_of n l) (k.loopback l c) j x said
 
   -- a server with another one's replica, in its place
   pub with_replica : (index : ℕ) (node : Node) → At old.seats index node
@@ -266,10 +269,10 @@ at_rest server after = record after {
 }
 
 -- by an idle turn and beside the protocol nothing else changes
-at_rest_by : {tells : Type 0} (server after : ServerValue ReplicaValue)
-    → ((frames : List (SocketAddr × List ℕ)) × IsIdle tells frames server after)
+at_rest_by : {observable : Type 0} (server after : ServerValue ReplicaValue)
+    → ((frames : List (SocketAddr × List ℕ)) × IsIdle observable frames server after)
     ⊎ ((asked : Option ReceivedProbe) × (reported : Option Reported)
-    × HandlesProbes IsShown tells asked reported server after) → at_rest server after ≡ server
+    × HandlesProbes IsShown observable asked reported server after) → at_rest server after ≡ server
 at_rest_by server after (inl i) =
     ap (λ (s : ServerValue ReplicaValue). record s {
       addresses = server.addresses;
@@ -278,7 +281,7 @@ at_rest_by server after (inl i) =
     }) i.1.same
 at_rest_by server after (inr a) = ap (λ (s : ServerValue ReplicaValue). at_rest server s) a.2.same
 
-module _ (May : Network) (Metered tells : Type 0) (unforged : Unforged May) where
+module _ (May : Network) (Metered observable : Type 0) (unforged : Unforged May) where
   module _ (old new : Cluster) (w : IsSound old) where
     by_step : Steps ServerHolds server_disks table_meaning old new
         → WorldInvariant ServerHolds server_disks table_meaning new.genesis new.seats new.sent new.trace
@@ -293,7 +296,7 @@ module _ (May : Network) (Metered tells : Type 0) (unforged : Unforged May) wher
         → OwnOf new.seats new.sent
     own_moved s t turns more e mine =
         subst (λ (l : List Node). OwnOf l new.sent) (sym turns.seats)
-        (own_set old.seats turns.index t old.sent new.sent w.own_letters (among_more more e) mine)
+        (own_set old.seats turns.index t old.sent new.sent w.loopback (among_more more e) mine)
 
     no_up : (t : Node) (d : Memory) → t.life ≡ Down d → (q : ServerValue ReplicaValue) → t.life ≡ Up q
         → IsKept new.sent t.number q
@@ -302,10 +305,10 @@ module _ (May : Network) (Metered tells : Type 0) (unforged : Unforged May) wher
     appears : Appears old new → IsSound new
     appears a = record {
       holds = by_step (inl a);
-      own_letters = subst (λ (l : List Node). OwnOf l new.sent) (sym a.seats)
+      loopback = subst (λ (l : List Node). OwnOf l new.sent) (sym a.seats)
           (λ k s at q up. elim (at_push old.seats a.seat k s at) [
             | inl before ↦ own_later old.sent new.sent s.number q (among_more [] a.adds.sent)
-                (w.own_letters k s before q up)
+                (w.loopback k s before q up)
             | inr here ↦ absurd (let same : Up q ≡ Down a.device = sym up
                 ∙ ap (λ (z : Node). z.life) (sym here.1) ∙ a.down in cc same)
           ]);
@@ -316,29 +319,29 @@ module _ (May : Network) (Metered tells : Type 0) (unforged : Unforged May) wher
         let r = a.restarts in
         record {
           holds = by_step (inr (inl r));
-          own_letters = own_moved r.seat r.next r.replaces [] r.adds.sent (λ q up.
+          loopback = own_moved r.seat r.next r.replaces [] r.adds.sent (λ q up.
               subst (λ (z : ServerValue ReplicaValue). IsKept new.sent r.next.number z)
               (same_up r.replica q (sym r.up ∙ up))
               (record {
                 alive = a.alive;
-                own_letters = λ l c. absurd (omega (
+                loopback = λ l c. absurd (omega (
                   arith,
                   (subst (λ
-                      (ls : List LetterValue). Contains ls l) a.own_letters c).1,
+                      (ls : List LetterValue). Contains ls l) a.loopback c).1,
                 ));
               }));
         }
 
-    rests : Rests table_meaning old new → IsSound new
+    rests : IsStillDown table_meaning old new → IsSound new
     rests a = record {
       holds = by_step (inr (inr (inl a)));
-      own_letters = own_moved a.seat a.next a.replaces [] a.adds.sent (no_up a.next a.left a.still);
+      loopback = own_moved a.seat a.next a.replaces [] a.adds.sent (no_up a.next a.left a.still);
     }
 
     stops : Stops server_disks old new → IsSound new
     stops a = record {
       holds = by_step (inr (inr (inr (inr (inr a)))));
-      own_letters = own_moved a.seat a.next a.replaces [] a.adds.sent (no_up a.next a.left a.down);
+      loopback = own_moved a.seat a.next a.replaces [] a.adds.sent (no_up a.next a.left a.down);
     }
 
     moved : (seats : List Node) (notes : List Note) (batch : List Datagram) → new.seats ≡ seats
@@ -356,49 +359,49 @@ module _ (May : Network) (Metered tells : Type 0) (unforged : Unforged May) wher
     -- what a server takes in a turn of what waits and comes
     pub turn_takes : (n count : ℕ) (server : ServerValue ReplicaValue) (came : List (SocketAddr × List ℕ))
         (given : List (Option (List ℕ)))
-        → Given server.pace server.received (datagrams_in (take count server.own_letters) came) given
+        → Given server.pace server.received (datagrams_in (take count server.loopback) came) given
         → IsKept old.sent n server → May old.genesis old.sent server came → AllMay old.genesis old.sent given
     turn_takes n count server came given is kept may =
-        given_may old.genesis old.sent server.pace count server.received server.own_letters came given is
+        given_may old.genesis old.sent server.pace count server.received server.loopback came given is
         (own_may old w n server kept) (unforged old w server came may)
 
-    takes_turn : TakesTurn May Metered tells old new → IsSound new
+    takes_turn : DoesTurn May Metered observable old new → IsSound new
     takes_turn a =
         let n : ℕ = a.node.number in
-        let kept = w.own_letters a.replaces.index a.node a.replaces.at a.server a.was in
+        let kept = w.loopback a.replaces.index a.node a.replaces.at a.server a.was in
         let letters : List LetterValue = a.turn.hands_on.letters in
         let left = group_leaves old.genesis n old.seats a.replaces.index a.node a.replaces.at a.after Metered
         a.turn.given
         a.server.replica letters a.after.replica a.turn.hands_on.says a.trace old.sent old.trace
         (turn_takes n 64 a.server a.came a.turn.given a.turn.may kept a.may)
-        (with_replica old w a.replaces.index a.node a.replaces.at a.server a.after a.was) a.joins in
+        (with_replica old w a.replaces.index a.node a.replaces.at a.server a.after a.was) a.traces in
         record {
           holds = moved (set old.seats a.replaces.index a.next) a.trace (batch_of n letters) a.replaces.seats a.adds
               (subst (λ (z : Node). WorldInvariant ServerHolds server_disks table_meaning old.genesis
               (set old.seats a.replaces.index z) (old.sent ++ batch_of n letters) (old.trace ++ a.trace))
               (λ i. record { number = sym a.replaces.number i; life = sym a.up i }) (left.up a.alive));
-          own_letters = own_moved a.node a.next a.replaces (batch_of n letters) a.adds.sent (λ q up.
+          loopback = own_moved a.node a.next a.replaces (batch_of n letters) a.adds.sent (λ q up.
               subst (λ (z : ServerValue ReplicaValue). IsKept new.sent a.next.number z)
               (same_up a.after q (sym a.up ∙ up))
               (subst₂ (λ (l : List Datagram) (k : ℕ). IsKept l k a.after) (sym a.adds.sent) (sym a.replaces.number)
-              (after_turn tells (Says Metered) a.turn.given 64 old.sent n a.server a.after kept
+              (after_turn observable (Says Metered) a.turn.given 64 old.sent n a.server a.after kept
               a.turn.hands_on a.alive)));
         }
 
     -- an idle turn, or what is done beside the protocol
-    idles : Idles tells old new → IsSound new
+    idles : Idles observable old new → IsSound new
     idles a =
         let replica : a.after.replica ≡ a.server.replica =
         ap (λ (s : ServerValue ReplicaValue). s.replica) (at_rest_by a.server a.after a.idle) in
-        let waits : a.after.own_letters ≡ a.server.own_letters =
-        ap (λ (s : ServerValue ReplicaValue). s.own_letters) (at_rest_by a.server a.after a.idle) in
+        let waits : a.after.loopback ≡ a.server.loopback =
+        ap (λ (s : ServerValue ReplicaValue). s.loopback) (at_rest_by a.server a.after a.idle) in
         let mine : record a.after { replica = a.server.replica } ≡ a.after =
         λ i. record a.after { replica = sym replica i } in
-        let kept = w.own_letters a.replaces.index a.node a.replaces.at a.server a.was in
+        let kept = w.loopback a.replaces.index a.node a.replaces.at a.server a.was in
         let still : IsKept (old.sent ++ []) a.node.number a.after = record {
           alive = ap (λ (r : ReplicaValue). r.failed) replica ∙ kept.alive;
-          own_letters = λ l c. Contains-append_left old.sent [] (datagram_of a.node.number l)
-              (kept.own_letters l (subst (λ (ls : List LetterValue). Contains ls l) waits c));
+          loopback = λ l c. Contains-append_left old.sent [] (datagram_of a.node.number l)
+              (kept.loopback l (subst (λ (ls : List LetterValue). Contains ls l) waits c));
         } in
         record {
           holds = moved (set old.seats a.replaces.index a.next) [] [] a.replaces.seats a.adds
@@ -409,7 +412,7 @@ module _ (May : Network) (Metered tells : Type 0) (unforged : Unforged May) wher
               (set old.seats a.replaces.index z) old.sent old.trace)
               (λ i. record { number = sym a.replaces.number i; life = (ap Up mine ∙ sym a.up) i })
               (with_replica old w a.replaces.index a.node a.replaces.at a.server a.after a.was)));
-          own_letters = own_moved a.node a.next a.replaces [] a.adds.sent (λ q up.
+          loopback = own_moved a.node a.next a.replaces [] a.adds.sent (λ q up.
               subst (λ (z : ServerValue ReplicaValue). IsKept new.sent a.next.number z)
               (same_up a.after q (sym a.up ∙ up))
               (subst₂ (λ (l : List Datagram) (k : ℕ). IsKept l k a.after) (sym a.adds.sent)
@@ -421,10 +424,10 @@ module _ (May : Network) (Metered tells : Type 0) (unforged : Unforged May) wher
         → ((s : Side) → disk_of left s ≡ server_disks after s) → disk_of (device_of after.replica.store) ≡ disk_of left
     other_device after left same = λ i side. (sym (device_disks after.replica.store side) ∙ sym (same side)) i
 
-    ends_by_turn : EndsByTurn May Metered tells old new → IsSound new
+    ends_by_turn : EndsByTurn May Metered observable old new → IsSound new
     ends_by_turn a =
         let n : ℕ = a.node.number in
-        let kept = w.own_letters a.replaces.index a.node a.replaces.at a.server a.was in
+        let kept = w.loopback a.replaces.index a.node a.replaces.at a.server a.was in
         let batch : List Datagram = batch_of n a.turn.hands_on.letters in
         let may = ended_may old.genesis old.sent a.turn.given a.turn.first.whole a.turn.first.front
         (turn_takes n a.turn.count a.server a.came a.turn.first.whole a.turn.first.may kept a.may) in
@@ -434,7 +437,7 @@ module _ (May : Network) (Metered tells : Type 0) (unforged : Unforged May) wher
         let left = group_leaves old.genesis n old.seats a.replaces.index a.node a.replaces.at a.after Metered
         a.turn.given
         a.server.replica a.turn.hands_on.letters a.after.replica a.turn.hands_on.says a.trace old.sent old.trace may
-        (with_replica old w a.replaces.index a.node a.replaces.at a.server a.after a.was) a.joins in
+        (with_replica old w a.replaces.index a.node a.replaces.at a.server a.after a.was) a.traces in
         let first : Cluster = record {
           genesis = old.genesis;
           seats = set old.seats a.replaces.index seat;
@@ -450,7 +453,7 @@ module _ (May : Network) (Metered tells : Type 0) (unforged : Unforged May) wher
           ended = None;
         } in
         let path = other_device a.after a.left a.same in
-        let rests : Rests table_meaning first last = record {
+        let rests : IsStillDown table_meaning first last = record {
           seat = seat;
           next = next;
           replaces = record {
@@ -480,10 +483,10 @@ module _ (May : Network) (Metered tells : Type 0) (unforged : Unforged May) wher
               (subst (λ (z : Node). WorldInvariant ServerHolds server_disks table_meaning old.genesis
               (set old.seats a.replaces.index z) (old.sent ++ batch) (old.trace ++ a.trace))
               (λ i. record { number = sym a.replaces.number i; life = sym a.down i }) then_holds);
-          own_letters = own_moved a.node a.next a.replaces batch a.adds.sent (no_up a.next a.left a.down);
+          loopback = own_moved a.node a.next a.replaces batch a.adds.sent (no_up a.next a.left a.down);
         }
 
-    pub happens : Happens May Metered tells old new → IsSound new
+    pub happens : Happens May Metered observable old new → IsSound new
     happens (inl a) = appears a
     happens (inr (inl a)) = starts a
     happens (inr (inr (inl a))) = rests a
@@ -493,12 +496,12 @@ module _ (May : Network) (Metered tells : Type 0) (unforged : Unforged May) wher
     happens (inr (inr (inr (inr (inr (inr a)))))) = stops a
 
   all_happen : (first last : Cluster) (clusters : List Cluster) → IsSound first
-      → HappenAll May Metered tells first clusters last → IsSound last
+      → HappenAll May Metered observable first clusters last → IsSound last
   all_happen first last [] w all = subst IsSound (sym all) w
   all_happen first last (next ∷ clusters) w all = all_happen next last clusters (happens first next w all.0) all.1
 
   -- whatever has happened since it began
-  pub reachable_sound : (genesis : Genesis) (c : Cluster) → IsReachable May Metered tells genesis c → IsSound c
+  pub reachable_sound : (genesis : Genesis) (c : Cluster) → IsReachable May Metered observable genesis c → IsSound c
   reachable_sound genesis c all = all_happen (nothing genesis) c all.0 (begun genesis) all.1
 
 -- what is not forged is not

@@ -5,15 +5,15 @@ use Rattle.std.specs.declared.net.socket_addr.SocketAddr.{SocketAddr}
 use Rattle.lk_node_interface.specs.Letters.{LetterValue}
 use Rattle.lk_transport.specs.Addresses.{Filter, filter_of}
 use Rattle.lk_transport.specs.Posts.{all_filtered}
-use Rattle.lk_server.specs.Servers.{ServerValue, DeliversLetters, HasReceived, Turn, LastTurn, TakesTurn}
+use Rattle.lk_server.specs.Servers.{ServerValue, DeliversLetters, HasReceived, Turn, LastTurn, TurnOrIdle}
 
 module _ {R : Type 0} (S T : R → List (Option (List ℕ)) → List LetterValue → R → Type 0)
     (so : (old : R) (given : List (Option (List ℕ))) (letters : List LetterValue) (new : R) → S old given letters new
     → T old given letters new) where
-  abbrev pub hands_so : (tells : Type 0) (given : List (Option (List ℕ))) (own_letters : List LetterValue)
-      (old new : ServerValue R) → DeliversLetters S tells given own_letters old new
-      → DeliversLetters T tells given own_letters old new
-  hands_so tells given own_letters old new h =
+  abbrev pub hands_so : (observable : Type 0) (given : List (Option (List ℕ))) (loopback : List LetterValue)
+      (old new : ServerValue R) → DeliversLetters S observable given loopback old new
+      → DeliversLetters T observable given loopback old new
+  hands_so observable given loopback old new h =
       record {
         letters = h.letters;
         says = so old.replica given h.letters new.replica h.says;
@@ -21,13 +21,13 @@ module _ {R : Type 0} (S T : R → List (Option (List ℕ)) → List LetterValue
         carried = h.carried;
       }
 
-  abbrev pub turn_so : (tells : Type 0) (came : List (SocketAddr × List ℕ)) (old new : ServerValue R)
-      → Turn S tells came old new → Turn T tells came old new
-  turn_so tells came old new t = record {
-    takes = t.takes;
+  abbrev pub turn_so : (observable : Type 0) (came : List (SocketAddr × List ℕ)) (old new : ServerValue R)
+      → Turn S observable came old new → Turn T observable came old new
+  turn_so observable came old new t = record {
+    letters_first = t.letters_first;
     given = t.given;
     may = t.may;
-    hands_on = hands_so tells t.given _ old new t.hands_on;
+    hands_on = hands_so observable t.given _ old new t.hands_on;
     counted = t.counted;
     ticks = t.ticks;
     heard = t.heard;
@@ -35,20 +35,21 @@ module _ {R : Type 0} (S T : R → List (Option (List ℕ)) → List LetterValue
     alive = t.alive;
   }
 
-  pub taken_so : (tells : Type 0) (frames : List (SocketAddr × List ℕ)) (old new : ServerValue R)
-      → TakesTurn S tells frames old new → TakesTurn T tells frames old new
-  taken_so tells frames old new (inl t) = inl (turn_so tells (all_filtered (filter_of old.addresses) frames) old new t)
-  taken_so tells frames old new (inr idle) = inr idle
+  pub taken_so : (observable : Type 0) (frames : List (SocketAddr × List ℕ)) (old new : ServerValue R)
+      → TurnOrIdle S observable frames old new → TurnOrIdle T observable frames old new
+  taken_so observable frames old new (inl t) = inl (turn_so observable (all_filtered
+      (filter_of old.addresses) frames) old new t)
+  taken_so observable frames old new (inr idle) = inr idle
 
-  abbrev pub last_so : (tells : Type 0) (came : List (SocketAddr × List ℕ)) (old new : ServerValue R)
-      → LastTurn S tells came old new → LastTurn T tells came old new
-  last_so tells came old new t = record {
-    takes = t.takes;
+  abbrev pub last_so : (observable : Type 0) (came : List (SocketAddr × List ℕ)) (old new : ServerValue R)
+      → LastTurn S observable came old new → LastTurn T observable came old new
+  last_so observable came old new t = record {
+    letters_first = t.letters_first;
     count = t.count;
     letters = t.letters;
     given = t.given;
     first = t.first;
-    hands_on = hands_so tells t.given _ old new t.hands_on;
+    hands_on = hands_so observable t.given _ old new t.hands_on;
     silent = t.silent;
     ticks = t.ticks;
     heard = t.heard;
@@ -56,19 +57,19 @@ module _ {R : Type 0} (S T : R → List (Option (List ℕ)) → List LetterValue
     ended = t.ended;
   }
 
-  pub on_ok_so : {A E : Type 0} (Keeps : List (SocketAddr × List ℕ) → Type 0) (r : Result A E) (tells : Type 0)
+  pub on_ok_so : {A E : Type 0} (Keeps : List (SocketAddr × List ℕ) → Type 0) (r : Result A E) (observable : Type 0)
       (old new : ServerValue R)
-      → OnOk r ((frames : List (SocketAddr × List ℕ)) × HasReceived tells frames old new
-      × TakesTurn S tells frames old new × Keeps frames)
-      → OnOk r ((frames : List (SocketAddr × List ℕ)) × HasReceived tells frames old new
-      × TakesTurn T tells frames old new × Keeps frames)
-  on_ok_so Keeps (Ok x) tells old new t = (t.0, t.1, taken_so tells t.0 old new t.2, t.3)
-  on_ok_so Keeps (Err e) tells old new t = tt
+      → OnOk r ((frames : List (SocketAddr × List ℕ)) × HasReceived observable frames old new
+      × TurnOrIdle S observable frames old new × Keeps frames)
+      → OnOk r ((frames : List (SocketAddr × List ℕ)) × HasReceived observable frames old new
+      × TurnOrIdle T observable frames old new × Keeps frames)
+  on_ok_so Keeps (Ok x) observable old new t = (t.0, t.1, taken_so observable t.0 old new t.2, t.3)
+  on_ok_so Keeps (Err e) observable old new t = tt
 
-  pub on_err_so : {A E : Type 0} (r : Result A E) (tells : Type 0) (filter : Filter) (old new : ServerValue R)
-      → OnErr r ((frames : List (SocketAddr × List ℕ)) × HasReceived tells frames old new
-      × LastTurn S tells (all_filtered filter frames) old new)
-      → OnErr r ((frames : List (SocketAddr × List ℕ)) × HasReceived tells frames old new
-      × LastTurn T tells (all_filtered filter frames) old new)
-  on_err_so (Ok x) tells filter old new t = tt
-  on_err_so (Err e) tells filter old new t = (t.0, t.1, last_so tells (all_filtered filter t.0) old new t.2)
+  pub on_err_so : {A E : Type 0} (r : Result A E) (observable : Type 0) (filter : Filter) (old new : ServerValue R)
+      → OnErr r ((frames : List (SocketAddr × List ℕ)) × HasReceived observable frames old new
+      × LastTurn S observable (all_filtered filter frames) old new)
+      → OnErr r ((frames : List (SocketAddr × List ℕ)) × HasReceived observable frames old new
+      × LastTurn T observable (all_filtered filter frames) old new)
+  on_err_so (Ok x) observable filter old new t = tt
+  on_err_so (Err e) observable filter old new t = (t.0, t.1, last_so observable (all_filtered filter t.0) old new t.2)

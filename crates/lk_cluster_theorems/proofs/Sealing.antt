@@ -19,9 +19,9 @@ use Rattle.lk_transport.specs.Posts.{all_filtered, is_filtered_out}
 use Rattle.lk_server.specs.Premises.{IsFromANode}
 use Rattle.lk_server.specs.Servers.{ServerValue}
 use Rattle.lk_transport.specs.Chains.{Chain}
-use Rattle.lk_node_process.specs.Turns.{TakesTurn as ServerTurn, letters_in}
+use Rattle.lk_node_process.specs.Turns.{DoesTurn as ServerTurn, letters_in}
 use Rattle.lk_sim.specs.Networks.{MayCome, nothing}
-use Rattle.lk_cluster_theorems.specs.Clusters.{Cluster, Network, ForgesNothing, TakesTurn, EndsByTurn, Happens}
+use Rattle.lk_cluster_theorems.specs.Clusters.{Cluster, Network, ForgesNothing, DoesTurn, EndsByTurn, Happens}
 use Rattle.lk_cluster_theorems.specs.Clusters.{HappenAll}
 use Rattle.lk_cluster_theorems.specs.Clusters.{IsReachable}
 use Rattle.lk_cluster_theorems.specs.Continuing.{MayAllCome}
@@ -73,10 +73,10 @@ frames_sealed s key genesis sent server same frames came opened only = record {
 }
 
 module _ (S : ReplicaValue → List (Option (List ℕ)) → List LetterValue → ReplicaValue → Type 0)
-    (tells : Type 0) (s : Seals) where
+    (observable : Type 0) (s : Seals) where
   -- the seals stay the same
   pub still_sealed : (first : ServerValue ReplicaValue) (states : List (ServerValue ReplicaValue))
-      (last : ServerValue ReplicaValue) → Chain (ServerTurn S tells) first states last → first.addresses.seals ≡ s
+      (last : ServerValue ReplicaValue) → Chain (ServerTurn S observable) first states last → first.addresses.seals ≡ s
       → last.addresses.seals ≡ s
   still_sealed first [] last turns same = ap (λ (q : ServerValue ReplicaValue). q.addresses.seals) turns ∙ same
   still_sealed first (next ∷ states) last turns same = still_sealed next states last turns.1 (turns.0.network.1 ∙ same)
@@ -85,21 +85,21 @@ module _ (S : ReplicaValue → List (Option (List ℕ)) → List LetterValue →
     -- in all of them
     pub all_sealed : (sent : List Datagram) (first : ServerValue ReplicaValue)
         (states : List (ServerValue ReplicaValue)) (last : ServerValue ReplicaValue)
-        (turns : Chain (ServerTurn S tells) first states last) → first.addresses.seals ≡ s
-        → OnlyNodesSealAll S tells s n sent first states last turns
-        → MayAllCome S tells IsSealed genesis n sent first states last turns
+        (turns : Chain (ServerTurn S observable) first states last) → first.addresses.seals ≡ s
+        → OnlyNodesSealAll S observable s n sent first states last turns
+        → MayAllCome S observable IsSealed genesis n sent first states last turns
     all_sealed sent first [] last turns same only = tt
     all_sealed sent first (next ∷ states) last turns same only = (
       frames_sealed s key genesis sent first same turns.0.frames turns.0.came turns.0.opened only.0,
-      all_sealed (sent ++ batch_of n (letters_in S tells turns.0.turn)) next states last turns.1
+      all_sealed (sent ++ batch_of n (letters_in S observable turns.0.turn)) next states last turns.1
           (turns.0.network.1 ∙ same) only.1,
     )
 
 -- ---- what comes about where nothing is forged
 
-module _ (May : Network) (Metered tells : Type 0) (unforged : Unforged May) where
-  takes_turn : (old new : Cluster) → IsSound old → TakesTurn May Metered tells old new
-      → TakesTurn ForgesNothing Metered tells old new
+module _ (May : Network) (Metered observable : Type 0) (unforged : Unforged May) where
+  takes_turn : (old new : Cluster) → IsSound old → DoesTurn May Metered observable old new
+      → DoesTurn ForgesNothing Metered observable old new
   takes_turn old new w a = record {
     node = a.node;
     next = a.next;
@@ -113,12 +113,12 @@ module _ (May : Network) (Metered tells : Type 0) (unforged : Unforged May) wher
     turn = a.turn;
     alive = a.alive;
     trace = a.trace;
-    joins = a.joins;
+    traces = a.traces;
     adds = a.adds;
   }
 
-  ends_by_turn : (old new : Cluster) → IsSound old → EndsByTurn May Metered tells old new
-      → EndsByTurn ForgesNothing Metered tells old new
+  ends_by_turn : (old new : Cluster) → IsSound old → EndsByTurn May Metered observable old new
+      → EndsByTurn ForgesNothing Metered observable old new
   ends_by_turn old new w a = record {
     node = a.node;
     next = a.next;
@@ -134,12 +134,12 @@ module _ (May : Network) (Metered tells : Type 0) (unforged : Unforged May) wher
     turn = a.turn;
     ended = a.ended;
     trace = a.trace;
-    joins = a.joins;
+    traces = a.traces;
     adds = a.adds;
   }
 
-  so_happens : (old new : Cluster) → IsSound old → Happens May Metered tells old new
-      → Happens ForgesNothing Metered tells old new
+  so_happens : (old new : Cluster) → IsSound old → Happens May Metered observable old new
+      → Happens ForgesNothing Metered observable old new
   so_happens old new w (inl a) = inl a
   so_happens old new w (inr (inl a)) = inr (inl a)
   so_happens old new w (inr (inr (inl a))) = inr (inr (inl a))
@@ -150,13 +150,14 @@ module _ (May : Network) (Metered tells : Type 0) (unforged : Unforged May) wher
   so_happens old new w (inr (inr (inr (inr (inr (inr a)))))) = inr (inr (inr (inr (inr (inr a)))))
 
   so_happen : (first last : Cluster) (clusters : List Cluster) → IsSound first
-      → HappenAll May Metered tells first clusters last → HappenAll ForgesNothing Metered tells first clusters last
+      → HappenAll May Metered observable first clusters last
+      → HappenAll ForgesNothing Metered observable first clusters last
   so_happen first last [] w all = all
   so_happen first last (next ∷ clusters) w all = (
     so_happens first next w all.0,
-    so_happen next last clusters (happens May Metered tells unforged first next w all.0) all.1,
+    so_happen next last clusters (happens May Metered observable unforged first next w all.0) all.1,
   )
 
-  pub so_reachable : (genesis : Genesis) (c : Cluster) → IsReachable May Metered tells genesis c
-      → IsReachable ForgesNothing Metered tells genesis c
+  pub so_reachable : (genesis : Genesis) (c : Cluster) → IsReachable May Metered observable genesis c
+      → IsReachable ForgesNothing Metered observable genesis c
   so_reachable genesis c all = (all.0, so_happen (nothing genesis) c all.0 (begun genesis) all.1)

@@ -11,7 +11,7 @@ use Rattle.lk_node.specs.Calls.{heard_by}
 use Rattle.lk_node.specs.Histories.{Genesis, Datagram}
 use Rattle.lk_replica.specs.Groups.{StepSaid, GoesThrough}
 use Rattle.lk_replica.specs.ReplicaValue.{ReplicaValue}
-use Rattle.lk_served_replica.specs.Sayings.{SaysByGroup, IsSilenced, SaysOf}
+use Rattle.lk_server_replica.specs.Sayings.{SaysByGroup, IsSilenced, SaysOf}
 use Rattle.lk_server.specs.Servers.{ServerValue}
 use Rattle.lk_sim.specs.Networks.{MayCome, RecordsReplies}
 use Rattle.lk_sim_nodes.specs.Seats.{At}
@@ -39,7 +39,7 @@ module _ (genesis : Genesis) (n : ℕ) where
       let asks = asks_something o in
       let rest = trace_refused given in
       let j : TracesStep n o ([], []) ((asked_note asks.0 ++ []) ++ []) =
-      record { request = asks.0; asks = asks.1; told = []; tells_of = refl; joins = refl } in
+      record { request = asks.0; asks = asks.1; told = []; tells_of = refl; trace_is = refl } in
       (((asked_note asks.0 ++ []) ++ []) ++ rest.0, ((asked_note asks.0 ++ []) ++ [], rest.0, refl, j, rest.1))
 
   module _ (seats : List Node) (index : ℕ) (node : Node) (at : At seats index node) (s : ServerValue ReplicaValue) where
@@ -66,7 +66,7 @@ module _ (genesis : Genesis) (n : ℕ) where
           asks = (asks_something (heard_by i)).1;
           told = told.0;
           tells_of = told.1;
-          joins = refl;
+          trace_is = refl;
         }
 
     -- of one that goes through

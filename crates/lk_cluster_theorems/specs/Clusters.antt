@@ -1,4 +1,4 @@
--- Nodes of the lock table that run as processes: each is up as a server, or down with its disks. They take turns,
+-- Nodes of the lock table that run as processes: each is up as a server, or down with its disks. They do turns,
 -- start and stop one after another, in any order.
 use Rattle.std.proofs.Common.{inl, inr}
 use Rattle.std.specs.Prelude.{◌≡◌, ◌⊎◌, ℕ, true, false, Option, Some, None, List, [], ◌∷◌, ◌++◌}
@@ -19,14 +19,14 @@ use Rattle.lk_node.specs.Holdings.{Holding}
 use Rattle.lk_node.specs.Keeping.{ReplicaHolds}
 use Rattle.lk_replica.specs.Groups.{StepSaid}
 use Rattle.lk_replica.specs.ReplicaValue.{ReplicaValue}
-use Rattle.lk_served_replica.specs.Sayings.{SaysByGroup, IsSilenced, SaysOf}
+use Rattle.lk_server_replica.specs.Sayings.{SaysByGroup, IsSilenced, SaysOf}
 use Rattle.lk_server.specs.ProbeHandling.{HandlesProbes}
-use Rattle.lk_served_replica.specs.Showing.{IsShown}
+use Rattle.lk_server_replica.specs.Showing.{IsShown}
 use Rattle.lk_server.specs.Servers.{ServerValue, Turn, LastTurn, IsIdle}
 use Rattle.lk_probe.specs.declared.reported.Reported.{Reported}
 use Rattle.lk_transport.specs.declared.received_probe.ReceivedProbe.{ReceivedProbe}
 use Rattle.lk_sim.specs.Events.{ReplacesSeat, Adds}
-use Rattle.lk_sim.specs.Networks.{MayCome, AreAsking, RecordsReplies, RestartsBy, Appears, Restarts, Rests, Stops}
+use Rattle.lk_sim.specs.Networks.{MayCome, AreAsking, RecordsReplies, RestartsBy, Appears, Restarts, IsStillDown, Stops}
 use Rattle.lk_sim.specs.Networks.{nothing}
 use Rattle.lk_sim.specs.Scenes.{Scene}
 use Rattle.lk_sim.specs.Traces.{asked_note}
@@ -65,7 +65,7 @@ server_disks s = disks s.replica.store
 pub record HasStarted (genesis : Genesis) (n : ℕ) (old : Side → Disk) (s : ServerValue ReplicaValue) : Type 0 where
   pub notes : List Note
   pub restarts : RestartsBy ServerHolds server_disks table_meaning genesis n old s notes
-  pub own_letters : s.own_letters ≡ []
+  pub loopback : s.loopback ≡ []
   pub alive : s.replica.failed ≡ false
 
 -- ---- what a network may bring
@@ -106,7 +106,7 @@ pub record TracesStep (n : ℕ) (o : Option (List ℕ)) (step : StepSaid) (trace
   pub asks : AreAsking o request
   pub told : List Note
   pub tells_of : RecordsReplies (batch_of n step.1) told
-  pub joins : trace ≡ (asked_note request ++ step.0) ++ told
+  pub trace_is : trace ≡ (asked_note request ++ step.0) ++ told
 
 -- and what a group adds, one step after another
 abbrev pub TracesGroup : ℕ → List (Option (List ℕ)) → List StepSaid → List Note → Type 0
@@ -120,14 +120,14 @@ TracesGroup n (o ∷ given) said trace =
 -- a node that was down is up as a server with what its disks have, and no letter to itself is waiting
 pub record Starts (old new : Cluster) : Type 0 where
   pub restarts : Restarts ServerHolds server_disks table_meaning old new
-  pub own_letters : restarts.replica.own_letters ≡ []
+  pub loopback : restarts.replica.loopback ≡ []
   pub alive : restarts.replica.replica.failed ≡ false
 
--- a node that is up takes an idle turn, or handles probes: its replica is given nothing, and nothing is given
--- to be sent as a datagram of the node. Only what it knows of the nodes at other addresses, what is to come to its
--- socket, what that has sent, and how many of its sends have failed may be another. `tells` says that the sockets tell
+-- a node that is up takes an idle turn, or handles probes: its replica is given nothing, and nothing is given to be
+-- sent as a datagram of the node. Only what it knows of the nodes at other addresses, what is to come to its socket,
+-- what that has sent, and how many of its sends have failed may be another. `observable` says that the sockets tell
 -- that
-pub record Idles (tells : Type 0) (old new : Cluster) : Type 0 where
+pub record Idles (observable : Type 0) (old new : Cluster) : Type 0 where
   pub node : Node
   pub next : Node
   pub replaces : ReplacesSeat old.seats new.seats node next
@@ -135,18 +135,18 @@ pub record Idles (tells : Type 0) (old new : Cluster) : Type 0 where
   pub was : node.life ≡ Up server
   pub after : ServerValue ReplicaValue
   pub up : next.life ≡ Up after
-  pub idle : ((frames : List (SocketAddr × List ℕ)) × IsIdle tells frames server after)
+  pub idle : ((frames : List (SocketAddr × List ℕ)) × IsIdle observable frames server after)
       ⊎ ((asked : Option ReceivedProbe) × (reported : Option Reported)
-      × HandlesProbes IsShown tells asked reported server after)
+      × HandlesProbes IsShown observable asked reported server after)
   pub adds : Adds old new [] []
 
--- `May` says what the network may bring, `Metered` that the devices count their calls, and `tells` that the sockets
--- reveal what they send
-module _ (May : Network) (Metered tells : Type 0) where
-  -- a node that is up takes a turn, in which datagrams may arrive or nothing: its replica takes the input as one
+-- `May` says what the network may bring, `Metered` that the devices count their calls, and `observable` that the
+-- sockets reveal what they send
+module _ (May : Network) (Metered observable : Type 0) where
+  -- a node that is up does a turn, in which datagrams may arrive or nothing: its replica takes the input as one
   -- group, and its letters join what has been sent. `came` is what it takes from what arrives, out of its frame if the
   -- nodes have a key
-  pub record TakesTurn (old new : Cluster) : Type 0 where
+  pub record DoesTurn (old new : Cluster) : Type 0 where
     pub node : Node
     pub next : Node
     pub replaces : ReplacesSeat old.seats new.seats node next
@@ -156,10 +156,10 @@ module _ (May : Network) (Metered tells : Type 0) where
     pub up : next.life ≡ Up after
     pub came : List (SocketAddr × List ℕ)
     pub may : May old.genesis old.sent server came
-    pub turn : Turn (Says Metered) tells came server after
+    pub turn : Turn (Says Metered) observable came server after
     pub alive : after.replica.failed ≡ false
     pub trace : List Note
-    pub joins : TracesGroup node.number turn.given (steps_of Metered turn.hands_on.says.comes) trace
+    pub traces : TracesGroup node.number turn.given (steps_of Metered turn.hands_on.says.comes) trace
     pub adds : Adds old new trace (batch_of node.number turn.hands_on.letters)
 
   -- a turn ends a node, and it is down with the disks that its replica has left
@@ -175,17 +175,18 @@ module _ (May : Network) (Metered tells : Type 0) where
     pub same : (s : Side) → disk_of left s ≡ server_disks after s
     pub came : List (SocketAddr × List ℕ)
     pub may : May old.genesis old.sent server came
-    pub turn : LastTurn (Says Metered) tells came server after
+    pub turn : LastTurn (Says Metered) observable came server after
     pub ended : after.replica.failed ≡ true
     pub trace : List Note
-    pub joins : TracesGroup node.number turn.given (steps_of Metered turn.hands_on.says.comes) trace
+    pub traces : TracesGroup node.number turn.given (steps_of Metered turn.hands_on.says.comes) trace
     pub adds : Adds old new trace (batch_of node.number turn.hands_on.letters)
 
-  -- a node appears, with empty disks; it starts, or does not; it takes a turn, or an idle one, or handles
+  -- a node appears, with empty disks; it starts, or does not; it does a turn, or an idle one, or handles
   -- probes, or ends by a turn; or it stops, up or down, and its disks have what a stop may leave
   abbrev pub Happens : Cluster → Cluster → Type 0
   Happens old new =
-      Appears old new ⊎ Starts old new ⊎ Rests table_meaning old new ⊎ TakesTurn old new ⊎ Idles tells old new
+      Appears old new ⊎ Starts old new ⊎ IsStillDown table_meaning old new ⊎ DoesTurn old new
+      ⊎ Idles observable old new
       ⊎ EndsByTurn old new ⊎ Stops server_disks old new
 
   -- these events happen one after another, and lead to this cluster

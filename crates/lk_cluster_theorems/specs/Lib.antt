@@ -4,4 +4,4 @@ pub mod Continuing
 pub mod Running
 pub mod Forgetting
 pub mod Asking
-pub mod Services
+pub mod NodeRuns

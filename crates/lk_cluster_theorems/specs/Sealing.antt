@@ -12,7 +12,7 @@ use Rattle.lk_transport.specs.Addresses.{filter_of}
 use Rattle.lk_transport.specs.Posts.{all_filtered}
 use Rattle.lk_server.specs.Servers.{ServerValue}
 use Rattle.lk_transport.specs.Chains.{Chain}
-use Rattle.lk_node_process.specs.Turns.{TakesTurn as ServerTurn, letters_in}
+use Rattle.lk_node_process.specs.Turns.{DoesTurn as ServerTurn, letters_in}
 
 -- a node of the cluster has sent a datagram of these bytes
 abbrev pub WasGiven : List Datagram → List ℕ → Type 0
@@ -40,14 +40,14 @@ pub record IsSealed (genesis : Genesis) (sent : List Datagram) (server : ServerV
   pub has_key : key_list server.addresses.seals.nodes ≢ []
   pub only_nodes_seal : OnlyNodesSealWhatComes sent server.addresses.seals frames
 
--- `Says` relates a replica's input to its letters, and `tells` says that the sockets reveal what they send
-module _ (Says : ReplicaValue → List (Option (List ℕ)) → List LetterValue → ReplicaValue → Type 0) (tells : Type 0)
+-- `Says` relates a replica's input to its letters, and `observable` says that the sockets reveal what they send
+module _ (Says : ReplicaValue → List (Option (List ℕ)) → List LetterValue → ReplicaValue → Type 0) (observable : Type 0)
     (s : Seals) (n : ℕ) where
   -- the same of all frames that arrived in these turns, given the letters of the earlier turns
   abbrev pub OnlyNodesSealAll : List Datagram
       → (first : ServerValue ReplicaValue) (states : List (ServerValue ReplicaValue)) (last : ServerValue ReplicaValue)
-      → Chain (ServerTurn Says tells) first states last → Type 0
+      → Chain (ServerTurn Says observable) first states last → Type 0
   OnlyNodesSealAll sent first [] last turns = Unit {0}
   OnlyNodesSealAll sent first (next ∷ states) last turns =
       OnlyNodesSealWhatComes sent s turns.0.frames
-      × OnlyNodesSealAll (sent ++ batch_of n (letters_in Says tells turns.0.turn)) next states last turns.1
+      × OnlyNodesSealAll (sent ++ batch_of n (letters_in Says observable turns.0.turn)) next states last turns.1

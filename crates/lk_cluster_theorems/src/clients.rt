@@ -1,4 +1,5 @@
-//! Laws about the clients of a cluster: one that asks only by runs of `locks ask` is served exactly once.
+//! Laws about the clients of a cluster: each request of one that asks only by runs of `locks ask` takes effect
+//! exactly once.
 ghost use Rattle.std.specs.Prelude.{◌≡◌, ℕ, List, [], ◌++◌};
 ghost use Rattle.std.specs.declared.net.socket_addr.SocketAddr.{SocketAddr};
 ghost use Rattle.lk_types.specs.declared.answer.Answer.{Answer};
@@ -23,7 +24,7 @@ pub fn a_run_follows_the_rule()
 {}
 
 /// A client that asks by runs of `locks ask` alone, each after all earlier requests were answered, follows the rule. So
-/// a cluster serves it exactly once.
+/// each of its requests takes effect exactly once.
 pub fn runs_follow_the_rule()
     ensures { (client : ℕ) (runs : List Run) → AreRuns client [] runs → FollowsRule (notes_of [] runs) client }
 {}

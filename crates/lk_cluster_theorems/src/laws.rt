@@ -18,10 +18,10 @@ ghost use Rattle.lk_replica.specs.ReplicaValue.{ReplicaValue};
 ghost use Rattle.lk_transport.specs.Addresses.{filter_of};
 ghost use Rattle.lk_transport.specs.Posts.{all_filtered};
 ghost use Rattle.lk_server.specs.Servers.{ServerValue, Turn, LastTurn, IsIdle};
-ghost use Rattle.lk_transport.specs.declared.fault.ServiceFault.{ServiceFault};
+ghost use Rattle.lk_transport.specs.declared.fault.ProgramFault.{ProgramFault};
 ghost use Rattle.lk_transport.specs.Chains.{Repeats};
 ghost use Rattle.lk_node_process.specs.Revivals.{IsRestartRefused, IsRefusedWith};
-ghost use Rattle.lk_node_process.specs.Turns.{TakesTurn};
+ghost use Rattle.lk_node_process.specs.Turns.{DoesTurn};
 ghost use Rattle.lk_sim.specs.Networks.{MayCome};
 ghost use Rattle.lk_sim_nodes.specs.declared.seat.Life.TheVariants.{Up, Down};
 ghost use Rattle.lk_guarantees.specs.ComingBack.{IsExcused};
@@ -35,11 +35,11 @@ ghost use Rattle.lk_cluster_theorems.specs.Clusters.{server_disks};
 ghost use Rattle.lk_cluster_theorems.specs.Continuing.{Continues, MayAllCome, letters_of};
 ghost use Rattle.lk_cluster_theorems.specs.Forgetting.{HasEmptyDisks, MustBeRemembered};
 ghost use Rattle.lk_cluster_theorems.specs.Sealing.{IsSealed, OnlyNodesSeal, OnlyNodesSealWhatComes};
-ghost use Rattle.lk_cluster_theorems.specs.Services.{ForEachDown, ForEachUp, Service, BrokenService};
-ghost use Rattle.lk_cluster_theorems.specs.Services.{letters_in_service};
-ghost use Rattle.lk_cluster_theorems.specs.Services.{letters_to_end, sent_before_end, MayComeInService};
-ghost use Rattle.lk_cluster_theorems.specs.Services.{MayComeBeforeEnd};
-ghost use Rattle.lk_cluster_theorems.specs.Services.{OnlyNodesSealInService, OnlyNodesSealBeforeEnd};
+ghost use Rattle.lk_cluster_theorems.specs.NodeRuns.{ForEachDown, ForEachUp, NodeRun, BrokenNodeRun};
+ghost use Rattle.lk_cluster_theorems.specs.NodeRuns.{letters_in_run};
+ghost use Rattle.lk_cluster_theorems.specs.NodeRuns.{letters_to_end, sent_before_end, MayComeInRun};
+ghost use Rattle.lk_cluster_theorems.specs.NodeRuns.{MayComeBeforeEnd};
+ghost use Rattle.lk_cluster_theorems.specs.NodeRuns.{OnlyNodesSealInRun, OnlyNodesSealBeforeEnd};
 
 use lk_disk::LogDisk;
 use lk_guarantees::laws::{
@@ -47,8 +47,8 @@ use lk_guarantees::laws::{
 };
 use lk_locks::LockTable;
 use lk_replica::Replica;
-use lk_served_replica::ServedReplica;
 use lk_server::laws::is_told_by_a_node;
+use lk_server_replica::ServerReplica;
 use lk_transport::socket::DatagramSocket;
 
 /// Whatever the servers of a cluster do, one after another in any order, and whatever arrives over a network that
@@ -70,7 +70,7 @@ pub fn a_cluster_is_linearizable<D: LogDisk, S: DatagramSocket>()
 }
 
 /// Each operation of a client that follows the rule takes effect exactly once in such a cluster, in the client's order.
-pub fn a_cluster_serves_exactly_once<D: LogDisk, S: DatagramSocket>()
+pub fn a_cluster_executes_exactly_once<D: LogDisk, S: DatagramSocket>()
     ensures { (genesis : GenesisValue) (cluster : Cluster)
         → IsReachable ForgesNothing D.is_metered S.is_observable genesis cluster
         → AreExactlyOnce cluster.genesis cluster.sent cluster.trace }
@@ -132,7 +132,7 @@ pub fn a_start_continues_a_cluster<D: LogDisk, S: DatagramSocket>()
 /// contract of the program ensures such a rejection.
 pub fn a_refused_start_continues_a_cluster<D: LogDisk, S: DatagramSocket>()
     ensures { D.is_honest → ForEachDown ForgesNothing D.is_metered S.is_observable
-        (λ genesis cluster index n disks. (told : ServiceFault)
+        (λ genesis cluster index n disks. (told : ProgramFault)
         (refused : IsRefusedWith table_meaning IsTableText D.is_honest disks (header_of cluster.genesis n) told)
         → (left : Memory) → ((s : Side) → disk_of left s ≡ refused.left s)
         → Continues ForgesNothing D.is_metered S.is_observable genesis cluster index n (Down left) []) }
@@ -150,7 +150,7 @@ pub fn a_turn_continues_a_cluster<D: LogDisk, S: DatagramSocket>()
 {}
 
 /// A turn of a server that has the key of the nodes continues its cluster whatever frames came in it.
-/// `turning::serve_turn` ensures such a turn, or an idle one.
+/// `turning::run_turn` ensures such a turn, or an idle one.
 pub fn a_sealed_turn_continues_a_cluster<D: LogDisk, S: DatagramSocket>()
     ensures { ForEachUp IsSealed D.is_metered S.is_observable
         (λ genesis cluster index n server. (after : ServerValue ReplicaValue)
@@ -188,67 +188,66 @@ pub fn a_last_turn_continues_a_cluster<D: LogDisk, S: DatagramSocket>()
 pub fn turns_continue_a_cluster<D: LogDisk + Drop, S: DatagramSocket>()
     ensures { D.is_honest → ForEachUp ForgesNothing D.is_metered S.is_observable
         (λ genesis cluster index n server. (count : ℕ) (last : ServerValue ReplicaValue)
-        (turns : Repeats (TakesTurn ⟦<Replica<LockTable, D> as ServedReplica>⟧.Says S.is_observable) count server last)
-        → MayAllCome ⟦<Replica<LockTable, D> as ServedReplica>⟧.Says S.is_observable ForgesNothing cluster.genesis n
+        (turns : Repeats (DoesTurn ⟦<Replica<LockTable, D> as ServerReplica>⟧.Says S.is_observable) count server last)
+        → MayAllCome ⟦<Replica<LockTable, D> as ServerReplica>⟧.Says S.is_observable ForgesNothing cluster.genesis n
         cluster.sent server turns.states last turns.chain
         → Continues ForgesNothing D.is_metered S.is_observable genesis cluster index n (Up last)
-        (letters_of ⟦<Replica<LockTable, D> as ServedReplica>⟧.Says S.is_observable server turns.states last
+        (letters_of ⟦<Replica<LockTable, D> as ServerReplica>⟧.Says S.is_observable server turns.states last
         turns.chain)) }
 {}
 
-/// A node that serves continues its cluster, from its start to its last turn. The contract of the program ensures such
-/// a service.
-pub fn a_service_continues_a_cluster<D: LogDisk + Drop, S: DatagramSocket>()
+/// A node's run continues its cluster, from its start to its last turn. The program's contract ensures such a run.
+pub fn a_node_run_continues_a_cluster<D: LogDisk + Drop, S: DatagramSocket>()
     ensures { D.is_honest → ForEachDown ForgesNothing D.is_metered S.is_observable
         (λ genesis cluster index n disks. (count : ℕ) (seals : Seals)
-        (served : Service ⟦<Replica<LockTable, D> as ServedReplica>⟧.Says S.is_observable D.is_honest cluster n disks
+        (node_run : NodeRun ⟦<Replica<LockTable, D> as ServerReplica>⟧.Says S.is_observable D.is_honest cluster n disks
         seals count)
-        → MayComeInService ForgesNothing cluster n served
-        → Continues ForgesNothing D.is_metered S.is_observable genesis cluster index n (Up served.ended)
-        (letters_in_service served)) }
+        → MayComeInRun ForgesNothing cluster n node_run
+        → Continues ForgesNothing D.is_metered S.is_observable genesis cluster index n (Up node_run.ended)
+        (letters_in_run node_run)) }
 {}
 
-/// A node whose service breaks off continues its cluster: its last turn ends it, and it is down with the disks that
+/// A node's run that breaks off continues its cluster: the last turn ends the node, which is down with the disks that
 /// its replica has left.
-pub fn a_service_that_breaks_off_continues_a_cluster<D: LogDisk + Drop, S: DatagramSocket>()
+pub fn a_node_run_that_breaks_off_continues_a_cluster<D: LogDisk + Drop, S: DatagramSocket>()
     ensures { D.is_honest → ForEachDown ForgesNothing D.is_metered S.is_observable
         (λ genesis cluster index n disks. (most : ℕ) (seals : Seals)
-        (served : BrokenService ⟦<Replica<LockTable, D> as ServedReplica>⟧.Says S.is_observable D.is_honest cluster n
+        (node_run : BrokenNodeRun ⟦<Replica<LockTable, D> as ServerReplica>⟧.Says S.is_observable D.is_honest cluster n
         disks seals most)
-        → MayComeBeforeEnd ForgesNothing cluster n served
-        → ForgesNothing cluster.genesis (sent_before_end n cluster.sent served) served.breaks.last
-        served.breaks.ends.came
-        → (left : Memory) → ((s : Side) → disk_of left s ≡ server_disks served.ended s)
+        → MayComeBeforeEnd ForgesNothing cluster n node_run
+        → ForgesNothing cluster.genesis (sent_before_end n cluster.sent node_run) node_run.breaks.last
+        node_run.breaks.ends.came
+        → (left : Memory) → ((s : Side) → disk_of left s ≡ server_disks node_run.ended s)
         → Continues ForgesNothing D.is_metered S.is_observable genesis cluster index n (Down left)
-        (letters_to_end served)) }
+        (letters_to_end node_run)) }
 {}
 
-/// A node that serves with the nodes' key continues its cluster whatever frames arrive. The contract of the program
-/// ensures such a service.
-pub fn a_sealed_service_continues_a_cluster<D: LogDisk + Drop, S: DatagramSocket>()
+/// The run of a node with the nodes' key continues its cluster whatever frames arrive. The contract of the program
+/// ensures such a run.
+pub fn a_sealed_node_run_continues_a_cluster<D: LogDisk + Drop, S: DatagramSocket>()
     ensures { D.is_honest → ForEachDown IsSealed D.is_metered S.is_observable
         (λ genesis cluster index n disks. (count : ℕ) (seals : Seals)
-        (served : Service ⟦<Replica<LockTable, D> as ServedReplica>⟧.Says S.is_observable D.is_honest cluster n disks
+        (node_run : NodeRun ⟦<Replica<LockTable, D> as ServerReplica>⟧.Says S.is_observable D.is_honest cluster n disks
         seals count)
-        → key_list seals.nodes ≢ [] → OnlyNodesSealInService cluster n served
-        → Continues IsSealed D.is_metered S.is_observable genesis cluster index n (Up served.ended)
-        (letters_in_service served)) }
+        → key_list seals.nodes ≢ [] → OnlyNodesSealInRun cluster n node_run
+        → Continues IsSealed D.is_metered S.is_observable genesis cluster index n (Up node_run.ended)
+        (letters_in_run node_run)) }
 {
     is_told_by_a_node();
 }
 
-/// A node that serves with the nodes' key, and whose last turn ends it, continues its cluster whatever frames arrive:
-/// it is down then, with the disks that its replica has left.
-pub fn a_sealed_service_that_breaks_off_continues_a_cluster<D: LogDisk + Drop, S: DatagramSocket>()
+/// The run of a node with the nodes' key whose last turn ends it continues its cluster whatever frames arrive: the node
+/// is down then, with the disks that its replica has left.
+pub fn a_sealed_node_run_that_breaks_off_continues_a_cluster<D: LogDisk + Drop, S: DatagramSocket>()
     ensures { D.is_honest → ForEachDown IsSealed D.is_metered S.is_observable
         (λ genesis cluster index n disks. (most : ℕ) (seals : Seals)
-        (served : BrokenService ⟦<Replica<LockTable, D> as ServedReplica>⟧.Says S.is_observable D.is_honest cluster n
+        (node_run : BrokenNodeRun ⟦<Replica<LockTable, D> as ServerReplica>⟧.Says S.is_observable D.is_honest cluster n
         disks seals most)
-        → key_list seals.nodes ≢ [] → OnlyNodesSealBeforeEnd cluster n served
-        → OnlyNodesSealWhatComes (sent_before_end n cluster.sent served) seals served.breaks.ends.frames
-        → (left : Memory) → ((s : Side) → disk_of left s ≡ server_disks served.ended s)
+        → key_list seals.nodes ≢ [] → OnlyNodesSealBeforeEnd cluster n node_run
+        → OnlyNodesSealWhatComes (sent_before_end n cluster.sent node_run) seals node_run.breaks.ends.frames
+        → (left : Memory) → ((s : Side) → disk_of left s ≡ server_disks node_run.ended s)
         → Continues IsSealed D.is_metered S.is_observable genesis cluster index n (Down left)
-        (letters_to_end served)) }
+        (letters_to_end node_run)) }
 {
     is_told_by_a_node();
 }

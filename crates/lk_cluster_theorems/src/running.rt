@@ -4,7 +4,7 @@ ghost use Rattle.lk_types.specs.declared.genesis.Genesis.{Genesis as GenesisValu
 ghost use Rattle.lk_node.specs.Leavings.{header_of};
 ghost use Rattle.lk_node_setup.specs.KeysOfNode.{AreSealsOf};
 ghost use Rattle.lk_cluster_theorems.specs.Clusters.{Cluster, IsReachable, ForgesNothing};
-ghost use Rattle.lk_cluster_theorems.specs.Running.{IsDownOn, ServesIn, EndsIn, EndsInByStranger, RestsIn};
+ghost use Rattle.lk_cluster_theorems.specs.Running.{IsDownOn, RunsIn, EndsIn, EndsInByStranger, RestsIn};
 
 use lk_disk::LogDisk;
 use lk_locks::LockTable;
@@ -13,7 +13,7 @@ use lk_node_files::causes::FailureCause;
 use lk_node_process::running::run_node;
 use lk_node_setup::resources::{NodePlan, Resources};
 use lk_replica::Replica;
-use lk_served_replica::ServedReplica;
+use lk_server_replica::ServerReplica;
 use lk_transport::socket::DatagramSocket;
 use log::Log;
 use std::alloc::Global;
@@ -39,23 +39,23 @@ pub fn run<
     err: &mut E,
 ) -> u8
     requires { AreSealsOf plan.now.header resources.network.seals }
-    ensures served { D.is_honest → result ≡ 0 → (genesis : GenesisValue) (cluster : Cluster)
+    ensures node_run { D.is_honest → result ≡ 0 → (genesis : GenesisValue) (cluster : Cluster)
         → IsReachable ForgesNothing D.is_metered S.is_observable genesis cluster
         → (index n : ℕ) → plan.now.header ≡ header_of cluster.genesis n
         → IsDownOn cluster index n (D.disk resources.device)
-        → ServesIn D.is_metered S.is_observable D.is_honest ⟦<Replica<LockTable, D> as ServedReplica>⟧.Says genesis
+        → RunsIn D.is_metered S.is_observable D.is_honest ⟦<Replica<LockTable, D> as ServerReplica>⟧.Says genesis
         cluster index n (D.disk resources.device) resources.network.seals (2 ^ 48) }
     ensures broken { D.is_honest → result ≡ 1 → (genesis : GenesisValue) (cluster : Cluster)
         → IsReachable ForgesNothing D.is_metered S.is_observable genesis cluster
         → (index n : ℕ) → plan.now.header ≡ header_of cluster.genesis n
         → IsDownOn cluster index n (D.disk resources.device)
-        → RestsIn D.is_metered S.is_observable D.is_honest ⟦<Replica<LockTable, D> as ServedReplica>⟧.Says genesis
+        → RestsIn D.is_metered S.is_observable D.is_honest ⟦<Replica<LockTable, D> as ServerReplica>⟧.Says genesis
         cluster
         index n (D.disk resources.device) resources.network.seals
-        ⊎ EndsIn D.is_metered S.is_observable D.is_honest ⟦<Replica<LockTable, D> as ServedReplica>⟧.Says genesis
+        ⊎ EndsIn D.is_metered S.is_observable D.is_honest ⟦<Replica<LockTable, D> as ServerReplica>⟧.Says genesis
         cluster
         index n (D.disk resources.device) resources.network.seals (2 ^ 48)
-        ⊎ EndsInByStranger D.is_metered S.is_observable D.is_honest ⟦<Replica<LockTable, D> as ServedReplica>⟧.Says
+        ⊎ EndsInByStranger D.is_metered S.is_observable D.is_honest ⟦<Replica<LockTable, D> as ServerReplica>⟧.Says
         genesis
         cluster index n (D.disk resources.device) resources.network.seals (2 ^ 48) }
     ensures status { result ≤ 1 }

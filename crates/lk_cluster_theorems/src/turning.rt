@@ -1,4 +1,4 @@
-//! Starts a server of the lock table and takes its turns, with contracts that state what the laws about clusters
+//! Starts a server of the lock table and does its turns, with contracts that state what the laws about clusters
 //! assume.
 ghost use Rattle.std.specs.Prelude.{◌≡◌, ℕ, List, IfOk, OnOk, OnErr};
 ghost use Rattle.std.specs.declared.net.socket_addr.SocketAddr.{SocketAddr as Address};
@@ -8,7 +8,7 @@ ghost use Rattle.lk_cluster_theorems.specs.Clusters.{HasStarted, Says};
 ghost use Rattle.lk_transport.specs.Addresses.{filter_of};
 ghost use Rattle.lk_transport.specs.Posts.{all_filtered};
 ghost use Rattle.lk_transport.specs.Kept.{KeepsOf};
-ghost use Rattle.lk_server.specs.Servers.{HasReceived, TakesTurn, LastTurn};
+ghost use Rattle.lk_server.specs.Servers.{HasReceived, TurnOrIdle, LastTurn};
 
 use lk_disk::LogDisk;
 use lk_locks::LockTable;
@@ -26,9 +26,9 @@ use log::Log;
 use std::alloc::Global;
 use std::time::Clock;
 
-/// Takes one turn, as `node_turn` does, of a server of the lock table on any honest device and any socket. It takes
+/// Does one turn, as `node_turn` does, of a server of the lock table on any honest device and any socket. It takes
 /// what arrives, out of its frames if the nodes have a key.
-pub fn serve_turn<D: LogDisk + Drop, S: DatagramSocket + Drop, C: Clock, L: Log>(
+pub fn run_turn<D: LogDisk + Drop, S: DatagramSocket + Drop, C: Clock, L: Log>(
     server: &mut Server<Replica<LockTable, D>, S>,
     buffer: &mut ReceiveBuffer,
     tick_timer: &mut TickTimer<C>,
@@ -36,7 +36,7 @@ pub fn serve_turn<D: LogDisk + Drop, S: DatagramSocket + Drop, C: Clock, L: Log>
 ) -> Result<(), GroupFault>
     ensures turn { D.is_honest
         → OnOk result ((frames : List (Address × List ℕ)) × HasReceived S.is_observable frames server.old server.new
-        × TakesTurn (Says D.is_metered) S.is_observable frames server.old server.new
+        × TurnOrIdle (Says D.is_metered) S.is_observable frames server.old server.new
         × KeepsOf server.old.node server.old.addresses.seals frames buffer.old buffer.new) }
     ensures ends { D.is_honest
         → OnErr result ((frames : List (Address × List ℕ)) × HasReceived S.is_observable frames server.old server.new

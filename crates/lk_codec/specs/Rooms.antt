@@ -7,8 +7,8 @@ abbrev pub UsesRoom : {T E : Type 0} → Result T E → ℕ → ℕ → ℕ → 
 UsesRoom result before after most = MatchResult result (λ _. before ≤ after + most) (λ _. before < most)
 
 -- a round and a node
-abbrev pub mark_room : ℕ
-mark_room = 8 + 4
+abbrev pub ballot_room : ℕ
+ballot_room = 8 + 4
 
 -- a node and a port
 abbrev pub member_room : ℕ
@@ -36,7 +36,7 @@ command_room = 1 + request_room
 
 -- a position, a ballot and a command
 abbrev pub vote_room : ℕ
-vote_room = 8 + mark_room + command_room
+vote_room = 8 + ballot_room + command_room
 
 -- a holder and its fence
 abbrev pub held_room : ℕ

@@ -6,10 +6,10 @@ ghost use Rattle.std.specs.Prelude.{◌≡◌, ◌≤◌, ◌+◌, ◌*◌, ◌+
 ghost use Rattle.lk_types.specs.Limits.{max_members};
 ghost use Rattle.lk_codec.specs.Fields.{one, two, four, eight, ballot, member, members, payload, op, request, command};
 ghost use Rattle.lk_codec.specs.Fields.{vote, answer, answer_fields, answer_tag};
-ghost use Rattle.lk_codec.specs.Rooms.{UsesRoom, mark_room, member_room, members_room, payload_room, op_room};
+ghost use Rattle.lk_codec.specs.Rooms.{UsesRoom, ballot_room, member_room, members_room, payload_room, op_room};
 ghost use Rattle.lk_codec.specs.Rooms.{request_room, command_room, vote_room, held_room, answer_room};
 
-use crate::room::{ANSWER, COMMAND, MARK, MEMBER, MEMBERS, VOTE};
+use crate::room::{ANSWER, BALLOT, COMMAND, MEMBER, MEMBERS, VOTE};
 use bytes::{BufMut, BytesMut};
 use lk_types::{
     Answer, Ballot, ClientNo, Command, Executed, Fence, LastFence, Member, NodeNo, Op, Payload,
@@ -114,9 +114,9 @@ pub fn put_executed(out: &mut BytesMut, executed: Executed) -> Result<(), AllocE
 pub fn put_any_ballot(out: &mut BytesMut, value: Ballot) -> Result<(), AllocError>
     ensures ok { OnOk result (out.new.items ≡ out.old.items ++ ballot value) }
     ensures err { OnErr result (out.new.items ≡ out.old.items) }
-    ensures room { UsesRoom result out.old.spare out.new.spare mark_room }
+    ensures room { UsesRoom result out.old.spare out.new.spare ballot_room }
 {
-    out.reserve(MARK)?;
+    out.reserve(BALLOT)?;
     put_u64(out, value.round())?;
     put_u32(out, value.node())
 }
@@ -125,7 +125,7 @@ pub fn put_any_ballot(out: &mut BytesMut, value: Ballot) -> Result<(), AllocErro
 pub fn put_ballot(out: &mut BytesMut, value: RealBallot) -> Result<(), AllocError>
     ensures ok { OnOk result (out.new.items ≡ out.old.items ++ ballot value) }
     ensures err { OnErr result (out.new.items ≡ out.old.items) }
-    ensures room { UsesRoom result out.old.spare out.new.spare mark_room }
+    ensures room { UsesRoom result out.old.spare out.new.spare ballot_room }
 {
     put_any_ballot(out, value.get())
 }

@@ -3,7 +3,7 @@
 use lk_types::limits::{MAX_MEMBERS, MAX_PAYLOAD};
 
 /// A round and a node.
-pub const MARK: usize = 8 + 4;
+pub const BALLOT: usize = 8 + 4;
 /// A node and a port.
 pub const MEMBER: usize = 4 + 2;
 /// How many, and the most members.
@@ -15,6 +15,6 @@ pub const REQUEST: usize = 2 + 8 + OP;
 /// The tag of a command, and the request.
 pub const COMMAND: usize = 1 + REQUEST;
 /// A position, a ballot and a command.
-pub const VOTE: usize = 8 + MARK + COMMAND;
+pub const VOTE: usize = 8 + BALLOT + COMMAND;
 /// The tag of an answer, and the longest answer: a holder and its fence.
 pub const ANSWER: usize = 1 + 2 + 8;

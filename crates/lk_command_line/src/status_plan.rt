@@ -15,13 +15,13 @@ use clap::ArgMatches;
 use lk_client::destination::Destination;
 use lk_status::target::{Inquiry, Target, targets_of};
 use lk_status_command::status::{Form, Plan};
-use lk_transport::fault::ServiceFault;
+use lk_transport::fault::ProgramFault;
 use lk_types::ClientNo;
 use lk_word_parsers::number::read_number;
 use std::alloc::Global;
 
 // How long a receive waits, in milliseconds.
-const A_RECEIVE: u64 = 100;
+const RECEIVE_MS: u64 = 100;
 
 // The greatest `--wait`, in milliseconds.
 const MOST_WAIT: u64 = 60_000;
@@ -40,7 +40,7 @@ fn receives_of(wait: u64) -> u64
     if wait == 0 {
         return 1;
     }
-    wait.div_ceil(A_RECEIVE)
+    wait.div_ceil(RECEIVE_MS)
 }
 
 // Reads a wait in milliseconds, 60000 at most, and returns it as a number of receives.
@@ -166,7 +166,7 @@ fn plan_of<'a>(matches: &ArgMatches<'a>, targets: Vec<Target>) -> Result<Plan, A
 
 // Returns the error of the first of these words that is neither `PORT` nor `NODE:PORT`. If there is none, there are too
 // many words.
-fn invalid_targets<'a>(alloc: Global, words: &[&'a str]) -> Result<ArgumentError<'a>, ServiceFault>
+fn invalid_targets<'a>(alloc: Global, words: &[&'a str]) -> Result<ArgumentError<'a>, ProgramFault>
     ensures { IfOk result (λ e. e.argument.now ≡ codes "port") }
 {
     for word in words {
@@ -189,7 +189,7 @@ fn invalid_targets<'a>(alloc: Global, words: &[&'a str]) -> Result<ArgumentError
 pub fn status_plan<'a>(
     alloc: Global,
     matches: &ArgMatches<'a>,
-) -> Result<Result<Plan, ArgumentError<'a>>, ServiceFault> {
+) -> Result<Result<Plan, ArgumentError<'a>>, ProgramFault> {
     let words = matches.get_strs("port").unwrap_or(&[]);
     match targets_of(alloc, words)? {
         Some(targets) => Ok(plan_of(matches, targets)),

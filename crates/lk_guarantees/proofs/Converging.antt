@@ -100,10 +100,11 @@ module _ (genesis : Genesis) (L : List Command) where
       let p = placed genesis L client number a x in
       let q = placed genesis L client number b y in
       let same : p.position ≡ q.position =
-      once genesis L p.position q.position p.request q.request p.takes q.takes (p.of_client ∙ sym q.of_client)
+      once genesis L p.position q.position p.request q.request p.is_effective q.is_effective (p.of_client
+      ∙ sym q.of_client)
       (p.of_number ∙ sym q.of_number) in
-      let one : Some (Request p.request) ≡ Some (Request q.request) = sym p.takes.0
-      ∙ ap (λ (n : ℕ). at L n) same ∙ q.takes.0 in
+      let one : Some (Request p.request) ≡ Some (Request q.request) = sym p.is_effective.0
+      ∙ ap (λ (n : ℕ). at L n) same ∙ q.is_effective.0 in
       let equal : p.request ≡ q.request = cc one in
       sym p.answered ∙ ap (λ (n : ℕ). (execute client p.request.op (after genesis (take (n - 1) L))).0) same
       ∙ ap (λ (r : Asking). (execute client r.op (after genesis (take (q.position - 1) L))).0) equal ∙ q.answered

@@ -61,7 +61,7 @@ raise_locks : (s : State) → in_table true s.locks ≡ table (raise s).1
 raise_locks s = raised_both s s.raised refl
 
 -- a request leaves the same roster and the same table, and is answered the same
-pub record Serves (client : ℕ) (op : Op) (s : State) : Type 0 where
+pub record Agreed (client : ℕ) (op : Op) (s : State) : Type 0 where
   pub roster : next_roster (record { members = s.members; greatest = s.greatest }) op
       ≡ record { members = (execute client op s).1.members; greatest = (execute client op s).1.greatest }
   pub locks : table_after client op (table s) ≡ table (execute client op s).1
@@ -69,29 +69,29 @@ pub record Serves (client : ℕ) (op : Op) (s : State) : Type 0 where
   pub changed : (execute client op s).1.changed
       ≡ cond (is_granted (roster_answer (roster_in s) op)) (s.position + 1) s.changed
 
-serves : (client : ℕ) (op : Op) (s : State) → Serves client op s
-serves client (Table body) s =
+agreed : (client : ℕ) (op : Op) (s : State) → Agreed client op s
+agreed client (Table body) s =
     record {
       roster = refl;
       locks = ap (in_table s.raised) (locks_agree client s.raised (body_of body) s.locks).1;
       least = refl;
       changed = refl;
     }
-serves client (Join node port) s = let j = join_agrees node port s in
+agreed client (Join node port) s = let j = join_agrees node port s in
     record {
       roster = j.roster_is;
       locks = same_table s (join node port s).1 j.raised j.locks;
       least = j.least;
       changed = j.changed;
     }
-serves client (Leave node) s = let j = leave_agrees node s in
+agreed client (Leave node) s = let j = leave_agrees node s in
     record {
       roster = j.roster_is;
       locks = same_table s (leave node s).1 j.raised j.locks;
       least = j.least;
       changed = j.changed;
     }
-serves client Raise s =
+agreed client Raise s =
     record { roster = raise_roster s; locks = raise_locks s; least = raise_least s; changed = raise_changed s }
 
 -- ---- one command
@@ -167,7 +167,7 @@ step genesis L Noop s now = record {
 step genesis L (Request q) s now = elim (cases_Bool (takes_effect s q)) [
   | inl e ↦
       let takes : list_all (is_older q) L ≡ true = now.least q ∙ e in
-      let does = serves q.client q.op s in
+      let does = agreed q.client q.op s in
       let roster_now = roster_of-push genesis L (Request q) in
       let table_now = table_of-push L (Request q) in
       let members_now : roster_of genesis (L ++ Request q ∷ []) ≡ next_roster (roster_of genesis L) q.op =

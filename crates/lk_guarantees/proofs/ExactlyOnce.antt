@@ -92,7 +92,7 @@ module _ (genesis : Genesis) (L : List Command) (sent : List Datagram) (trace : 
   -- ---- what takes effect
 
   asked : (r : Asking) (i : ℕ) → TakesEffectAt genesis L i r → r.client ≡ client → IsAskedBy trace client r
-  asked r i takes of_client = (x.asked i r takes.0, of_client)
+  asked r i is_effective of_client = (x.asked i r is_effective.0, of_client)
 
   takes_effect : (r : Asking) (node : ℕ) (answer : Answer) → IsAskedBy trace client r
       → Contains trace (note.Answered node client r.number answer)
@@ -100,9 +100,10 @@ module _ (genesis : Genesis) (L : List Command) (sent : List Datagram) (trace : 
   takes_effect r node answer asks told =
       let p = placed genesis L client r.number answer (x.answered node client r.number answer told) in
       let same : p.request ≡ r =
-      rule.one_operation p.request r (asked p.request p.position p.takes p.of_client) asks p.of_number in
+      rule.one_operation p.request r (asked p.request p.position p.is_effective p.of_client) asks p.of_number in
       subst (λ (q : Asking). (i : ℕ) × TakesEffectAt genesis L i q
-      × ((execute client q.op (after genesis (take (i - 1) L))).0 ≡ answer)) same (p.position, p.takes, p.answered)
+      × ((execute client q.op (after genesis (take (i - 1) L))).0 ≡ answer)) same
+      (p.position, p.is_effective, p.answered)
 
   in_order : (before : List Note) (q r : Asking) (i j : ℕ) → AsksAfter trace client before q r
       → TakesEffectAt genesis L i q → TakesEffectAt genesis L j r → i < j

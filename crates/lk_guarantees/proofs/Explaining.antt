@@ -96,7 +96,7 @@ effective_answer genesis before later entry client number a (Some q) all effecti
       stands = ap (λ (c : Command). before ++ (c ∷ later)) is.0;
       of_client = of_client;
       of_number = ap (λ (s : Session). s.number) same;
-      takes = sym (now.least q) ∙ is.1;
+      is_effective = sym (now.least q) ∙ is.1;
       answered = ap (λ (c : ℕ). (execute c q.op (after genesis before)).0) (sym of_client)
           ∙ sym (op_answered genesis before (after genesis before) now all q.client q.op)
           ∙ ap (λ (s : Session). s.answer) same;

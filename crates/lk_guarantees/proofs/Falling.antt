@@ -7,7 +7,7 @@ use Rattle.lk_disk.specs.Meters.{stopping}
 use Rattle.lk_node_interface.specs.declared.note.Note.{Note}
 use Rattle.lk_replica.specs.Behaviours.{Behaviour}
 use Rattle.lk_replica.specs.ReplicaValue.{ReplicaValue}
-use Rattle.lk_sim_nodes.specs.Ends.{IsToldEnd, end_by}
+use Rattle.lk_sim_nodes.specs.Ends.{IsEndByCalls, end_by}
 use Rattle.lk_sim.specs.Events.{ReplacesSeat, EndsByFault, IsGiven, IsGivenTogether, HasEffect}
 use Rattle.lk_sim.specs.Groups.{given_by}
 use Rattle.lk_sim.specs.Scenes.{Scene}
@@ -22,7 +22,7 @@ use Rattle.lk_sim.proofs.Networks.{at_set_here}
 use Rattle.lk_guarantees.specs.Events.{IsFor, IsDown, ended_node, IsEnding, LeavesDown}
 use Rattle.lk_guarantees.proofs.Refusing.{is_for}
 
-is_ending : (x : End) → IsToldEnd (Some x) → IsEnding x
+is_ending : (x : End) → IsEndByCalls (Some x) → IsEnding x
 is_ending (Fault n number) told = told
 is_ending (Stopped n) told = tt
 
@@ -32,7 +32,7 @@ node_is (Some bytes) n number = refl
 
 module _ (old new : Scene ReplicaValue) where
   -- whoever is down was told of
-  told_of : (e : Event) (n : ℕ) (x : End) → ended_node x ≡ n → new.ended ≡ Some x → IsToldEnd (Some x)
+  told_of : (e : Event) (n : ℕ) (x : End) → ended_node x ≡ n → new.ended ≡ Some x → IsEndByCalls (Some x)
       → IsFor old.sent e n → IsDown new.seats n → LeavesDown old e new
   told_of e n x node ended told for_it is_down y is =
       let same : x ≡ y = one (sym ended ∙ is) in
@@ -62,7 +62,7 @@ module _ (old new : Scene ReplicaValue) where
   fell Ends e n t asked f number for_it is_down =
       told_of e n (end_by (stopping f.left.meter) t.number f.number)
       (node_is (stopping f.left.meter) t.number f.number ∙ number) f.ended
-      (subst IsToldEnd f.ended f.told) for_it is_down
+      (subst IsEndByCalls f.ended f.told) for_it is_down
 
   module _ (b : Behaviour ReplicaValue) where
     given_down : (e : Event) (n : ℕ) (o : Option (List ℕ)) (asked : List Note) → IsFor old.sent e n

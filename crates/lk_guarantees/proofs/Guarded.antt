@@ -32,7 +32,7 @@ use Rattle.lk_agreement_laws.specs.Datagrams.{Datagram}
 use Rattle.lk_node_interface.specs.declared.note.Note.{Note}
 use Rattle.lk_guarantees.specs.Guarantee.{IsExplained}
 use Rattle.lk_guarantees.specs.Guarded.{Write, accepted, IsUnder, FencesRise, IsGuarded, AreListed}
-use Rattle.lk_guarantees.specs.Plain.{Locks, State, hold, give_again, give_first, acquire_known, acquire, and_one}
+use Rattle.lk_guarantees.specs.Plain.{Locks, State, hold, give_again, give_first, acquire_known, acquire, adding_client}
 use Rattle.lk_guarantees.specs.Plain.{share_known, share, is_held_by, is_free, is_held_at, release, without, break_lock}
 use Rattle.lk_guarantees.specs.Plain.{first, told_of, asks, use_locks, begin, execute, join, leave, raise, takes_effect}
 use Rattle.lk_guarantees.specs.Plain.{after_one, after, at}
@@ -119,7 +119,7 @@ shared_grows client name last (Alone holder) locks q e = still locks q
 shared_grows client name last (Together clients) locks q e = elim (cases_Bool (list_any (λ c. eqb c client) clients)) [
   | inl f ↦ rw f (still locks q)
   | inr f ↦ rw f (elim (cases_Bool (ltb (length clients) 8)) [
-    | inl g ↦ rw g (hold_grows name last (Together (and_one client clients)) locks q (omega (arith, e)))
+    | inl g ↦ rw g (hold_grows name last (Together (adding_client client clients)) locks q (omega (arith, e)))
     | inr g ↦ rw g (still locks q)
   ])
 ]
@@ -270,13 +270,13 @@ module _ (genesis : Genesis) (L : List Command) (name : List ℕ) where
       ap (λ (o : Option Body). (use_locks u.request.client s.raised o s.locks).0) (sym u.acquires) ∙ served in
       let g = acquire_grants u.request.client name (map.get s.locks name) s.locks w.fence refl known in
       let stepped : (after_one s (Request u.request)).locks ≡ (execute u.request.client u.request.op s).1.locks =
-      of_step (takes_effect s u.request) u.takes.1 in
+      of_step (takes_effect s u.request) u.is_effective.1 in
       let locks : (after_one s (Request u.request)).locks
       ≡ (acquire u.request.client name (map.get s.locks name) s.locks).1 =
       stepped ∙ ap (λ (op : Op). (execute u.request.client op s).1.locks) u.asks
       ∙ ap (λ (o : Option Body). (use_locks u.request.client s.raised o s.locks).1) u.acquires in
       let now : fold after_one (begin genesis) (take i L) ≡ after_one s (Request u.request) =
-      ap (λ (l : List Command). fold after_one (begin genesis) l) (one_further L i (Request u.request) u.takes.0)
+      ap (λ (l : List Command). fold after_one (begin genesis) l) (one_further L i (Request u.request) u.is_effective.0)
       ∙ fold-append (begin genesis) (take (i - 1) L) (Request u.request ∷ []) in
       (g.0, ap (λ (t : State). fence_in t.locks name) now ∙ ap (λ (l : Locks). fence_in l name) locks ∙ g.1)
     where
@@ -315,7 +315,7 @@ module _ (genesis : Genesis) (L : List Command) (name : List ℕ) where
       → a.request ≡ b.request
   one_request v w i j a b e =
       let here : Some (Request a.request) ≡ Some (Request b.request) =
-      sym a.takes.0 ∙ ap (λ (n : ℕ). at L n) e ∙ b.takes.0 in
+      sym a.is_effective.0 ∙ ap (λ (n : ℕ). at L n) e ∙ b.is_effective.0 in
       cc here
 
   once : (v w : Write) (i j : ℕ) → IsUnder genesis L name v i → IsUnder genesis L name w j → v.fence ≡ w.fence
@@ -419,9 +419,9 @@ no_grant_shared client name last Nobody locks fence g =
 no_grant_shared client name last (Alone holder) locks fence g = cc g
 no_grant_shared client name last (Together clients) locks fence g =
     no_grant_of (list_any (λ c. eqb c client) clients) (Shared last, locks)
-    (cond (ltb (length clients) 8) (Shared last, hold name last (Together (and_one client clients)) locks)
+    (cond (ltb (length clients) 8) (Shared last, hold name last (Together (adding_client client clients)) locks)
     (Busy (first clients) last, locks)) fence (λ e. cc e)
-    (no_grant_of (ltb (length clients) 8) (Shared last, hold name last (Together (and_one client clients)) locks)
+    (no_grant_of (ltb (length clients) 8) (Shared last, hold name last (Together (adding_client client clients)) locks)
     (Busy (first clients) last, locks) fence (λ e. cc e) (λ e. cc e)) g
 
 no_grant_share : (client : ℕ) (name : List ℕ) (o : Option Lock) (locks : Locks) (fence : ℕ)
@@ -499,7 +499,7 @@ listed genesis L client number fence p =
       p.position,
       record {
         request = p.request;
-        takes = p.takes;
+        is_effective = p.is_effective;
         of_client = p.of_client;
         of_number = p.of_number;
         body = k.body;

@@ -90,7 +90,7 @@ record Split (s : State) (L : List Command) (front : Sequence) (x : Asking × An
   later : List Command
   stands : L ≡ before ++ (Request x.0 ∷ later)
   is_front : effective s before ≡ front
-  takes : takes_effect (fold after_one s before) x.0 ≡ true
+  is_effective : takes_effect (fold after_one s before) x.0 ≡ true
 
 none_empty : (front : Sequence) (x : Asking × Answer) (back : Sequence) → ◌≡◌ {A = Sequence} [] (front ++ x ∷ back) → ⊥
 none_empty [] x back e = cc e
@@ -103,7 +103,7 @@ one_more s c L front x k = record {
   later = k.later;
   stands = ap (λ (l : List Command). c ∷ l) k.stands;
   is_front = ap (λ (h : Sequence). entry s c ++ h) k.is_front;
-  takes = k.takes;
+  is_effective = k.is_effective;
 }
 
 split_by : (b : Bool) (s : State) (r : Asking) (L : List Command) (front : Sequence) (x : Asking × Answer)
@@ -118,7 +118,7 @@ split_by true s r L [] x back is e again =
       later = L;
       stands = ap (λ (y : Asking × Answer). Request y.0 ∷ L) here;
       is_front = refl;
-      takes = subst (λ (y : Asking × Answer). takes_effect s y.0 ≡ true) here is;
+      is_effective = subst (λ (y : Asking × Answer). takes_effect s y.0 ≡ true) here is;
     }
 split_by true s r L (y ∷ front) x back is e again =
     let here : (r, (execute r.client r.op s).0) ≡ y = cc e in
@@ -188,7 +188,7 @@ module _ (genesis : Genesis) where
         subst (λ (n : ℕ). takes_effect (after genesis (take n L)) x.0 ≡ true) (sym less)
             (subst (λ (l : List Command). takes_effect (after genesis l) x.0 ≡ true)
             (sym (ap (λ (l : List Command). take (length k.before) l) k.stands
-            ∙ take_front k.before (Request x.0 ∷ k.later))) k.takes),
+            ∙ take_front k.before (Request x.0 ∷ k.later))) k.is_effective),
       )
 
   -- what takes effect stands in the history
@@ -196,12 +196,12 @@ module _ (genesis : Genesis) where
       → takes_effect (after genesis before) r ≡ true
       → Contains (effective first (before ++ (Request r ∷ later))) (r, (execute r.client r.op (after genesis before)).0)
   unfolding after
-  stands_in before r later takes =
+  stands_in before r later is_effective =
       let state = fold after_one first before in
       let here : Contains (entry state (Request r) ++ effective (after_one state (Request r)) later)
       (r, (execute r.client r.op state).0) =
       subst (λ (b : Bool). Contains (entry_by b state r ++ effective (after_one state (Request r)) later)
-      (r, (execute r.client r.op state).0)) (sym takes) (0, omega arith, refl) in
+      (r, (execute r.client r.op state).0)) (sym is_effective) (0, omega arith, refl) in
       subst (λ (h : Sequence). Contains h (r, (execute r.client r.op state).0))
       (sym (effective-append first before (Request r ∷ later)))
       (Contains-append_right (effective first before)
@@ -222,8 +222,8 @@ module _ (genesis : Genesis) where
       let same : take (suc j - 1) L ≡ take j k.before = ap (λ (n : ℕ). take n L) less
       ∙ ap (λ (l : List Command). take j l) k.stands
       ∙ take_before j k.before (Request x.0 ∷ k.later) (omega (arith, lt)) in
-      let takes = subst (λ (l : List Command). takes_effect (after genesis l) q ≡ true) same t.1 in
-      let found = stands_in (take j k.before) q cut.0 takes in (
+      let is_effective = subst (λ (l : List Command). takes_effect (after genesis l) q ≡ true) same t.1 in
+      let found = stands_in (take j k.before) q cut.0 is_effective in (
         (execute q.client q.op (after genesis (take j k.before))).0,
         subst (λ (h : Sequence). Contains h (q, (execute q.client q.op (after genesis (take j k.before))).0))
             (ap (λ (l : List Command). effective first l) (sym cut.1) ∙ k.is_front) found,
@@ -240,7 +240,7 @@ module _ (genesis : Genesis) where
       subst (λ (l : List Command). Contains (effective first l) (a.request, answer)) (sym a.stands)
           (subst (λ (z : Answer). Contains (effective first (a.before ++ (Request a.request ∷ a.later)))
           (a.request, z)) (ap (λ (c : ℕ). (execute c a.request.op (after genesis a.before)).0) a.of_client ∙ a.answered)
-          (stands_in a.before a.request a.later a.takes)),
+          (stands_in a.before a.request a.later a.is_effective)),
     )
 
     invoked : (r : Asking) (answer : Answer) → Contains (effective first L) (r, answer) → Contains trace (note.Asked r)
@@ -264,7 +264,7 @@ module _ (genesis : Genesis) where
           later = j.later ++ (Request r ∷ k.later);
           stands = whole;
           is_front = j.is_front;
-          takes = j.takes;
+          is_effective = j.is_effective;
         } in
         let same = once genesis L (length j.before + 1) (length k.before + 1) q r (effect_at L cut.0 (q, b) again)
         (effect_at L front (r, a) k) client number in

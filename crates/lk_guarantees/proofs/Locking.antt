@@ -20,7 +20,8 @@ use Rattle.lk_locks.specs.declared.transition.Transition.{Transition}
 use Rattle.lk_locks.specs.declared.slot.Holders.{Holders}
 use Rattle.lk_locks.specs.declared.slot.Holders.TheVariants.{Nobody, Alone, Together}
 use Rattle.lk_locks.specs.declared.slot.Slot.{Slot}
-use Rattle.lk_guarantees.specs.Plain.{Locks, State, give_again, give_first, first, acquire_known, acquire, and_one}
+use Rattle.lk_guarantees.specs.Plain.{Locks, State, give_again, give_first, first, acquire_known, acquire}
+use Rattle.lk_guarantees.specs.Plain.{adding_client}
 use Rattle.lk_guarantees.specs.Plain.{share_known, share, is_free, is_held_by, those, without, release, is_held_at}
 use Rattle.lk_guarantees.specs.Plain.{break_lock, asks, told_of, checks, use_locks, greatest_of, join, leave}
 
@@ -61,7 +62,7 @@ acquire_agrees client name None m = first_agrees Granted (Alone client) name m
 
 -- one who is none of them comes in at its place
 one_more : (client : ℕ) (cs : List ℕ) → list_any (λ (c : ℕ). eqb c client) cs ≡ false
-    → with_client client cs ≡ and_one client cs
+    → with_client client cs ≡ adding_client client cs
 one_more client [] none = refl
 one_more client (c ∷ cs) none =
     let parts = or_parts (eqb c client) (list_any (λ (c : ℕ). eqb c client) cs) none in

@@ -27,7 +27,7 @@ pub record IsPlaced (genesis : Genesis) (L : List Command) (client number : ℕ)
   pub request : Asking
   pub of_client : request.client ≡ client
   pub of_number : request.number ≡ number
-  pub takes : TakesEffectAt genesis L position request
+  pub is_effective : TakesEffectAt genesis L position request
   pub answered : (execute client request.op (after genesis (take (position - 1) L))).0 ≡ answer
 
 pub placed : (genesis : Genesis) (L : List Command) (client number : ℕ) (answer : Answer)
@@ -45,8 +45,11 @@ placed genesis L client number answer a =
       request = a.request;
       of_client = a.of_client;
       of_number = a.of_number;
-      takes =
-          (stands, subst (λ (l : List Command). takes_effect (after genesis l) a.request ≡ true) (sym front) a.takes);
+      is_effective = (
+        stands,
+        subst (λ (l : List Command). takes_effect (after genesis l) a.request
+            ≡ true) (sym front) a.is_effective,
+      );
       answered =
           subst (λ (l : List Command). (execute client a.request.op (after genesis l)).0 ≡ answer) (sym front)
           a.answered;

@@ -62,9 +62,9 @@ module _ (header : HeaderValue) where
   -- by what was found, the replica stands so
   abbrev stands_by : (device : Memory) (replica : ReplicaValue) (notes : List Note)
       → (r : Revives table_meaning IsTableText (disk_of device) header replica notes)
-      → format r.takes.opens.entries ≡ 2 → Stands replica notes
+      → format r.restarts.opens.entries ≡ 2 → Stands replica notes
   stands_by device replica notes r is_format =
-      let o = r.takes.opens in
+      let o = r.restarts.opens in
       let same = r.renews.rests (o.format_is ∙ is_format) in
       let whose : StoreValue = record r.store { header = header } in
       let holds : HoldsEntries whose o.entries [] =
@@ -77,13 +77,13 @@ module _ (header : HeaderValue) where
             ∙ is_synced r.store.live_disk o.entries o.holds.synced o.holds.unsynced;
         of_node = o.header;
         is_format = is_format;
-        standing = r.takes.standing;
+        standing = r.restarts.standing;
         stands = o.stands;
-        whole = r.takes.restores.whole;
-        may = r.takes.restores.may;
-        only = r.takes.restores.only;
-        node_is = same.0 ∙ r.takes.restores.node_is;
-        notes_are = r.takes.restores.notes_are;
+        whole = r.restarts.restores.whole;
+        may = r.restarts.restores.may;
+        only = r.restarts.restores.only;
+        node_is = same.0 ∙ r.restarts.restores.node_is;
+        notes_are = r.restarts.restores.notes_are;
       }
 
   pub first_stands : (device : Memory) (replica : ReplicaValue) (notes : List Note) → ReadsFormatTwo device
@@ -91,7 +91,7 @@ module _ (header : HeaderValue) where
   first_stands device replica notes today up =
       stands_by device replica notes up.0
       (found_format (seen (disk_of device))
-      (text table_meaning up.0.takes.genesis []) up.0.takes.opens.entries today up.0.takes.opens.found)
+      (text table_meaning up.0.restarts.genesis []) up.0.restarts.opens.entries today up.0.restarts.opens.found)
 
   -- ---- after a stop
 
@@ -106,9 +106,10 @@ module _ (header : HeaderValue) where
     still_live = s.live (seen (disk_of left)) may_be_left
 
     module _ (again : ReplicaValue) (told : List Note) (up : ComesUp header left again told) where
-      pub same_entries : up.0.takes.opens.entries ≡ s.entries
+      pub same_entries : up.0.restarts.opens.entries ≡ s.entries
       same_entries =
-          found_live (seen (disk_of left)) header _ up.0.takes.opens.entries s.entries still_live up.0.takes.opens.found
+          found_live (seen (disk_of left)) header _ up.0.restarts.opens.entries s.entries still_live
+          up.0.restarts.opens.found
 
       abbrev pub now : Stands again told
       now = stands_by left again told up.0 (ap format same_entries ∙ s.is_format)

@@ -29,7 +29,7 @@ accepted highest (w ∷ writes) = if nat_le highest w.fence then w ∷ accepted 
 -- effect, and is granted the write's fence
 pub record IsUnder (genesis : Genesis) (L : List Command) (name : List ℕ) (w : Write) (i : ℕ) : Type 0 where
   pub request : Asking
-  pub takes : TakesEffectAt genesis L i request
+  pub is_effective : TakesEffectAt genesis L i request
   pub of_client : request.client ≡ w.client
   pub of_number : request.number ≡ w.number
   pub body : List ℕ

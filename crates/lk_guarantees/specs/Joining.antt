@@ -11,7 +11,7 @@ use Rattle.lk_guarantees.specs.Plain.{after, execute, TakesEffectAt}
 -- the node joins by the entry at this position of the list: a request for it takes effect there, and is granted
 pub record JoinsAt (genesis : Genesis) (L : List Command) (node i : ℕ) : Type 0 where
   pub request : Asking
-  pub takes : TakesEffectAt genesis L i request
+  pub is_effective : TakesEffectAt genesis L i request
   pub port : ℕ
   pub asks : request.op ≡ Join node port
   pub granted : (execute request.client request.op (after genesis (take (i - 1) L))).0 ≡ Joined

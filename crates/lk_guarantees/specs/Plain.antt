@@ -72,9 +72,9 @@ abbrev pub is_one_of : ℕ → List ℕ → Bool
 is_one_of client clients = list_any (λ c. c == client) clients
 
 -- the clients and one more, who is none of them, in rising order
-abbrev pub and_one : ℕ → List ℕ → List ℕ
-and_one client [] = client ∷ []
-and_one client (c ∷ cs) = if nat_lt c client then c ∷ and_one client cs else client ∷ c ∷ cs
+abbrev pub adding_client : ℕ → List ℕ → List ℕ
+adding_client client [] = client ∷ []
+adding_client client (c ∷ cs) = if nat_lt c client then c ∷ adding_client client cs else client ∷ c ∷ cs
 
 -- Share: gives a free name or a new one to a client as Acquire does, but others may join; or the client joins those
 -- who hold the name together, at their fence, while they are fewer than eight
@@ -83,7 +83,7 @@ share_known client name last Nobody locks = give_again Shared (Together (client 
 share_known client name last (Alone holder) locks = (Busy holder last, locks)
 share_known client name last (Together clients) locks =
     if is_one_of client clients then (Shared last, locks)
-    else if nat_lt (length clients) 8 then (Shared last, hold name last (Together (and_one client clients)) locks)
+    else if nat_lt (length clients) 8 then (Shared last, hold name last (Together (adding_client client clients)) locks)
     else (Busy (first clients) last, locks)
 
 abbrev pub share : ℕ → List ℕ → Option Lock → Locks → Answer × Locks
@@ -255,7 +255,7 @@ pub record GivesAnswer (genesis : Genesis) (L : List Command) (client number : �
   pub stands : L ≡ before ++ (Request request ∷ later)
   pub of_client : request.client ≡ client
   pub of_number : request.number ≡ number
-  pub takes : IsTrue (takes_effect (after genesis before) request)
+  pub is_effective : IsTrue (takes_effect (after genesis before) request)
   pub answered : (execute client request.op (after genesis before)).0 ≡ answer
 
 -- ---- positions, and their members

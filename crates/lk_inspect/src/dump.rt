@@ -10,7 +10,7 @@ use lk_disk::LogDisk;
 use lk_log::{LiveFile, look};
 use lk_node_files::folder::look_at_device;
 use lk_node_files::refusals::write_refusal;
-use lk_transport::fault::ServiceFault;
+use lk_transport::fault::ProgramFault;
 use lk_types::Ballot;
 use std::alloc::Global;
 use std::fs::Files;
@@ -70,19 +70,19 @@ pub fn dump_device<D: LogDisk, W: Write>(
     alloc: Global,
     device: &mut D,
     out: &mut W,
-) -> Result<bool, ServiceFault>
+) -> Result<bool, ProgramFault>
     ensures unchanged { D.is_honest → (s : Side) → D.disk device.new s ≡ D.disk device.old s }
     ensures printed { D.is_honest
         → IfOk result (λ is_store. (text : List ℕ) × Dumps (seen (D.disk device.old)) is_store text
         × Appends (W.contents out.old) (W.contents out.new) text) }
-    ensures damaged { D.is_honest → IsErrOf result ServiceFault.Damaged → IsDamaged (seen (D.disk device.old)) }
+    ensures damaged { D.is_honest → IsErrOf result ProgramFault.Damaged → IsDamaged (seen (D.disk device.old)) }
 {
     let found = look(alloc, device)?;
     let Ok(is_store) = write_found(found, out) else {
-        return Err(ServiceFault::Write);
+        return Err(ProgramFault::Write);
     };
     if out.flush().is_err() {
-        return Err(ServiceFault::Write);
+        return Err(ProgramFault::Write);
     }
     Ok(is_store)
 }
@@ -95,7 +95,7 @@ fn dump_folder<R: Files, W: Write, E: Write>(
     folder: &str,
     out: &mut W,
     err: &mut E,
-) -> Result<bool, ServiceFault> {
+) -> Result<bool, ProgramFault> {
     let mut device = look_at_device(rt, alloc, folder, err)?;
     match dump_device(alloc, &mut device, out) {
         Ok(is_store) => Ok(is_store),

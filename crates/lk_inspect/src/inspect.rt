@@ -11,7 +11,7 @@ use lk_disk::LogDisk;
 use lk_log::look;
 use lk_node_files::folder::look_at_device;
 use lk_node_files::refusals::write_refusal;
-use lk_transport::fault::ServiceFault;
+use lk_transport::fault::ProgramFault;
 use std::alloc::Global;
 use std::fs::Files;
 use std::io;
@@ -34,10 +34,10 @@ pub fn write_found<W: Write>(found: Option<&Inspection>, out: &mut W) -> io::Res
 pub fn inspect_device<D: LogDisk>(
     alloc: Global,
     device: &mut D,
-) -> Result<Option<Inspection>, ServiceFault>
+) -> Result<Option<Inspection>, ProgramFault>
     ensures unchanged { D.is_honest → (s : Side) → D.disk device.new s ≡ D.disk device.old s }
     ensures found { D.is_honest → IfOk result (Finds (seen (D.disk device.old))) }
-    ensures damaged { D.is_honest → IsErrOf result ServiceFault.Damaged → IsSpoilt (seen (D.disk device.old)) }
+    ensures damaged { D.is_honest → IsErrOf result ProgramFault.Damaged → IsSpoilt (seen (D.disk device.old)) }
 {
     match look(alloc, device)? {
         Some(live) => Ok(Some(inspected(alloc, &live.standing)?)),
@@ -52,7 +52,7 @@ fn inspection_in<R: Files, E: Write>(
     alloc: Global,
     folder: &str,
     err: &mut E,
-) -> Result<Option<Inspection>, ServiceFault> {
+) -> Result<Option<Inspection>, ProgramFault> {
     let mut device = look_at_device(rt, alloc, folder, err)?;
     match inspect_device(alloc, &mut device) {
         Ok(found) => Ok(found),
@@ -67,12 +67,12 @@ fn inspect_folder<R: Files, W: Write, E: Write>(
     folder: &str,
     out: &mut W,
     err: &mut E,
-) -> Result<bool, ServiceFault> {
+) -> Result<bool, ProgramFault> {
     let found = inspection_in(rt, alloc, folder, err)?;
-    write_found(found.as_ref(), out).map_err(|_| ServiceFault::Write)
+    write_found(found.as_ref(), out).map_err(|_| ProgramFault::Write)
 }
 
-/// Prints the summary for the store in a folder, even while a node serves from it. Returns status 0, or 1 if there is
+/// Prints the summary for the store in a folder, even while a node runs on it. Returns status 0, or 1 if there is
 /// no store, which it prints as `no store`, or after an error message.
 pub fn inspect<R: Files, W: Write, E: Write>(
     rt: &R,

@@ -16,7 +16,7 @@ use crate::state::state_of;
 use lk_locks::{Name, Slot};
 use lk_members::Window;
 use lk_store_format::Standing;
-use lk_transport::fault::ServiceFault;
+use lk_transport::fault::ProgramFault;
 use lk_types::Executed;
 use std::alloc::Global;
 
@@ -37,13 +37,13 @@ pub struct Inspection {
 
 /// Returns the summary of the state of a standing, up to the first gap in its decided commands. It fails with `Damaged`
 /// if the snapshot packs no state at its position, and with `NoMemory`.
-pub fn inspected(alloc: Global, standing: &Standing) -> Result<Inspection, ServiceFault>
+pub fn inspected(alloc: Global, standing: &Standing) -> Result<Inspection, ProgramFault>
     ensures tells { (genesis : GenesisValue) (L : List CommandValue)
         → Packs IsTableText (whole_after table_meaning genesis L) standing.now.snapshot
         → AllByRecursion IsCommand (L ++ run_from (length L) standing.now.pairs)
         → IfOk result (DescribesList genesis (L ++ run_from (length L) standing.now.pairs)) }
-    ensures damaged { IsErrOf result ServiceFault.Damaged → PacksNoState standing.now }
-    ensures only { IfErr result (λ e. (e ≡ ServiceFault.Damaged) ⊎ (e ≡ ServiceFault.NoMemory)) }
+    ensures damaged { IsErrOf result ProgramFault.Damaged → PacksNoState standing.now }
+    ensures only { IfErr result (λ e. (e ≡ ProgramFault.Damaged) ⊎ (e ≡ ProgramFault.NoMemory)) }
 {
     let whole = state_of(alloc, standing)?;
     let table = whole.machine();

@@ -15,21 +15,21 @@ ghost use Rattle.lk_inspect.specs.Inspections.{PacksNoState};
 use lk_locks::LockTable;
 use lk_state::{Ran, Whole};
 use lk_store_format::Standing;
-use lk_transport::fault::ServiceFault;
+use lk_transport::fault::ProgramFault;
 use lk_types::{Answer, Command, NoMemory, Position};
 use std::alloc::Global;
 
 // Unpacks the snapshot of a standing. It fails with `Damaged` if the snapshot packs no state, or one of another
 // position.
-fn unpacked(alloc: Global, standing: &Standing) -> Result<Whole<LockTable>, ServiceFault>
+fn unpacked(alloc: Global, standing: &Standing) -> Result<Whole<LockTable>, ProgramFault>
     ensures one { (w : WholeValue) → Packs IsTableText w standing.now.snapshot → IfOk result (λ v. v ≡ w) }
     ensures stands { IfOk result (λ w. w.roster.executed ≡ standing.now.position) }
-    ensures damaged { IsErrOf result ServiceFault.Damaged → PacksNoState standing.now }
-    ensures only { IfErr result (λ e. (e ≡ ServiceFault.Damaged) ⊎ (e ≡ ServiceFault.NoMemory)) }
+    ensures damaged { IsErrOf result ProgramFault.Damaged → PacksNoState standing.now }
+    ensures only { IfErr result (λ e. (e ≡ ProgramFault.Damaged) ⊎ (e ≡ ProgramFault.NoMemory)) }
 {
     let whole: Whole<LockTable> = Whole::unpack(alloc, &standing.snapshot)?;
     if whole.executed() != standing.position {
-        return Err(ServiceFault::Damaged);
+        return Err(ProgramFault::Damaged);
     }
     Ok(whole)
 }
@@ -58,12 +58,12 @@ fn run_on(whole: &mut Whole<LockTable>, pairs: &[(Position, Command)]) -> Result
 
 /// Returns the state after the snapshot and the decided commands above it, up to the first gap. It fails with `Damaged`
 /// if the snapshot packs no state at its position, and with `NoMemory`.
-pub fn state_of(alloc: Global, standing: &Standing) -> Result<Whole<LockTable>, ServiceFault>
+pub fn state_of(alloc: Global, standing: &Standing) -> Result<Whole<LockTable>, ProgramFault>
     ensures sums { (genesis : GenesisValue) (L : List CommandValue)
         → Packs IsTableText (whole_after table_meaning genesis L) standing.now.snapshot
         → IfOk result (SumsUp table_meaning genesis (L ++ run_from (length L) standing.now.pairs)) }
-    ensures damaged { IsErrOf result ServiceFault.Damaged → PacksNoState standing.now }
-    ensures only { IfErr result (λ e. (e ≡ ServiceFault.Damaged) ⊎ (e ≡ ServiceFault.NoMemory)) }
+    ensures damaged { IsErrOf result ProgramFault.Damaged → PacksNoState standing.now }
+    ensures only { IfErr result (λ e. (e ≡ ProgramFault.Damaged) ⊎ (e ≡ ProgramFault.NoMemory)) }
 {
     let mut whole = unpacked(alloc, standing)?;
     run_on(&mut whole, &standing.pairs)?;

@@ -15,13 +15,14 @@ use Rattle.lk_members.specs.Rosters.{Genesis, is_member, members}
 use Rattle.lk_members.specs.Majorities.{IsMajority}
 use Rattle.lk_members.specs.Windows.{RosterValue, RosterSumsUp, roster_after}
 use Rattle.lk_members.proofs.Memberships.{length_of_window, set_of_window}
-use Rattle.lk_agreement_laws.specs.Soundness.{IsReported, IsReporter}
+use Rattle.lk_agreement_laws.specs.Soundness.{IsPromisedVote, IsPromiser}
 use Rattle.lk_agreement_laws.specs.Nodes.{Term, new_term, Acceptance}
-use Rattle.lk_agreement_laws.specs.Changes.{MayPropose, with_report, with_proposal, with_acceptance}
+use Rattle.lk_agreement_laws.specs.Changes.{MayPropose, with_received, with_proposal, with_acceptance}
 use Rattle.lk_leader.specs.Terms as terms
 use Rattle.lk_leader.specs.Terms.{ReceivedPromise, ProposalValue, TermValue, proposal_at, in_window, with_proposals}
 use Rattle.lk_leader.specs.Terms.{begun}
-use Rattle.lk_leader.specs.Values.{ReportedVote, IsNotAbove, told_by, told_at, speaks_at, reports_at, IsLeadersValue}
+use Rattle.lk_leader.specs.Values.{PromisedVote, IsNotAbove, promised_by, promised_at, speaks_at, received_at}
+use Rattle.lk_leader.specs.Values.{IsLeadersValue}
 use Rattle.lk_leader.specs.Values.{highest, first_new, fills}
 use Rattle.lk_leader.specs.Proposing.{promisers, IsNext, AreMembersAt, Proposes, proposed}
 use Rattle.lk_leader.specs.Acceptances.{members_among, heard, heard_at, IsVoteFor, GainsMajority}
@@ -33,28 +34,28 @@ use Rattle.lk_leader.proofs.Elements.{map_from, any_from, find_from, find_none}
 
 told_has : (i : ℕ) (rs : List ReceivedPromise) (r : ReceivedPromise) (x : Vote) → Contains rs r → Contains r.votes x
     → x.position ≡ i
-    → Contains (told_at i rs) (record { node = r.node; vote = x })
+    → Contains (promised_at i rs) (record { node = r.node; vote = x })
 told_has i [] r x h k at = absurd (omega (arith, h.1))
 told_has i (q ∷ rs) r x h k at =
-    let make : ReceivedPromise → Vote → ReportedVote = λ (p : ReceivedPromise)
+    let make : ReceivedPromise → Vote → PromisedVote = λ (p : ReceivedPromise)
     (y : Vote). record { node = p.node; vote = y } in
     elim (cons_cases q rs r h) [
-      | inl is ↦ Contains-append_left (told_by i q) (told_at i rs) (make r x)
-          (subst (λ (p : ReceivedPromise). Contains (told_by i p) (make r x)) (sym is)
+      | inl is ↦ Contains-append_left (promised_by i q) (promised_at i rs) (make r x)
+          (subst (λ (p : ReceivedPromise). Contains (promised_by i p) (make r x)) (sym is)
           (map_has (make r) (filter (λ (y : Vote). y.position == i) r.votes) x
           (filter_has (λ (y : Vote). y.position == i) r.votes x k (eq-eqb x.position i at))))
-      | inr in' ↦ Contains-append_right (told_by i q) (told_at i rs) (make r x) (told_has i rs r x in' k at)
+      | inr in' ↦ Contains-append_right (promised_by i q) (promised_at i rs) (make r x) (told_has i rs r x in' k at)
     ]
 
-told_from : (i : ℕ) (rs : List ReceivedPromise) (h : ReportedVote) → Contains (told_at i rs) h
-    → IsReported rs h.vote × (h.vote.position ≡ i)
+told_from : (i : ℕ) (rs : List ReceivedPromise) (h : PromisedVote) → Contains (promised_at i rs) h
+    → IsPromisedVote rs h.vote × (h.vote.position ≡ i)
 told_from i [] h in' = absurd (omega (arith, in'.1))
 told_from i (q ∷ rs) h in' =
-    elim (Contains-append_cases (told_by i q) (told_at i rs) h in') [
+    elim (Contains-append_cases (promised_by i q) (promised_at i rs) h in') [
       | inl a ↦
-          (let make : Vote → ReportedVote = λ (y : Vote). record { node = q.node; vote = y } in
+          (let make : Vote → PromisedVote = λ (y : Vote). record { node = q.node; vote = y } in
           let from = map_from make (filter (λ (y : Vote). y.position == i) q.votes) h a in
-          let same : from.0 ≡ h.vote = ap (λ (t : ReportedVote). t.vote) from.2 in
+          let same : from.0 ≡ h.vote = ap (λ (t : PromisedVote). t.vote) from.2 in
           let there : Contains q.votes from.0 = filter_from (λ (y : Vote). y.position == i) q.votes from.0 from.1 in
           let at : from.0.position ≡ i =
           eqb-true from.0.position i (filter_passes_at (λ (y : Vote). y.position == i) q.votes from.0 from.1) in (
@@ -67,46 +68,46 @@ told_from i (q ∷ rs) h in' =
 -- what is proposed matches what the members' promises tell
 matches : (t : TermValue) (waiting : List RequestValue) (roster : RosterValue) (set : List Member) (i : ℕ)
     (v : Command) → IsLeadersValue t waiting roster set i v
-    → (x : Vote) → IsReported (reports_at set i t.reports) x → x.position ≡ i
-    → (y : Vote) × IsReported (reports_at set i t.reports) y × (y.position ≡ i) × (y.command ≡ v)
+    → (x : Vote) → IsPromisedVote (received_at set i t.received) x → x.position ≡ i
+    → (y : Vote) × IsPromisedVote (received_at set i t.received) y × (y.position ≡ i) × (y.command ≡ v)
     × IsAtMost x.ballot y.ballot
 matches t waiting roster set i v (highest h best) x told at =
-    let from = told_from i (reports_at set i t.reports) h best.among in (
+    let from = told_from i (received_at set i t.received) h best.among in (
       h.vote,
       from.0,
       from.1,
       refl,
       weaker (best.above (record { node = told.0.node; vote = x })
-          (told_has i (reports_at set i t.reports) told.0 x told.1 told.2 at)),
+          (told_has i (received_at set i t.received) told.0 x told.1 told.2 at)),
     )
   where
     weaker : IsNotAbove (record { node = told.0.node; vote = x }) h → IsAtMost x.ballot h.vote.ballot
     weaker (inl below) = inl below
     weaker (inr same) = inr same.0
 matches t waiting roster set i v (first_new q none first) x told at =
-    absurd (omega (arith, (told_has i (reports_at set i t.reports) told.0 x told.1 told.2 at).1, ap length none))
+    absurd (omega (arith, (told_has i (received_at set i t.received) told.0 x told.1 told.2 at).1, ap length none))
 matches t waiting roster set i v (fills none new gap) x told at =
-    absurd (omega (arith, (told_has i (reports_at set i t.reports) told.0 x told.1 told.2 at).1, ap length none))
+    absurd (omega (arith, (told_has i (received_at set i t.received) told.0 x told.1 told.2 at).1, ap length none))
 
 -- ---- members
 
-promisers_report : (set : List Member) (i : ℕ) (reports : List ReceivedPromise) (n : ℕ)
-    → Contains (promisers set i reports) n
-    → IsReporter (reports_at set i reports) n
-promisers_report set i reports n h =
+promisers_report : (set : List Member) (i : ℕ) (received : List ReceivedPromise) (n : ℕ)
+    → Contains (promisers set i received) n
+    → IsPromiser (received_at set i received) n
+promisers_report set i received n h =
     let promised : Member → Bool =
-    λ (m : Member). list_any (λ (r : ReceivedPromise). r.node == m.node && nat_le r.first i) reports in
+    λ (m : Member). list_any (λ (r : ReceivedPromise). r.node == m.node && nat_le r.first i) received in
     let from = map_from (λ (m : Member). m.node) (filter promised set) n h in
     let m : Member = from.0 in
     let listed : Contains set m = filter_from promised set m from.1 in
-    let found = any_from (λ (r : ReceivedPromise). r.node == m.node && nat_le r.first i) reports
+    let found = any_from (λ (r : ReceivedPromise). r.node == m.node && nat_le r.first i) received
     (filter_passes_at promised set m from.1) in
     let r : ReceivedPromise = found.0 in
     let parts = and_parts (r.node == m.node) (nat_le r.first i) found.2 in
     let same : r.node ≡ m.node = eqb-true r.node m.node parts.0 in
     let is : is_member r.node set ≡ true = member_of r.node set m listed (sym same) in (
       r,
-      filter_has (speaks_at set i) reports r found.1 (and_from (is_member r.node set) (nat_le r.first i) is parts.1),
+      filter_has (speaks_at set i) received r found.1 (and_from (is_member r.node set) (nat_le r.first i) is parts.1),
       same ∙ from.2,
     )
   where
@@ -151,15 +152,15 @@ proposes_allowed genesis done t k waiting roster i v sums stands p =
           find_none (λ (q : ProposalValue). q.position == i) k.proposals kept.0 p.next.new kept.1
           (eq-eqb kept.0.position i kept.2));
       reaches = omega (arith, p.next.reaches, e, a);
-      reports = reports_at p.set i k.reports;
+      received = received_at p.set i k.received;
       among = λ r h. (
-        stands.reports r (filter_from (speaks_at p.set i) k.reports r h),
+        stands.received r (filter_from (speaks_at p.set i) k.received r h),
         leb-true r.first i (and_parts (is_member r.node p.set) (nat_le r.first i)
-            (filter_passes_at (speaks_at p.set i) k.reports r h)).1,
+            (filter_passes_at (speaks_at p.set i) k.received r h)).1,
       );
-      nodes = promisers p.set i k.reports;
-      majority = subst (IsMajority (promisers p.set i k.reports)) named p.promised;
-      reporters = λ n h. promisers_report p.set i k.reports n h;
+      nodes = promisers p.set i k.received;
+      majority = subst (IsMajority (promisers p.set i k.received)) named p.promised;
+      promisers = λ n h. promisers_report p.set i k.received n h;
       highest = matches k waiting roster p.set i v p.value;
     }
 
@@ -167,12 +168,12 @@ proposes_allowed genesis done t k waiting roster i v sums stands p =
 pub proposes_asked : (executed alpha : ℕ) (t : Term) (k : TermValue) (waiting : List RequestValue)
     (roster : RosterValue) (set : List Member) (i : ℕ) (v : Command)
     → AgreesWithTerm executed alpha t k → IsLeadersValue k waiting roster set i v
-    → ((x : Vote) × IsReported t.reports x × (x.command ≡ v))
+    → ((x : Vote) × IsPromisedVote t.received x × (x.command ≡ v))
     ⊎ (((q : RequestValue) × Contains waiting q × (v ≡ Request q)) ⊎ (v ≡ Noop))
 proposes_asked executed alpha t k waiting roster set i v stands (highest h best) =
-    let from = told_from i (reports_at set i k.reports) h best.among in
+    let from = told_from i (received_at set i k.received) h best.among in
     let r : ReceivedPromise = from.0.0 in
-    inl (h.vote, (r, stands.reports r (filter_from (speaks_at set i) k.reports r from.0.1), from.0.2), refl)
+    inl (h.vote, (r, stands.received r (filter_from (speaks_at set i) k.received r from.0.1), from.0.2), refl)
 proposes_asked executed alpha t k waiting roster set i v stands (first_new q none first) =
     inr (inl (
       q,
@@ -246,7 +247,7 @@ majority_rests genesis done t k roster b node i v set p sums reaches stands vote
 pub begun_leads : (executed alpha : ℕ) (b : BallotValue) → AgreesWithTerm executed alpha (new_term b) (begun b)
 begun_leads executed alpha b = record {
   ballot = refl;
-  reports = λ r h. h;
+  received = λ r h. h;
   proposals = λ p h. absurd (omega (arith, h.1));
   kept = λ i v h above. absurd (omega (arith, h.1));
   within = λ i v h. absurd (omega (arith, h.1));
@@ -257,7 +258,7 @@ pub later_leads : (executed later alpha : ℕ) (t : Term) (k : TermValue) → ex
     → AgreesWithTerm executed alpha t k → AgreesWithTerm later alpha t k
 later_leads executed later alpha t k le h = record {
   ballot = h.ballot;
-  reports = h.reports;
+  received = h.received;
   proposals = h.proposals;
   kept = λ i v c above. h.kept i v c (omega (arith, above, le));
   within = λ i v c. omega (arith, h.within i v c, le);
@@ -266,12 +267,12 @@ later_leads executed later alpha t k le h = record {
 
 pub heard_leads : (executed alpha : ℕ) (t : Term) (k : TermValue) (r : ReceivedPromise)
     → AgreesWithTerm executed alpha t k
-    → AgreesWithTerm executed alpha (with_report t r) (terms.with_report r k)
+    → AgreesWithTerm executed alpha (with_received t r) (terms.with_received r k)
 heard_leads executed alpha t k r h = record {
   ballot = h.ballot;
-  reports = λ q c. elim (Contains-push_cases k.reports r q c) [
-    | inl old ↦ Contains-append_left t.reports (r ∷ []) q (h.reports q old)
-    | inr is ↦ subst (Contains (t.reports ++ r ∷ [])) is (Contains-push t.reports r)
+  received = λ q c. elim (Contains-push_cases k.received r q c) [
+    | inl old ↦ Contains-append_left t.received (r ∷ []) q (h.received q old)
+    | inr is ↦ subst (Contains (t.received ++ r ∷ [])) is (Contains-push t.received r)
   ];
   proposals = h.proposals;
   kept = h.kept;
@@ -289,7 +290,7 @@ proposed_leads t k roster i v next h =
     let w : ProposalValue → Bool = λ (p : ProposalValue). nat_lt e p.position && nat_le p.position (e + a) in
     record {
       ballot = h.ballot;
-      reports = h.reports;
+      received = h.received;
       proposals = λ p c. elim (Contains-push_cases (filter w k.proposals) new p c) [
         | inl old ↦ Contains-append_left t.proposals ((i, v) ∷ []) (p.position, p.command)
             (h.proposals p (filter_from w k.proposals p old))
@@ -386,7 +387,7 @@ majority_leads executed alpha t k roster b node i v set p vote h =
     → Acceptance = λ (n : ℕ) (q : ProposalValue). record { node = n; position = q.position; command = q.command } in
     record {
       ballot = h.ballot;
-      reports = h.reports;
+      received = h.received;
       proposals = λ q c. elim (heard_cases set node i k.proposals p q vote.proposal c) [
         | inl old ↦ h.proposals q old
         | inr is ↦ subst (λ (x : ProposalValue). Contains t.proposals (x.position, x.command)) is (h.proposals p own.0)

@@ -8,13 +8,14 @@ use Rattle.lk_types.specs.declared.member.Member.{Member}
 use Rattle.lk_members.specs.Effects.{Command, RequestValue, Noop, Request}
 use Rattle.lk_members.specs.Windows.{RosterValue}
 use Rattle.lk_leader.specs.Terms.{TermValue, ProposalValue}
-use Rattle.lk_leader.specs.Values.{IsUnderWay, IsFirstNew, NoneIsNew, told_at, reports_at, has_vote_from}
+use Rattle.lk_leader.specs.Values.{IsUnderWay, IsFirstNew, NoneIsNew, promised_at, received_at, has_vote_from}
 use Rattle.lk_leader.specs.Values.{is_changing_at}
 use Rattle.lk_leader.specs.Values.{IsLeadersValue, highest, first_new, fills}
 
 module _ (t : TermValue) (waiting : List RequestValue) (roster : RosterValue) (set : List Member) (i : ℕ)
-    (none : told_at i (reports_at set i t.reports) ≡ []) (old : NoneIsNew roster.executed t.proposals waiting) where
-  no_value : has_vote_from t.reports i || is_changing_at roster i ≡ false → (v : Command)
+    (none : promised_at i (received_at set i t.received) ≡ [])
+    (old : NoneIsNew roster.executed t.proposals waiting) where
+  no_value : has_vote_from t.received i || is_changing_at roster i ≡ false → (v : Command)
       → IsLeadersValue t waiting roster set i v → ⊥
   no_value f v (highest h best) = absurd (omega (arith, best.among.1, ap length none))
   no_value f v (first_new q told first) =
@@ -23,7 +24,7 @@ module _ (t : TermValue) (waiting : List RequestValue) (roster : RosterValue) (s
   no_value f v (fills told new gap) = true≢false (sym gap ∙ f)
 
   -- a gap is filled, and nothing else is proposed
-  pub filled : (b : Bool) → b ≡ (has_vote_from t.reports i || is_changing_at roster i)
+  pub filled : (b : Bool) → b ≡ (has_vote_from t.received i || is_changing_at roster i)
       → MatchOption (then_some b Noop) ((v : Command) → IsLeadersValue t waiting roster set i v → ⊥)
       (λ v. IsLeadersValue t waiting roster set i v)
   filled true gap = fills none old (sym gap)

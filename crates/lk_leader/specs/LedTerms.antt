@@ -8,7 +8,7 @@ use Rattle.lk_leader.specs.Terms.{Command, ReceivedPromise, ProposalValue, TermV
 -- executed
 pub record AgreesWithTerm (executed alpha : ℕ) (t : Term) (k : TermValue) : Type 0 where
   pub ballot : t.ballot ≡ k.ballot
-  pub reports : (r : ReceivedPromise) → Contains k.reports r → Contains t.reports r
+  pub received : (r : ReceivedPromise) → Contains k.received r → Contains t.received r
   pub proposals : (p : ProposalValue) → Contains k.proposals p → Contains t.proposals (p.position, p.command)
   pub kept : (i : ℕ) (v : Command) → Contains t.proposals (i, v) → executed < i
       → (p : ProposalValue) × Contains k.proposals p × (p.position ≡ i) × (p.command ≡ v)

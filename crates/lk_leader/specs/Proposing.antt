@@ -12,8 +12,8 @@ use Rattle.lk_leader.specs.Values.{IsLeadersValue}
 
 -- the members of the set that promised from the position or one before it on
 abbrev pub promisers : List Member → ℕ → List ReceivedPromise → List ℕ
-promisers set i reports =
-    map (λ m. m.node) (filter (λ m. list_any (λ r. r.node == m.node && nat_le r.first i) reports) set)
+promisers set i received =
+    map (λ m. m.node) (filter (λ m. list_any (λ r. r.node == m.node && nat_le r.first i) received) set)
 
 -- the first position of the window, and of all, at which nothing is proposed
 pub record IsNext (roster : RosterValue) (ps : List ProposalValue) (i : ℕ) : Type 0 where
@@ -28,14 +28,14 @@ abbrev pub AreMembersAt : RosterValue → ℕ → List Member → Type 0
 AreMembersAt roster i set = (roster.executed < i) × (slice_get roster.sets (i - (roster.executed + 1)) ≡ Some set)
 
 -- a majority of the members of the position promised the term from there or before it on
-pub record IsPromisedAt (t : TermValue) (roster : RosterValue) (i : ℕ) : Type 0 where
+pub record IsPromisedByMajority (t : TermValue) (roster : RosterValue) (i : ℕ) : Type 0 where
   pub set : List Member
   pub members : AreMembersAt roster i set
-  pub promised : IsMajority (promisers set i t.reports) set
+  pub promised : IsMajority (promisers set i t.received) set
 
 -- so those of the next position, where there is one
 abbrev pub IsElected : TermValue → RosterValue → Type 0
-IsElected t roster = (roster.executed < 281474976710656) × IsPromisedAt t roster (roster.executed + 1)
+IsElected t roster = (roster.executed < 281474976710656) × IsPromisedByMajority t roster (roster.executed + 1)
 
 -- the leader has a term, which is elected
 abbrev pub Leads : LeaderValue → RosterValue → Type 0
@@ -47,7 +47,7 @@ pub record Proposes (t : TermValue) (waiting : List RequestValue) (roster : Rost
   pub next : IsNext roster t.proposals i
   pub set : List Member
   pub members : AreMembersAt roster i set
-  pub promised : IsMajority (promisers set i t.reports) set
+  pub promised : IsMajority (promisers set i t.received) set
   pub value : IsLeadersValue t waiting roster set i v
 
 -- the leader has a term that proposes it

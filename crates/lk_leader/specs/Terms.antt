@@ -17,7 +17,7 @@ pub record ProposalValue : Type 0 where
 -- a ballot in progress: the first promise of each node, in order, and what was proposed, as far as it is kept
 pub record TermValue : Type 0 where
   pub ballot : BallotValue
-  pub reports : List ReceivedPromise
+  pub received : List ReceivedPromise
   pub proposals : List ProposalValue
 
 -- the term, if any, and the requests that wait
@@ -26,18 +26,18 @@ pub record LeaderValue : Type 0 where
   pub waiting : List RequestValue
 
 -- no ballot, and nothing waits
-abbrev pub idle : LeaderValue
-idle = record { term = None; waiting = [] }
+abbrev pub new_leader : LeaderValue
+new_leader = record { term = None; waiting = [] }
 
 -- a ballot in which nothing is promised or proposed
 abbrev pub begun : BallotValue → TermValue
-begun b = record { ballot = b; reports = []; proposals = [] }
+begun b = record { ballot = b; received = []; proposals = [] }
 
-abbrev pub with_report : ReceivedPromise → TermValue → TermValue
-with_report r t = record { ballot = t.ballot; reports = t.reports ++ r ∷ []; proposals = t.proposals }
+abbrev pub with_received : ReceivedPromise → TermValue → TermValue
+with_received r t = record { ballot = t.ballot; received = t.received ++ r ∷ []; proposals = t.proposals }
 
 abbrev pub with_proposals : List ProposalValue → TermValue → TermValue
-with_proposals ps t = record { ballot = t.ballot; reports = t.reports; proposals = ps }
+with_proposals ps t = record { ballot = t.ballot; received = t.received; proposals = ps }
 
 -- the proposal at the position
 abbrev pub proposal_at : ℕ → List ProposalValue → Option ProposalValue
@@ -53,7 +53,7 @@ with_term t l = record { term = Some t; waiting = l.waiting }
 
 -- one of the promises is the node's
 abbrev pub is_promiser : ℕ → List ReceivedPromise → Bool
-is_promiser node reports = list_any (λ r. r.node == node) reports
+is_promiser node received = list_any (λ r. r.node == node) received
 
 abbrev pub has_term : Option TermValue → Bool
 has_term None = false
@@ -62,7 +62,7 @@ has_term (Some t) = true
 -- the term, if any, has a promise of the node
 abbrev pub has_promise_of : Option TermValue → ℕ → Bool
 has_promise_of None k = false
-has_promise_of (Some t) k = is_promiser k t.reports
+has_promise_of (Some t) k = is_promiser k t.received
 
 -- the nodes whose promise the term does not have
 abbrev pub silent_among : Option TermValue → List ℕ → List ℕ
@@ -74,4 +74,4 @@ pub record IsFirstOf (l : LeaderValue) (roster : RosterValue) (node : ℕ) (b : 
   pub current : l.term ≡ Some t
   pub ballot : t.ballot ≡ b
   pub named : is_named node roster.sets ≡ true
-  pub first : is_promiser node t.reports ≡ false
+  pub first : is_promiser node t.received ≡ false

@@ -8,35 +8,35 @@ use Rattle.lk_members.specs.Effects.{Command, RequestValue, Noop, Request}
 use Rattle.lk_members.specs.Rosters.{is_member}
 use Rattle.lk_members.specs.Windows.{RosterValue}
 use Rattle.lk_leader.specs.Terms.{ReceivedPromise, ProposalValue, TermValue}
-pub use Rattle.lk_leader.specs.declared.reported_vote.ReportedVote.{ReportedVote}
+pub use Rattle.lk_leader.specs.declared.promised_vote.PromisedVote.{PromisedVote}
 
 -- a promise speaks for a position of this set: a member gave it, from the position or one before it on
 abbrev pub speaks_at : List Member → ℕ → ReceivedPromise → Bool
 speaks_at set i r = is_member r.node set && nat_le r.first i
 
 -- those of the promises that do
-abbrev pub reports_at : List Member → ℕ → List ReceivedPromise → List ReceivedPromise
-reports_at set i reports = filter (speaks_at set i) reports
+abbrev pub received_at : List Member → ℕ → List ReceivedPromise → List ReceivedPromise
+received_at set i received = filter (speaks_at set i) received
 
 -- what a promise reports of the position
-abbrev pub told_by : ℕ → ReceivedPromise → List ReportedVote
-told_by i r = map (λ x. record { node = r.node; vote = x }) (filter (λ x. x.position == i) r.votes)
+abbrev pub promised_by : ℕ → ReceivedPromise → List PromisedVote
+promised_by i r = map (λ x. record { node = r.node; vote = x }) (filter (λ x. x.position == i) r.votes)
 
 -- what these promises report of it
-abbrev pub told_at : ℕ → List ReceivedPromise → List ReportedVote
-told_at i reports = flat_map (told_by i) reports
+abbrev pub promised_at : ℕ → List ReceivedPromise → List PromisedVote
+promised_at i received = flat_map (promised_by i) received
 
 -- the second counts at least as much: a greater ballot, or the same one reported by a node that is not greater
-abbrev pub IsNotAbove : ReportedVote → ReportedVote → Type 0
+abbrev pub IsNotAbove : PromisedVote → PromisedVote → Type 0
 IsNotAbove u t = IsBelow u.vote.ballot t.vote.ballot ⊎ ((u.vote.ballot ≡ t.vote.ballot) × (t.node ≤ u.node))
 
 -- one of them, and none is above it
-pub record IsHighest (ts : List ReportedVote) (t : ReportedVote) : Type 0 where
+pub record IsHighest (ts : List PromisedVote) (t : PromisedVote) : Type 0 where
   pub among : Contains ts t
-  pub above : (u : ReportedVote) → Contains ts u → IsNotAbove u t
+  pub above : (u : PromisedVote) → Contains ts u → IsNotAbove u t
 
 -- the highest of them, or none if there are none
-abbrev pub IsBest : List ReportedVote → Option ReportedVote → Type 0
+abbrev pub IsBest : List PromisedVote → Option PromisedVote → Type 0
 IsBest ts None = ts ≡ []
 IsBest ts (Some t) = IsHighest ts t
 
@@ -59,7 +59,7 @@ NoneIsNew executed ps waiting = (r : RequestValue) → Contains waiting r → Is
 
 -- some promise reports a vote at the position or after it
 abbrev pub has_vote_from : List ReceivedPromise → ℕ → Bool
-has_vote_from reports i = list_any (λ r. list_any (λ x. nat_le i x.position) r.votes) reports
+has_vote_from received i = list_any (λ r. list_any (λ x. nat_le i x.position) r.votes) received
 
 -- the last change is not in effect before the position
 abbrev pub is_changing_at : RosterValue → ℕ → Bool
@@ -69,14 +69,14 @@ is_changing_at roster i = nat_lt 0 roster.changed && nat_le i (roster.changed + 
 pub data IsLeadersValue (t : TermValue) (waiting : List RequestValue) (roster : RosterValue) (set : List Member)
     (i : ℕ) : Command → Type 0 where
   -- the highest vote that a member's promise reports for the position
-  highest : (h : ReportedVote) → IsHighest (told_at i (reports_at set i t.reports)) h
+  highest : (h : PromisedVote) → IsHighest (promised_at i (received_at set i t.received)) h
       → IsLeadersValue t waiting roster set i h.vote.command
   -- if none is reported, the first waiting request that is not under way
-  first_new : (q : RequestValue) → told_at i (reports_at set i t.reports) ≡ []
+  first_new : (q : RequestValue) → promised_at i (received_at set i t.received) ≡ []
       → IsFirstNew roster.executed t.proposals waiting q
       → IsLeadersValue t waiting roster set i (Request q)
   -- otherwise a no-op, if a promise reports a vote at it or after it, or the last change of members is not in effect
   -- before it
-  fills : told_at i (reports_at set i t.reports) ≡ [] → NoneIsNew roster.executed t.proposals waiting
-      → IsTrue (has_vote_from t.reports i || is_changing_at roster i)
+  fills : promised_at i (received_at set i t.received) ≡ [] → NoneIsNew roster.executed t.proposals waiting
+      → IsTrue (has_vote_from t.received i || is_changing_at roster i)
       → IsLeadersValue t waiting roster set i Noop

@@ -7,9 +7,9 @@ ghost use Rattle.lk_members.specs.Effects.{Command, RequestValue, Noop, Request}
 ghost use Rattle.lk_members.specs.Rosters.{Genesis, members};
 ghost use Rattle.lk_members.specs.Majorities.{IsMajority};
 ghost use Rattle.lk_members.specs.Windows.{RosterValue, RosterSumsUp};
-ghost use Rattle.lk_agreement_laws.specs.Soundness.{IsReported};
+ghost use Rattle.lk_agreement_laws.specs.Soundness.{IsPromisedVote};
 ghost use Rattle.lk_agreement_laws.specs.Nodes.{Term, new_term};
-ghost use Rattle.lk_agreement_laws.specs.Changes.{MayPropose, with_report, with_proposal, with_acceptance};
+ghost use Rattle.lk_agreement_laws.specs.Changes.{MayPropose, with_received, with_proposal, with_acceptance};
 ghost use Rattle.lk_leader.specs.Terms.{ReceivedPromise, ProposalValue, TermValue, begun, with_proposals};
 ghost use Rattle.lk_leader.specs.Terms as terms;
 ghost use Rattle.lk_leader.specs.Values.{IsLeadersValue};
@@ -28,7 +28,7 @@ pub fn what_is_proposed_is_allowed()
     ensures asked { (executed alpha : ℕ) (t : Term) (k : TermValue) (waiting : List RequestValue)
         (roster : RosterValue) (set : List Member) (i : ℕ) (v : Command)
         → AgreesWithTerm executed alpha t k → IsLeadersValue k waiting roster set i v
-        → ((x : Vote) × IsReported t.reports x × (x.command ≡ v))
+        → ((x : Vote) × IsPromisedVote t.received x × (x.command ≡ v))
         ⊎ (((q : RequestValue) × Contains waiting q × (v ≡ Request q)) ⊎ (v ≡ Noop)) }
 {}
 
@@ -55,7 +55,7 @@ pub fn a_leader_keeps_its_term()
         → AgreesWithTerm executed alpha t k → AgreesWithTerm later alpha t k }
     ensures hears { (executed alpha : ℕ) (t : Term) (k : TermValue) (r : ReceivedPromise)
         → AgreesWithTerm executed alpha t k
-        → AgreesWithTerm executed alpha (with_report t r) (terms.with_report r k) }
+        → AgreesWithTerm executed alpha (with_received t r) (terms.with_received r k) }
     ensures proposes { (t : Term) (k : TermValue) (roster : RosterValue) (i : ℕ) (v : Command)
         → IsNext roster k.proposals i → AgreesWithTerm roster.executed (length roster.sets) t k
         → AgreesWithTerm roster.executed (length roster.sets) (with_proposal t (i, v)) (proposed roster i v k) }

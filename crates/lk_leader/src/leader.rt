@@ -4,8 +4,9 @@ ghost use Rattle.std.specs.Option.{option_copied, option_map};
 ghost use Rattle.lk_types.specs.Ballots.{IsBelow};
 ghost use Rattle.lk_types.specs.declared.member.Member.{Member as MemberValue};
 ghost use Rattle.lk_leader.specs.Waits.{asked, waiting_of, number_up_to, left_by};
-ghost use Rattle.lk_leader.specs.Terms.{LeaderValue, TermValue, ProposalValue, Command as CommandValue, idle, begun};
-ghost use Rattle.lk_leader.specs.Terms.{with_term, with_report, with_proposals, is_promiser, IsFirstOf, has_term};
+ghost use Rattle.lk_leader.specs.Terms.{LeaderValue, TermValue, ProposalValue, Command as CommandValue, new_leader};
+ghost use Rattle.lk_leader.specs.Terms.{begun};
+ghost use Rattle.lk_leader.specs.Terms.{with_term, with_received, with_proposals, is_promiser, IsFirstOf, has_term};
 ghost use Rattle.lk_leader.specs.Terms.{has_promise_of, silent_among};
 ghost use Rattle.lk_leader.specs.Proposing.{Leads, LeaderProposes, proposed};
 ghost use Rattle.lk_leader.specs.Acceptances.{IsVoteFor, heard_at, GainsMajority, IsOpen};
@@ -48,7 +49,7 @@ impl Model for Leader {
 impl Leader {
     /// Creates a leader without a term or waiting requests. Takes no memory.
     pub fn new(alloc: Global) -> Leader
-        ensures { result ≡ idle }
+        ensures { result ≡ new_leader }
     {
         Leader {
             alloc,
@@ -91,7 +92,7 @@ impl Leader {
     ) -> Result<(), NoMemory>
         ensures kept { (t : TermValue) → IsFirstOf self.old roster.now node ballot t
             → OnOk result (self.new ≡ with_term
-            (with_report (record { node = node; first = first; votes = votes.now }) t) self.old) }
+            (with_received (record { node = node; first = first; votes = votes.now }) t) self.old) }
         ensures other { ((t : TermValue) → IsFirstOf self.old roster.now node ballot t → ⊥)
             → (self.new ≡ self.old) × (result ≡ Ok tt) }
         ensures err { OnErr result (self.new ≡ self.old) }
@@ -99,9 +100,9 @@ impl Leader {
         if !self.is_first(node, ballot, roster) {
             return Ok(());
         }
-        let report = ReceivedPromise::of(self.alloc, node, first, votes)?;
+        let promise = ReceivedPromise::of(self.alloc, node, first, votes)?;
         if let Some(term) = &mut self.term {
-            term.keep(report)?;
+            term.keep(promise)?;
         }
         Ok(())
     }
@@ -113,7 +114,7 @@ impl Leader {
         match &self.term {
             Some(term) => term.ballot() == ballot
                 && roster.is_in_window(node)
-                && !term.has_promised(node),
+                && !term.has_promise_of(node),
             None => false,
         }
     }
@@ -171,7 +172,7 @@ impl Leader {
 
     /// Ends the term, and forgets the waiting requests, if the ballot is above the term's.
     pub fn yield_to(&mut self, ballot: Ballot)
-        ensures above { (t : TermValue) → self.old.term ≡ Some t → IsBelow t.ballot ballot → self.new ≡ idle }
+        ensures above { (t : TermValue) → self.old.term ≡ Some t → IsBelow t.ballot ballot → self.new ≡ new_leader }
         ensures other { ((t : TermValue) → self.old.term ≡ Some t → IsBelow t.ballot ballot → ⊥) → self.new ≡ self.old }
     {
         if self.is_below(ballot) {
@@ -191,7 +192,7 @@ impl Leader {
 
     /// Ends the term, if there is one, and forgets the waiting requests.
     pub fn leave(&mut self)
-        ensures { self.new ≡ idle }
+        ensures { self.new ≡ new_leader }
     {
         self.term = None;
         self.waiting.clear();
@@ -239,11 +240,11 @@ impl Leader {
     }
 
     // Whether the term has a promise of the node.
-    fn has_promised(&self, node: NodeNo) -> bool
-        ensures { IsTrue result ↔ ((t : TermValue) × (self.now.term ≡ Some t) × (is_promiser node t.reports ≡ true)) }
+    fn has_promise_of(&self, node: NodeNo) -> bool
+        ensures { IsTrue result ↔ ((t : TermValue) × (self.now.term ≡ Some t) × (is_promiser node t.received ≡ true)) }
     {
         match &self.term {
-            Some(term) => term.has_promised(node),
+            Some(term) => term.has_promise_of(node),
             None => false,
         }
     }
@@ -252,7 +253,7 @@ impl Leader {
     fn is_silent(&self, node: NodeNo) -> bool
         ensures { result ≡ not (has_promise_of self.now.term node) }
     {
-        !self.has_promised(node)
+        !self.has_promise_of(node)
     }
 
     /// Those of the nodes whose promise the term does not have, in the same order.

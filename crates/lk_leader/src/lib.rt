@@ -5,9 +5,9 @@
 
 pub mod laws;
 mod leader;
+mod promised_vote;
 mod proposal;
 mod received_promise;
-mod reported_vote;
 mod term;
 mod waiting;
 

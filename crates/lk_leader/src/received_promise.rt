@@ -1,9 +1,9 @@
 ghost use Rattle.std.specs.Prelude.{◌≡◌, ◌≤◌, ◌==◌, ◌++◌, ◌∷◌, ◌&&◌, [], nat_le, IfOk, IsTrue, Some, List, Option};
 ghost use Rattle.std.specs.List.{list_any};
 ghost use Rattle.lk_members.specs.Rosters.{is_member};
-ghost use Rattle.lk_leader.specs.Values.{ReportedVote as ReportedVoteValue, IsBest, told_by};
+ghost use Rattle.lk_leader.specs.Values.{PromisedVote as ReportedVoteValue, IsBest, promised_by};
 
-use crate::reported_vote::{ReportedVote, better};
+use crate::promised_vote::{PromisedVote, better};
 use lk_messages::Votes;
 use lk_types::{Members, NoMemory, NodeNo, Position, Vote};
 use std::alloc::Global;
@@ -26,7 +26,7 @@ impl Model for ReceivedPromise {
 }
 
 impl ReceivedPromise {
-    // Creates a report with a copy of the votes.
+    // Creates a received promise with a copy of the votes.
     pub(crate) fn of(
         alloc: Global,
         node: NodeNo,
@@ -43,9 +43,9 @@ impl ReceivedPromise {
     pub(crate) fn best_vote(
         &self,
         position: Position,
-        best: Option<ReportedVote>,
-    ) -> Option<ReportedVote>
-        ensures { (ts : List ReportedVoteValue) → IsBest ts best → IsBest (ts ++ told_by position self.now) result }
+        best: Option<PromisedVote>,
+    ) -> Option<PromisedVote>
+        ensures { (ts : List ReportedVoteValue) → IsBest ts best → IsBest (ts ++ promised_by position self.now) result }
     {
         let mut best = best;
         for vote in &self.votes {

@@ -2,17 +2,19 @@ ghost use Rattle.std.specs.Prelude.{◌≡◌, ℕ, ◌<◌, ◌≤◌, ◌↔�
 ghost use Rattle.std.specs.Prelude.{IsTrue, IsSome, OnOk, OnErr, MatchOption, false, position as position_of};
 ghost use Rattle.std.specs.Option.{option_copied};
 ghost use Rattle.std.specs.List.{list_any};
-ghost use Rattle.lk_leader.specs.Terms.{begun, with_report, with_proposals, proposal_at, ProposalValue, is_promiser};
+ghost use Rattle.lk_leader.specs.Terms.{begun, with_received, with_proposals, proposal_at, ProposalValue, is_promiser};
 ghost use Rattle.lk_leader.specs.Terms.{BallotValue, Command as CommandValue};
-ghost use Rattle.lk_leader.specs.Values.{IsBest, told_at, reports_at, has_vote_from, is_changing_at, IsLeadersValue};
-ghost use Rattle.lk_leader.specs.Proposing.{promisers as those_who_promised, IsPromisedAt, IsElected, IsNext, Proposes};
+ghost use Rattle.lk_leader.specs.Values.{IsBest, promised_at, received_at, has_vote_from, is_changing_at};
+ghost use Rattle.lk_leader.specs.Values.{IsLeadersValue};
+ghost use Rattle.lk_leader.specs.Proposing.{promisers as those_who_promised, IsPromisedByMajority, IsElected, IsNext};
+ghost use Rattle.lk_leader.specs.Proposing.{Proposes};
 ghost use Rattle.lk_leader.specs.Proposing.{proposed};
 ghost use Rattle.lk_leader.specs.Acceptances.{heard_at, GainsMajority};
 ghost use Rattle.lk_members.specs.Majorities.{IsMajority};
 
+use crate::promised_vote::PromisedVote;
 use crate::proposal::Proposal;
 use crate::received_promise::ReceivedPromise;
-use crate::reported_vote::ReportedVote;
 use crate::waiting::Waiting;
 use arrayvec::ArrayVec;
 use lk_members::{Roster, is_majority};
@@ -25,7 +27,7 @@ use std::marker::Model;
 #[derive(Drop)]
 pub(crate) struct Term {
     ballot: RealBallot,
-    reports: Vec<ReceivedPromise>,
+    received: Vec<ReceivedPromise>,
     proposals: ArrayVec<Proposal, 16>,
 }
 
@@ -36,7 +38,7 @@ impl Model for Term {
 
     ghost Value = { TermValue };
 
-    ghost view = { λ t. record { ballot = t.ballot; reports = t.reports.items; proposals = t.proposals.items } };
+    ghost view = { λ t. record { ballot = t.ballot; received = t.received.items; proposals = t.proposals.items } };
 
     ghost invariant = { λ t. IsDistinct nat_eq (map (λ p. p.position) t.proposals.items) };
 }
@@ -48,7 +50,7 @@ impl Term {
     {
         Term {
             ballot,
-            reports: Vec::new(alloc),
+            received: Vec::new(alloc),
             proposals: ArrayVec::new(),
         }
     }
@@ -61,18 +63,18 @@ impl Term {
     }
 
     // Whether it has a promise of the node.
-    pub(crate) fn has_promised(&self, node: NodeNo) -> bool
-        ensures { result ≡ is_promiser node self.now.reports }
+    pub(crate) fn has_promise_of(&self, node: NodeNo) -> bool
+        ensures { result ≡ is_promiser node self.now.received }
     {
-        self.reports.iter().any(|report| report.node == node)
+        self.received.iter().any(|promise| promise.node == node)
     }
 
     // Appends a promise. A failed call changes nothing.
-    pub(crate) fn keep(&mut self, report: ReceivedPromise) -> Result<(), NoMemory>
-        ensures ok { OnOk result (self.new ≡ with_report report self.old) }
+    pub(crate) fn keep(&mut self, promise: ReceivedPromise) -> Result<(), NoMemory>
+        ensures ok { OnOk result (self.new ≡ with_received promise self.old) }
         ensures err { OnErr result (self.new ≡ self.old) }
     {
-        self.reports.push(report)?;
+        self.received.push(promise)?;
         Ok(())
     }
 
@@ -102,18 +104,18 @@ impl Term {
     }
 
     // Whether a majority of these members has promised, with a `first` that is at most the position.
-    fn is_promised(&self, position: Position, set: &Members) -> bool
-        ensures { IsTrue result ↔ IsMajority (those_who_promised set.now position self.now.reports) set.now }
+    fn is_promised_by_majority(&self, position: Position, set: &Members) -> bool
+        ensures { IsTrue result ↔ IsMajority (those_who_promised set.now position self.now.received) set.now }
     {
-        is_majority(set, promisers(&self.reports, position, set).as_slice())
+        is_majority(set, promisers(&self.received, position, set).as_slice())
     }
 
     // Whether `is_promised` holds for the position and its own members; false outside the window.
-    fn is_promised_at(&self, position: Position, roster: &Roster) -> bool
-        ensures { IsTrue result ↔ IsPromisedAt self.now roster.now position }
+    fn is_promised_by_majority_at(&self, position: Position, roster: &Roster) -> bool
+        ensures { IsTrue result ↔ IsPromisedByMajority self.now roster.now position }
     {
         match roster.members_at(position) {
-            Some(set) => self.is_promised(position, set),
+            Some(set) => self.is_promised_by_majority(position, set),
             None => false,
         }
     }
@@ -123,19 +125,19 @@ impl Term {
         ensures { IsTrue result ↔ IsElected self.now roster.now }
     {
         match Position::of(roster.executed().get() + 1) {
-            Some(next) => self.is_promised_at(next, roster),
+            Some(next) => self.is_promised_by_majority_at(next, roster),
             None => false,
         }
     }
 
     // Returns the vote of greatest ballot that promises of these members report at the position, if any does.
-    fn highest(&self, position: Position, set: &Members) -> Option<ReportedVote>
-        ensures { IsBest (told_at position (reports_at set.now position self.now.reports)) result }
+    fn highest(&self, position: Position, set: &Members) -> Option<PromisedVote>
+        ensures { IsBest (promised_at position (received_at set.now position self.now.received)) result }
     {
         let mut best = None;
-        for report in &self.reports {
-            if report.speaks_for(position, set) {
-                best = report.best_vote(position, best);
+        for promise in &self.received {
+            if promise.speaks_for(position, set) {
+                best = promise.best_vote(position, best);
             }
         }
         best
@@ -143,17 +145,17 @@ impl Term {
 
     // Whether some promise reports a vote at the position or a later one.
     fn has_vote_from(&self, position: Position) -> bool
-        ensures { result ≡ has_vote_from self.now.reports position }
+        ensures { result ≡ has_vote_from self.now.received position }
     {
-        self.reports
+        self.received
             .iter()
-            .any(|report| report.has_vote_from(position))
+            .any(|promise| promise.has_vote_from(position))
     }
 
     // Whether a no-op has to fill the position: a promise reports a vote there or later, or the last change of members
     // is not in effect before it. Neither may wait until clients ask for more.
     fn is_gap(&self, position: Position, roster: &Roster) -> bool
-        ensures { result ≡ (has_vote_from self.now.reports position || is_changing_at roster.now position) }
+        ensures { result ≡ (has_vote_from self.now.received position || is_changing_at roster.now position) }
     {
         self.has_vote_from(position) || is_changing(position, roster)
     }
@@ -188,7 +190,7 @@ impl Term {
     {
         let position = self.next_position(roster)?;
         let set = roster.members_at(position)?;
-        if !self.is_promised(position, set) {
+        if !self.is_promised_by_majority(position, set) {
             return None;
         }
         let command = self.value(position, set, waiting, roster)?;
@@ -241,13 +243,13 @@ impl Term {
 }
 
 // Returns the members of the set that have promised with a `first` that is at most the position.
-fn promisers(reports: &[ReceivedPromise], position: Position, set: &Members) -> ArrayVec<NodeNo, 7>
-    ensures { result.items ≡ those_who_promised set.now position reports.now }
+fn promisers(received: &[ReceivedPromise], position: Position, set: &Members) -> ArrayVec<NodeNo, 7>
+    ensures { result.items ≡ those_who_promised set.now position received.now }
 {
     let members = set.as_slice();
     let mut among = ArrayVec::new();
     for member in members {
-        if is_promiser_of(reports, member.node, position) {
+        if is_promiser_of(received, member.node, position) {
             among.push(member.node);
         }
     }
@@ -255,10 +257,12 @@ fn promisers(reports: &[ReceivedPromise], position: Position, set: &Members) -> 
 }
 
 // Whether the node has promised with a `first` that is at most the position.
-fn is_promiser_of(reports: &[ReceivedPromise], node: NodeNo, position: Position) -> bool
-    ensures { result ≡ list_any (λ r. r.node == node && nat_le r.first position) reports.now }
+fn is_promiser_of(received: &[ReceivedPromise], node: NodeNo, position: Position) -> bool
+    ensures { result ≡ list_any (λ r. r.node == node && nat_le r.first position) received.now }
 {
-    reports.iter().any(|report| report.is_from(node, position))
+    received
+        .iter()
+        .any(|promise| promise.is_from(node, position))
 }
 
 // Whether the last change of members is not in effect before the position, which is at most alpha above it. False if

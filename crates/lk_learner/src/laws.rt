@@ -90,7 +90,7 @@ pub fn parts_that_are_served_are_slices()
 
 /// A text gathered from parts that are slices of the snapshots of chosen lists, from whichever nodes, is a prefix of
 /// such a snapshot's text.
-pub fn what_is_gathered_begins_a_text()
+pub fn what_is_gathered_is_a_prefix()
     ensures { (genesis : Genesis) (sent : List Datagram) (text : List Command → List ℕ) (e : ℕ) (p : PartValue)
         (old : Option GatheredValue) (g : GatheredValue) → Sound genesis sent
         → IsSlice genesis sent text p.position p.total p.offset p.bytes

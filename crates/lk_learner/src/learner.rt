@@ -97,7 +97,7 @@ impl<M: Machine> Learner<M> {
     }
 
     /// Shows the prover that the kept pairs are of the next positions, one each, and that no command since the snapshot
-    /// is missing. Has no effect.
+    /// is missing. Does nothing at run time.
     pub fn facts(&self)
         ensures { IsLearner self.now }
     {

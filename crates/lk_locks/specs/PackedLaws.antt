@@ -233,10 +233,10 @@ again t fits = ap table_of_entries (entries_again t fits)
     ∙ ap (λ (m : Names). let x : Table = record { raised = t.raised; names = m } in x) (same_again t.names)
 
 -- the table of some bytes that were read
-pub takes : (bytes : List ℕ) (v : Versioned) → IsBytes bytes → whole read_table bytes ≡ Some v
+pub read_back : (bytes : List ℕ) (v : Versioned) → IsBytes bytes → whole read_table bytes ≡ Some v
     → let t : Table = record { raised = v.0; names = map.from_sorted v.1 } in IsTable t × (bytes ≡ table_text t)
 unfolding AreNames table_text
-takes bytes v h e =
+read_back bytes v h e =
     let t = whole_takes read_table packed_table Fits table_reads bytes v h e in
     let same : map.entries (map.from_sorted v.1) ≡ v.1 =
     map.entries-from_sorted (slice_cmp nat_cmp) v.1 (of_true _ t.0.1) in
@@ -248,7 +248,7 @@ takes bytes v h e =
 pub unpacked : (bytes : List ℕ) (t : Table) → IsBytes bytes → whole read_table bytes ≡ Some (parts_of t)
     → IsTable t × (table_text t ≡ bytes)
 unpacked bytes t h e =
-    let k = takes bytes (parts_of t) h e in
+    let k = read_back bytes (parts_of t) h e in
     let is : ◌≡◌ {A = Table} (record { raised = t.raised; names = map.from_sorted (map.entries t.names) }) t =
     ap (λ (m : Names). let x : Table = record { raised = t.raised; names = m } in x) (same_again t.names) in
     (subst IsTable is k.0, ap table_text (sym is) ∙ sym k.1)

@@ -70,7 +70,7 @@ impl Name {
         Name { bytes }
     }
 
-    // Brings into a proof that the bytes are a valid name. Does nothing at run time.
+    // Shows the prover that the bytes are a valid name. Does nothing at run time.
     pub(crate) fn facts(&self)
         ensures { IsName self.now }
     {

@@ -29,7 +29,7 @@ impl Model for Sharers {
     ghost inverse = { λ cs. record { clients = record { items = cs } } };
 }
 
-// Brings into a proof that each client is in its range. Does nothing at run time.
+// Shows the prover that each client is in its range. Does nothing at run time.
 fn facts_of(clients: &[ClientNo])
     ensures { AllByRecursion IsClient clients.now }
 {

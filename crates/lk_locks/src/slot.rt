@@ -34,7 +34,7 @@ fn held_without(clients: &Sharers, client: ClientNo) -> Holders
 }
 
 impl Holders {
-    // Brings into a proof that each part is in its range. Does nothing at run time.
+    // Shows the prover that each part is in its range. Does nothing at run time.
     pub(crate) fn facts(&self)
         ensures { IsHolders self.now }
     {
@@ -93,7 +93,7 @@ impl Holders {
 }
 
 impl Slot {
-    // Brings into a proof that each part is in its range. Does nothing at run time.
+    // Shows the prover that each part is in its range. Does nothing at run time.
     pub(crate) fn facts(&self)
         ensures { IsSlot self.now }
     {

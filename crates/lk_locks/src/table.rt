@@ -75,7 +75,7 @@ impl LockTable {
         self.slots.len()
     }
 
-    /// Brings into a proof that there are at most 512 names, and each part is in its range. Does nothing at run time.
+    /// Shows the prover that there are at most 512 names, and each part is in its range. Does nothing at run time.
     pub fn facts(&self)
         ensures { IsTable self.now }
     {

@@ -81,7 +81,7 @@ fn add_sharer(client: ClientNo, fence: Fence, clients: Sharers) -> Transition
 }
 
 // The result when a client shares a name that nobody holds, given the fence for it or why there is none.
-fn begin_sharing(client: ClientNo, fence: Result<Fence, Answer>) -> Transition
+fn first_share(client: ClientNo, fence: Result<Fence, Answer>) -> Transition
     ensures { result ≡ given Shared (Together (client ∷ [])) fence }
 {
     match fence {
@@ -99,9 +99,9 @@ fn share(client: ClientNo, slot: Option<Slot>, names: usize) -> Transition
     ensures { result ≡ shared client slot names }
 {
     match slot {
-        None => begin_sharing(client, first_fence(names)),
+        None => first_share(client, first_fence(names)),
         Some(Slot { fence, holders }) => match holders {
-            Holders::Nobody => begin_sharing(client, fence_after(fence)),
+            Holders::Nobody => first_share(client, fence_after(fence)),
             Holders::Alone(holder) => unchanged(Answer::Busy(holder, fence)),
             Holders::Together(clients) => add_sharer(client, fence, clients),
         },

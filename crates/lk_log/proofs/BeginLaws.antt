@@ -24,7 +24,7 @@ use Rattle.lk_store_format.proofs.Whole.{file_spelled, front_past}
 use Rattle.lk_store_format.proofs.StandingLaws.{base_stands}
 use Rattle.lk_log.specs.Images.{Image, MayLeaveBoth, IsLive, IsEmpty, Narrows, seen, SameMeaning}
 use Rattle.lk_log.specs.StoreValue.{pick}
-use Rattle.lk_log.specs.Stores.{first_base, IsWrittenOver, NarrowsOrBegins, OpensOn}
+use Rattle.lk_log.specs.Stores.{first_base, IsWrittenOver, NarrowsOrIsNew, OpensOn}
 use Rattle.lk_log.specs.declared.verdict.Verdict.TheVariants.{Empty}
 use Rattle.lk_log.proofs.ImageLaws.{each_side, is_live, Nothing, nothing_there, means_same}
 use Rattle.lk_log.proofs.Steps.{take_nil, left_front, take_within}
@@ -104,7 +104,7 @@ module _ (old new : Side → Disk) (h : HeaderValue) (text : List ℕ) (empty : 
   was_nothing = nothing_there (seen old) empty.0 empty.1
 
   pub begins : IsStored (Base (first_base h text)) → new B ≡ old B
-      → IsWrittenOver (old A) (spelling (Base (first_base h text))) (new A) → NarrowsOrBegins old new h text
+      → IsWrittenOver (old A) (spelling (Base (first_base h text))) (new A) → NarrowsOrIsNew old new h text
   begins fits same over image left =
       let b_front = left_front (old B) (image B) (subst (λ (d : Disk). MayLeave d (image B)) same (left B)) in
       let at_b : IsFile (image B) [] false =
@@ -154,14 +154,14 @@ module _ (old new : Side → Disk) (h : HeaderValue) (text : List ℕ) (empty : 
 
 -- nothing has changed
 pub begins_same : (old new : Side → Disk) (h : HeaderValue) (text : List ℕ) → ((s : Side) → new s ≡ old s)
-    → NarrowsOrBegins old new h text
+    → NarrowsOrIsNew old new h text
 begins_same old new h text same image left =
     inl (image, λ s. subst (λ (d : Disk). MayLeave d (image s)) (same s) (left s), λ v es m. m)
 
 -- nothing had changed before
 pub begins_after : (old mid new : Side → Disk) (h : HeaderValue) (text : List ℕ) → ((s : Side) → mid s ≡ old s)
-    → ((s : Side) → contents (mid s) ≡ contents (old s)) → NarrowsOrBegins mid new h text
-    → NarrowsOrBegins old new h text
+    → ((s : Side) → contents (mid s) ≡ contents (old s)) → NarrowsOrIsNew mid new h text
+    → NarrowsOrIsNew old new h text
 begins_after old mid new h text same seen_same then_on image left = elim (then_on image left) [
   | inl was ↦ inl (was.0, λ s. subst (λ (d : Disk). MayLeave d (was.0 s)) (same s) (was.1 s), was.2)
   | inr begun ↦ inr ((begun.0.0, means_same (seen mid) (seen old) Empty begun.0.0 seen_same begun.0.1), begun.1)
@@ -169,12 +169,12 @@ begins_after old mid new h text same seen_same then_on image left = elim (then_o
 
 -- what narrows begins nothing
 pub begins_narrows : (old new : Side → Disk) (h : HeaderValue) (text : List ℕ) → Narrows old new
-    → NarrowsOrBegins old new h text
+    → NarrowsOrIsNew old new h text
 begins_narrows old new h text n image left = inl (n image left)
 
 -- the disks of a store are those of its device
 pub begins_pick : (live : Side) (old new : Side → Disk) (h : HeaderValue) (text : List ℕ)
-    → NarrowsOrBegins old new h text → NarrowsOrBegins old (pick live (new live) (new (other live))) h text
+    → NarrowsOrIsNew old new h text → NarrowsOrIsNew old (pick live (new live) (new (other live))) h text
 begins_pick A old new h text all image left =
     all image (λ s. each_side (λ (t : Side). MayLeave (new t) (image t)) A (left A) (left B) s)
 begins_pick B old new h text all image left =

@@ -20,13 +20,13 @@ use Rattle.lk_store_format.proofs.Mixed.{mixed-take}
 use Rattle.lk_store_format.proofs.OneStanding as one
 use Rattle.lk_store_format.proofs.Spelling.{all-left, none_begins_nil}
 use Rattle.lk_store_format.proofs.StandingLaws as standings
-use Rattle.lk_log.specs.EveryImage.{AllMean, EveryFound, NarrowsOrBeganSome}
+use Rattle.lk_log.specs.EveryImage.{AllMean, EveryFound, NarrowsOrIsNewForSome}
 use Rattle.lk_log.specs.Images.{Image, MayLeaveBoth, Means, IsLive, IsEmpty, IsDamaged, SameMeaning, seen}
 use Rattle.lk_log.specs.StoreValue.{StoreValue, pick, disks}
 use Rattle.lk_log.specs.Rooms.{StaysWithin}
 use Rattle.lk_log.specs.Stores.{HoldsEntries, KeepsAtLeast, KeepsAtLeastOn, KeepsBothDisks, KeepsOrIs, first_base}
 use Rattle.lk_log.specs.Stores.{Found}
-use Rattle.lk_log.specs.Stores.{NarrowsOrBegins, Opens}
+use Rattle.lk_log.specs.Stores.{NarrowsOrIsNew, Opens}
 use Rattle.lk_log.specs.declared.verdict.Verdict.{Verdict}
 use Rattle.lk_log.specs.declared.verdict.Verdict.TheVariants.{Live, Empty, Damaged}
 use Rattle.lk_log.proofs.ImageLaws as images
@@ -428,8 +428,8 @@ pub every_means : (P : List Stored → Type 0) (disks : Side → Disk) (whose : 
 every_means P disks whose text every image left = let e = every image left in found_means image whose text e.0 e.1
 
 -- what one opening leaves, openings in a row may leave
-pub opening_is : (old new : Side → Disk) (whose : HeaderValue) (text : List ℕ) → NarrowsOrBegins old new whose text
-    → NarrowsOrBeganSome old new whose text
+pub opening_is : (old new : Side → Disk) (whose : HeaderValue) (text : List ℕ) → NarrowsOrIsNew old new whose text
+    → NarrowsOrIsNewForSome old new whose text
 opening_is old new whose text n image left = elim (n image left) [
   | inl was ↦ inl was
   | inr begun ↦ inr ((seen old, seen_left old, begun.0), begun.1)
@@ -437,8 +437,8 @@ opening_is old new whose text n image left = elim (n image left) [
 
 -- one opening after another, Ok or refused
 pub openings : (old mid new : Side → Disk) (whose : HeaderValue) (text : List ℕ) → AllMean old
-    → NarrowsOrBeganSome old mid whose text → NarrowsOrBeganSome mid new whose text
-    → NarrowsOrBeganSome old new whose text
+    → NarrowsOrIsNewForSome old mid whose text → NarrowsOrIsNewForSome mid new whose text
+    → NarrowsOrIsNewForSome old new whose text
 openings old mid new whose text mean first second image left = elim (second image left) [
   | inl was ↦ elim (first was.0 was.1) [
     | inl w ↦ inl (w.0, w.1, λ v es m. was.2 v es (w.2 v es m))
@@ -456,7 +456,7 @@ openings old mid new whose text mean first second image left = elim (second imag
 
 -- what every image has, every image has after openings
 pub openings_every : (P : List Stored → Type 0) (old new : Side → Disk) (whose : HeaderValue) (text : List ℕ)
-    → NarrowsOrBeganSome old new whose text → EveryFound old whose text P → EveryFound new whose text P
+    → NarrowsOrIsNewForSome old new whose text → EveryFound old whose text P → EveryFound new whose text P
 openings_every P old new whose text n every image left = elim (n image left) [
   | inl was ↦ let e = every was.0 was.1 in (e.0, same_found was.0 image whose text e.0 was.2 e.1, e.2)
   | inr begun ↦
@@ -466,7 +466,7 @@ openings_every P old new whose text n every image left = elim (n image left) [
 
 -- so after one
 pub opening_every : (P : List Stored → Type 0) (old new : Side → Disk) (whose : HeaderValue) (text : List ℕ)
-    → NarrowsOrBegins old new whose text → EveryFound old whose text P → EveryFound new whose text P
+    → NarrowsOrIsNew old new whose text → EveryFound old whose text P → EveryFound new whose text P
 opening_every P old new whose text n = openings_every P old new whose text (opening_is old new whose text n)
 
 -- what an opening found has what every image had

@@ -20,9 +20,9 @@ EveryFound disks whose zero P =
     (image : Image) → MayLeaveBoth disks image → (es : List Stored) × Found image whose zero es × P es
 
 -- Each image of the new disks has the verdict and the entries of some image of the old ones, or is a new store if some
--- image of the old ones was empty. `NarrowsOrBegins` of one opening is about the image that it read; this holds for
+-- image of the old ones was empty. `NarrowsOrIsNew` of one opening is about the image that it read; this holds for
 -- several openings in a row.
-abbrev pub NarrowsOrBeganSome : (Side → Disk) → (Side → Disk) → HeaderValue → List ℕ → Type 0
-NarrowsOrBeganSome old new whose zero = (image : Image) → MayLeaveBoth new image
+abbrev pub NarrowsOrIsNewForSome : (Side → Disk) → (Side → Disk) → HeaderValue → List ℕ → Type 0
+NarrowsOrIsNewForSome old new whose zero = (image : Image) → MayLeaveBoth new image
     → ((before : Image) × MayLeaveBoth old before × SameMeaning before image)
     ⊎ (((empty : Image) × MayLeaveBoth old empty × IsEmpty empty) × IsLive image (Base (first_base whose zero) ∷ []))

@@ -186,8 +186,8 @@ pub record Shows (before : Image) (generation_number format_number : ℕ) (stand
 
 -- each image of the new disks has the verdict and the entries of some image of the old ones, or is a new store if there
 -- was none
-abbrev pub NarrowsOrBegins : (Side → Disk) → (Side → Disk) → HeaderValue → List ℕ → Type 0
-NarrowsOrBegins old new h zero = (image : Image) → MayLeaveBoth new image
+abbrev pub NarrowsOrIsNew : (Side → Disk) → (Side → Disk) → HeaderValue → List ℕ → Type 0
+NarrowsOrIsNew old new h zero = (image : Image) → MayLeaveBoth new image
     → ((before : Image) × MayLeaveBoth old before × SameMeaning before image)
     ⊎ (IsEmpty (seen old) × IsLive image (Base (first_base h zero) ∷ []))
 

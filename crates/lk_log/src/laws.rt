@@ -9,10 +9,10 @@ ghost use Rattle.lk_store_format.specs.Standings.{StandsFor, with_plain};
 ghost use Rattle.lk_store_format.specs.Values.{HeaderValue, StandingValue};
 ghost use Rattle.lk_store_format.specs.declared.stored.Stored.{Stored};
 ghost use Rattle.lk_store_format.specs.declared.stored.Stored.TheVariants.{Plain};
-ghost use Rattle.lk_log.specs.EveryImage.{EveryFound, AllMean, NarrowsOrBeganSome};
+ghost use Rattle.lk_log.specs.EveryImage.{EveryFound, AllMean, NarrowsOrIsNewForSome};
 ghost use Rattle.lk_log.specs.Images.{Image, MayLeaveBoth, Means, IsLive, IsEmpty, seen};
 ghost use Rattle.lk_log.specs.StoreValue.{StoreValue, disks};
-ghost use Rattle.lk_log.specs.Stores.{HoldsEntries, KeepsAtLeast, NarrowsOrBegins};
+ghost use Rattle.lk_log.specs.Stores.{HoldsEntries, KeepsAtLeast, NarrowsOrIsNew};
 ghost use Rattle.lk_log.specs.declared.verdict.Verdict.{Verdict};
 
 /// Two files have only one verdict (damaged, empty, or one of them is live), and only one list of whole entries each.
@@ -52,12 +52,12 @@ pub fn what_is_read()
 /// Several openings in a row, successful or not, leave only images that one opening may leave, and preserve any
 /// decidable property that every image has.
 pub fn openings()
-    ensures one { (old new : Side → Disk) (whose : HeaderValue) (text : List ℕ) → NarrowsOrBegins old new whose text
-        → NarrowsOrBeganSome old new whose text }
+    ensures one { (old new : Side → Disk) (whose : HeaderValue) (text : List ℕ) → NarrowsOrIsNew old new whose text
+        → NarrowsOrIsNewForSome old new whose text }
     ensures more { (old mid new : Side → Disk) (whose : HeaderValue) (text : List ℕ) → AllMean old
-        → NarrowsOrBeganSome old mid whose text → NarrowsOrBeganSome mid new whose text
-        → NarrowsOrBeganSome old new whose text }
+        → NarrowsOrIsNewForSome old mid whose text → NarrowsOrIsNewForSome mid new whose text
+        → NarrowsOrIsNewForSome old new whose text }
     ensures keep { (old new : Side → Disk) (whose : HeaderValue) (text : List ℕ) (test : List Stored → Bool)
-        → NarrowsOrBeganSome old new whose text
+        → NarrowsOrIsNewForSome old new whose text
         → EveryFound old whose text (λ es. test es ≡ true) → EveryFound new whose text (λ es. test es ≡ true) }
 {}

@@ -17,7 +17,7 @@ ghost use Rattle.lk_log.specs.Images.{IsEmpty, IsDamaged, seen};
 ghost use Rattle.lk_log.specs.Rooms.{StaysWithin};
 ghost use Rattle.lk_log.specs.StoreValue.{disks};
 ghost use Rattle.lk_log.specs.Stores.{first_base, cut_calls, OpensBy, FoundLive, IsWrittenOver, OpensOn, Opens};
-ghost use Rattle.lk_log.specs.Stores.{IsOpened, StaysDamaged, StaysWrong, Shows, NarrowsOrBegins, HasStanding};
+ghost use Rattle.lk_log.specs.Stores.{IsOpened, StaysDamaged, StaysWrong, Shows, NarrowsOrIsNew, HasStanding};
 ghost use Rattle.lk_log.specs.Stores.{StandsForSome};
 
 use crate::fault::{OpenFault, ReopenFault};
@@ -90,7 +90,7 @@ fn first_base(alloc: Global, header: &Header, zero: &[u8]) -> Result<Base, Alloc
 }
 
 // Begins a new store: writes its Base over file A, and syncs it.
-fn begin_store<D: LogDisk>(
+fn create_store<D: LogDisk>(
     alloc: Global,
     device: &mut D,
     header: &Header,
@@ -102,7 +102,7 @@ fn begin_store<D: LogDisk>(
         → IfOk result (λ o. OpensOn (seen (D.disk device.old)) header.now zero.now (D.disk device.new o.live)
         (D.disk device.new (other o.live)) o.generation o.format o.standing) }
     ensures stays { D.is_honest → IsEmpty (seen (D.disk device.old))
-        → NarrowsOrBegins (D.disk device.old) (D.disk device.new) header.now zero.now }
+        → NarrowsOrIsNew (D.disk device.old) (D.disk device.new) header.now zero.now }
     ensures room { D.is_honest → StaysWithin max_base (D.disk device.old) (D.disk device.new) }
     ensures in_a { IfOk result (λ o. o.live ≡ A) }
     ensures is_new { IfOk result (λ o. o.is_new ≡ true) }
@@ -152,7 +152,7 @@ fn open<D: LogDisk>(
         (D.disk device.new (other o.live)) o.generation o.format o.standing) }
     ensures stays { D.is_honest → FoundLive (D.disk device.old) live file.entries.items file.end file.size
         → (whose : HeaderValue) (zero : List ℕ)
-        → NarrowsOrBegins (D.disk device.old) (D.disk device.new) whose zero }
+        → NarrowsOrIsNew (D.disk device.old) (D.disk device.new) whose zero }
     ensures room { D.is_honest → StaysWithin 0 (D.disk device.old) (D.disk device.new) }
     ensures is_old { IfOk result (λ o. o.is_new ≡ false) }
     ensures stands { IfOk result (λ o. StandsForSome o.standing) }
@@ -193,9 +193,9 @@ fn recover<D: LogDisk>(
     ensures opens { D.is_honest
         → IfOk result (λ o. OpensOn (seen (D.disk device.old)) header.now zero.now (D.disk device.new o.live)
         (D.disk device.new (other o.live)) o.generation o.format o.standing) }
-    ensures stays { D.is_honest → NarrowsOrBegins (D.disk device.old) (D.disk device.new) header.now zero.now }
+    ensures stays { D.is_honest → NarrowsOrIsNew (D.disk device.old) (D.disk device.new) header.now zero.now }
     ensures room { D.is_honest → StaysWithin max_base (D.disk device.old) (D.disk device.new) }
-    ensures begun { D.is_honest → IsEmpty (seen (D.disk device.old)) → IfOk result (λ o. o.live ≡ A) }
+    ensures starts_in_a { D.is_honest → IsEmpty (seen (D.disk device.old)) → IfOk result (λ o. o.live ≡ A) }
     ensures is_new { D.is_honest → IfOk result (λ o. IsTrue o.is_new ↔ IsEmpty (seen (D.disk device.old))) }
     ensures stands { IfOk result (λ o. StandsForSome o.standing) }
     ensures damaged { D.is_honest → IsErrOf result OpenFault.Damaged
@@ -214,7 +214,7 @@ fn recover<D: LogDisk>(
             }
             open(alloc, device, live, file)
         }
-        None => begin_store(alloc, device, header, zero),
+        None => create_store(alloc, device, header, zero),
     }
 }
 
@@ -237,14 +237,14 @@ pub fn reopen<D: LogDisk + Drop>(
     ensures open { IfOk result (λ r. IsOpened header.now r.store r.standing) }
     // However it ends, each image has the verdict and the entries of an image before it, or is a new store.
     ensures stays { D.is_honest → MatchResult result
-        (λ r. NarrowsOrBegins (D.disk device) (disks r.store) header.now zero.now)
-        (λ e. NarrowsOrBegins (D.disk device) (D.disk e.device) header.now zero.now) }
+        (λ r. NarrowsOrIsNew (D.disk device) (disks r.store) header.now zero.now)
+        (λ e. NarrowsOrIsNew (D.disk device) (D.disk e.device) header.now zero.now) }
     // However it ends, neither file has grown, except up to the size of a Base.
     ensures room { D.is_honest
         → MatchResult result (λ r. StaysWithin max_base (D.disk device) (disks r.store))
         (λ e. StaysWithin max_base (D.disk device) (D.disk e.device)) }
     // A store is new exactly if there was no Base, and then begins in A.
-    ensures begun { D.is_honest → IsEmpty (seen (D.disk device)) → IfOk result (λ r. r.store.live ≡ A) }
+    ensures starts_in_a { D.is_honest → IsEmpty (seen (D.disk device)) → IfOk result (λ r. r.store.live ≡ A) }
     ensures is_new { D.is_honest → IfOk result (λ r. IsTrue r.is_new ↔ IsEmpty (seen (D.disk device))) }
     // A damaged store and another's are unchanged.
     ensures damaged { D.is_honest

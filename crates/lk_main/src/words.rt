@@ -29,7 +29,7 @@ use lk_script::script::run_to_end;
 use lk_script_lines::fault::ScriptFault;
 use lk_sim_dump::node_state::run_to_state;
 use lk_status_command::status::status;
-use lk_transport::fault::ServiceFault;
+use lk_transport::fault::ProgramFault;
 use log::sink::{Console, Discard};
 use log::{Level, Log, Logged};
 use std::alloc::Global;
@@ -174,7 +174,7 @@ fn run_ask_words<R: Files<File = File> + Net, W: Write, E: Write>(
     let plan = match ask_plan(alloc, matches) {
         Ok(Ok(plan)) => plan,
         Ok(Err(error)) => return write_argument_error(&error, err),
-        Err(_) => return ServiceFault::NoMemory.write_to(err),
+        Err(_) => return ProgramFault::NoMemory.write_to(err),
     };
     warn_of_name(matches.get_strs("op").unwrap_or(&[]), err);
     run_ask(rt, alloc, plan, out, err)

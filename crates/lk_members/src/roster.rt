@@ -69,7 +69,7 @@ impl Roster {
         })
     }
 
-    /// Brings into a proof that each part is in its range. Does nothing at run time.
+    /// Shows the prover that each part is in its range. Does nothing at run time.
     pub fn facts(&self)
         ensures { IsRoster self.now }
     {

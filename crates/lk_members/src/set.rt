@@ -9,7 +9,7 @@ use arrayvec::ArrayVec;
 use lk_types::limits::MAX_MEMBERS;
 use lk_types::{Member, Members, NodeNo, Port};
 
-/// Brings into a proof that each part of the set is in its range. Does nothing at run time.
+/// Shows the prover that each part of the set is in its range. Does nothing at run time.
 pub fn facts_of(set: &Members)
     ensures { IsSet set.now }
 {

@@ -68,8 +68,8 @@ impl MemorySocket {
     }
 
     /// Removes and returns what was sent, in order.
-    pub fn take_sent(&mut self) -> Vec<MemoryDatagram>
-        ensures taken { result.items ≡ self.old.sent.items }
+    pub fn drain_sent(&mut self) -> Vec<MemoryDatagram>
+        ensures drained { result.items ≡ self.old.sent.items }
         ensures others { self.new ≡ record self.old { sent = self.new.sent } }
         ensures left { self.new.sent.items ≡ [] }
     {

@@ -24,7 +24,7 @@ impl Model for Decided {
     ghost invariant = { λ d. IsDecided (record { first = d.first; commands = d.commands.items }) };
 }
 
-// Proves that each command is in its range, for the caller's contract. Has no effect.
+// Shows the prover that each command is in its range. Does nothing at run time.
 fn commands_facts(commands: &[Command])
     ensures { AllByRecursion IsCommand commands.now }
 {
@@ -62,8 +62,7 @@ impl Decided {
         (self.first, &self.commands)
     }
 
-    /// Proves that each part is in its range and no command past the last position, for the caller's contract. Has no
-    /// effect.
+    /// Shows the prover that each part is in its range and no command past the last position. Does nothing at run time.
     pub fn facts(&self)
         ensures { IsDecided self.now }
     {

@@ -59,7 +59,7 @@ impl Want {
         self.offset
     }
 
-    /// Proves that each part is in its range, for the caller's contract. Has no effect.
+    /// Shows the prover that each part is in its range. Does nothing at run time.
     pub fn facts(self)
         ensures { IsWant self }
     {}
@@ -123,8 +123,7 @@ impl Passed {
         self.last
     }
 
-    /// Proves that each part is in its range and the last number above the other, for the caller's contract. Has no
-    /// effect.
+    /// Shows the prover that each part is in its range and the last number above the other. Does nothing at run time.
     pub fn facts(self)
         ensures { IsPassed self }
     {}
@@ -194,7 +193,7 @@ pub struct Message {
 impl NodeMessage {
     ghost use Rattle.lk_messages.specs.Grammar.{IsNodeMessage};
 
-    /// Proves that each part is in its range, for the caller's contract. Has no effect.
+    /// Shows the prover that each part is in its range. Does nothing at run time.
     pub fn facts(&self)
         ensures { IsNodeMessage self.now }
     {
@@ -229,7 +228,7 @@ impl NodeMessage {
 impl Content {
     ghost use Rattle.lk_messages.specs.Grammar.{IsContent};
 
-    /// Proves that each part is in its range, for the caller's contract. Has no effect.
+    /// Shows the prover that each part is in its range. Does nothing at run time.
     pub fn facts(&self)
         ensures { IsContent self.now }
     {
@@ -246,7 +245,7 @@ impl Content {
 impl Message {
     ghost use Rattle.lk_messages.specs.Grammar.{IsMessage};
 
-    /// Proves that each part is in its range, for the caller's contract. Has no effect.
+    /// Shows the prover that each part is in its range. Does nothing at run time.
     pub fn facts(&self)
         ensures { IsMessage self.now }
     {

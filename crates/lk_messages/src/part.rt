@@ -72,7 +72,7 @@ impl Part {
         (self.position, self.total, self.offset, &self.bytes)
     }
 
-    /// Proves that each part is in its range and the piece within its total, for the caller's contract. Has no effect.
+    /// Shows the prover that each part is in its range and the piece within its total. Does nothing at run time.
     pub fn facts(&self)
         ensures { IsPart self.now }
     {
@@ -164,7 +164,7 @@ impl<'a> PartRef<'a> {
         self.bytes
     }
 
-    /// Proves that each part is in its range and the piece within its total, for the caller's contract. Has no effect.
+    /// Shows the prover that each part is in its range and the piece within its total. Does nothing at run time.
     pub fn facts(&self)
         ensures { IsPart self.now }
     {

@@ -32,7 +32,7 @@ impl Model for Promise {
     ghost invariant = { λ p. IsPromise (record { ballot = p.ballot; first = p.first; votes = p.votes.items }) };
 }
 
-// Proves that each vote is in its range, for the caller's contract. Has no effect.
+// Shows the prover that each vote is in its range. Does nothing at run time.
 fn votes_facts(votes: &[Vote])
     ensures { AllByRecursion IsVote votes.now }
 {
@@ -87,8 +87,7 @@ impl Promise {
         (self.ballot, self.first, &self.votes)
     }
 
-    /// Proves that each part is in its range and the votes rise from `first` on, for the caller's contract. Has no
-    /// effect.
+    /// Shows the prover that each part is in its range and the votes rise from `first` on. Does nothing at run time.
     pub fn facts(&self)
         ensures { IsPromise self.now }
     {

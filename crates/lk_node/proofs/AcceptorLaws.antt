@@ -33,7 +33,7 @@ use Rattle.lk_node_interface.specs.declared.note.Note.{Note}
 use Rattle.lk_node.specs.Responding.{with_acceptor, replied, reply_to, Responds}
 use Rattle.lk_node.specs.Entries.{Rests}
 use Rattle.lk_node.specs.Histories.{History, Genesis, Datagram, IsLawful}
-use Rattle.lk_node.specs.Keeping.{TellsDecided, IsKnown}
+use Rattle.lk_node.specs.Keeping.{IsDecidedEntry, IsKnown}
 use Rattle.lk_node.specs.NodeValue.{NodeValue}
 use Rattle.lk_node.specs.Saying.{to_node}
 use Rattle.lk_node.specs.BorneOut.{BearsOutMessage}
@@ -64,7 +64,7 @@ no_rebase (Some x) e = cc e
 
 pub moves_goes_on : (m : Meaning) (Heard : History → Type 0) (node : NodeValue) (a : AcceptorValue) (o : Option Entry)
     → a.state ≡ with_written o node.acceptor.state
-    → ((e : Entry) → o ≡ Some e → TellsDecided e → ⊥)
+    → ((e : Entry) → o ≡ Some e → IsDecidedEntry e → ⊥)
     → ((h : History) (n : ℕ) → IsLawful m h → Heard h → Moves h n node.acceptor.state a.state o)
     → ActsSafely m Heard node (with_acceptor node a) nothing (with_optional o nothing)
 moves_goes_on m Heard node a o written binding moves = record {
@@ -75,7 +75,7 @@ moves_goes_on m Heard node a o written binding moves = record {
     still = λ e. absurd (no_rebase o e);
     tells = λ l c. absurd (none l (subst (λ ls. Contains ls l) (optional_entries o) c));
   };
-  serves = λ h n loose s heard.
+  continues = λ h n loose s heard.
       let v = moves h n s.lawful heard in
       record {
         lawful = s.lawful;
@@ -100,7 +100,7 @@ moves_goes_on m Heard node a o written binding moves = record {
         };
         rests = all_rest h o v.rests;
         known = s.known;
-        news = all_known o binding s.holding.paxos;
+        known_unsynced = all_known o binding s.holding.paxos;
         may = λ d c. absurd (no_datagram n d (subst (λ ls. Contains (batch_of n ls) d) (optional_entries o) c));
         noted = λ x c. absurd (no_note x (subst (λ ns. Contains ns x) (optional_notes o) c));
       };
@@ -119,23 +119,23 @@ moves_goes_on m Heard node a o written binding moves = record {
     one None s = refl
     one (Some e) s = refl
 
-    all_decided : (o : Option Entry) → ((e : Entry) → o ≡ Some e → TellsDecided e → ⊥)
-        → (with_optional o nothing).sync ≡ false → AllByRecursion TellsDecided (with_optional o nothing).entries
+    all_decided : (o : Option Entry) → ((e : Entry) → o ≡ Some e → IsDecidedEntry e → ⊥)
+        → (with_optional o nothing).sync ≡ false → AllByRecursion IsDecidedEntry (with_optional o nothing).entries
     all_decided None b e = tt
     all_decided (Some k) b e = by_kind k b e
       where
-        by_kind : (k : Entry) → ((e : Entry) → Some k ≡ Some e → TellsDecided e → ⊥)
-            → (with_optional (Some k) nothing).sync ≡ false → AllByRecursion TellsDecided (k ∷ [])
+        by_kind : (k : Entry) → ((e : Entry) → Some k ≡ Some e → IsDecidedEntry e → ⊥)
+            → (with_optional (Some k) nothing).sync ≡ false → AllByRecursion IsDecidedEntry (k ∷ [])
         by_kind (entry.Promise x) b e = absurd (cc e)
         by_kind (entry.Vote x) b e = absurd (cc e)
         by_kind (entry.Decided i c) b e = (tt, tt)
 
-    all_known : (o : Option Entry) → ((e : Entry) → o ≡ Some e → TellsDecided e → ⊥) → (w : PaxosState)
+    all_known : (o : Option Entry) → ((e : Entry) → o ≡ Some e → IsDecidedEntry e → ⊥) → (w : PaxosState)
         → (with_optional o nothing).sync ≡ false → AllByRecursion (IsKnown w) (with_optional o nothing).entries
     all_known None b w e = tt
     all_known (Some k) b w e = by_kind k b e
       where
-        by_kind : (k : Entry) → ((e : Entry) → Some k ≡ Some e → TellsDecided e → ⊥)
+        by_kind : (k : Entry) → ((e : Entry) → Some k ≡ Some e → IsDecidedEntry e → ⊥)
             → (with_optional (Some k) nothing).sync ≡ false → AllByRecursion (IsKnown w) (k ∷ [])
         by_kind (entry.Promise x) b e = absurd (cc e)
         by_kind (entry.Vote x) b e = absurd (cc e)
@@ -217,18 +217,18 @@ accept_moves m h n a e x r new lawful was ordered (inr refused) =
 
 -- their entries are promises and votes
 prepare_binding : (a : AcceptorValue) (e : ℕ) (b : BallotValue) (first : ℕ) (r : Response) (new : AcceptorValue)
-    → RepliesToPrepare a e b first r new → (x : Entry) → r.entry ≡ Some x → TellsDecided x → ⊥
+    → RepliesToPrepare a e b first r new → (x : Entry) → r.entry ≡ Some x → IsDecidedEntry x → ⊥
 prepare_binding a e b first r new (inl granted) x is decided = elim granted.1.entry [
-  | inl above ↦ subst TellsDecided (some_is x (entry.Promise b) (sym is ∙ above.1)) decided
+  | inl above ↦ subst IsDecidedEntry (some_is x (entry.Promise b) (sym is ∙ above.1)) decided
   | inr same ↦ none_is x (sym same.1 ∙ is)
 ]
 prepare_binding a e b first r new (inr refused) x is decided = none_is x (sym refused.1.entry ∙ is)
 
 accept_binding : (a : AcceptorValue) (e : ℕ) (v : Vote) (r : Response) (new : AcceptorValue)
-    → RepliesToAccept a e v r new → (x : Entry) → r.entry ≡ Some x → TellsDecided x → ⊥
+    → RepliesToAccept a e v r new → (x : Entry) → r.entry ≡ Some x → IsDecidedEntry x → ⊥
 accept_binding a e v r new (inl granted) x is decided = elim granted.1.entry [
   | inl listed ↦ none_is x (sym listed.1 ∙ is)
-  | inr fresh ↦ subst TellsDecided (some_is x (entry.Vote v) (sym is ∙ fresh.1)) decided
+  | inr fresh ↦ subst IsDecidedEntry (some_is x (entry.Vote v) (sym is ∙ fresh.1)) decided
 ]
 accept_binding a e v r new (inr refused) x is decided = none_is x (sym refused.1.entry ∙ is)
 
@@ -270,7 +270,7 @@ replied_alike m Heard reply node out = by_test (is_granted reply)
 responds_goes_on : (m : Meaning) (Heard : History → Type 0) (old new : NodeValue) (from : ℕ)
     (Gives : Response → AcceptorValue → Type 0) (out : OutboxValue) (k : Responds old from Gives new out)
     → k.acceptor.state ≡ with_written k.response.entry old.acceptor.state
-    → ((e : Entry) → k.response.entry ≡ Some e → TellsDecided e → ⊥)
+    → ((e : Entry) → k.response.entry ≡ Some e → IsDecidedEntry e → ⊥)
     → ((h : History) (n : ℕ) → IsLawful m h → Heard h → Moves h n old.acceptor.state k.acceptor.state k.response.entry)
     → Covers k.acceptor.state k.response.reply
     → ((genesis : Genesis) (sent : List Datagram) (w : PaxosState) → w.acceptor ≡ k.acceptor.state

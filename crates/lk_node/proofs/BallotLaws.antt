@@ -8,7 +8,7 @@ use Rattle.lk_messages.specs.declared.message.NodeMessage.TheVariants as kinds
 use Rattle.lk_store_format.specs.Values.{HeaderValue}
 use Rattle.lk_state.specs.Meanings.{Meaning}
 use Rattle.lk_agreement_laws.specs.Acceptors.{AcceptorState}
-use Rattle.lk_agreement_laws.specs.Changes.{begins, holding_acceptor, in_term, with_promise}
+use Rattle.lk_agreement_laws.specs.Changes.{begins, holding_acceptor, with_paxos_term, with_promise}
 use Rattle.lk_agreement_laws.specs.Nodes.{Term, Pair, new_term}
 use Rattle.lk_agreement_laws.proofs.Histories.{change_fits}
 use Rattle.lk_acceptor.specs.States.{acceptor_with}
@@ -50,11 +50,12 @@ begins_goes_on m Heard node b own below = record {
     still = λ e. absurd (cc e);
     tells = λ l c. absurd (omega (arith, c.1));
   };
-  serves = λ h n loose s heard. record {
+  continues = λ h n loose s heard. record {
     lawful = s.lawful;
     whose = s.whose;
     holding = record {
-      paxos = in_term (holding_acceptor s.holding.paxos (with_promise s.holding.paxos.acceptor b)) (Some (new_term b));
+      paxos = with_paxos_term (holding_acceptor s.holding.paxos (with_promise s.holding.paxos.acceptor b)) (Some
+          (new_term b));
       waiting = s.holding.waiting;
       gathered = s.holding.gathered;
     };
@@ -76,7 +77,7 @@ begins_goes_on m Heard node b own below = record {
     };
     rests = (tt, tt);
     known = s.known;
-    news = λ e. absurd (cc e);
+    known_unsynced = λ e. absurd (cc e);
     may = λ d c. absurd (omega (arith, c.1));
     noted = λ x c. absurd (omega (arith, c.1));
   };

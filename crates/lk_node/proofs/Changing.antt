@@ -12,7 +12,7 @@ use Rattle.lk_agreement_laws.specs.Nodes.{Pair, Term, PaxosState, MayPromise, Ma
 use Rattle.lk_store_format.specs.Values.{HeaderValue}
 use Rattle.lk_state.specs.Meanings.{Meaning}
 use Rattle.lk_acceptor.specs.AcceptorValue.{AcceptorValue}
-use Rattle.lk_leader.specs.Terms.{LeaderValue, TermValue, idle}
+use Rattle.lk_leader.specs.Terms.{LeaderValue, TermValue, new_leader}
 use Rattle.lk_learner.specs.Following.{AgreesWithList}
 use Rattle.lk_learner.specs.Learners.{LearnerValue}
 use Rattle.lk_node_interface.specs.Outboxes.{OutboxValue}
@@ -47,7 +47,7 @@ pub alike_goes_on : (m : Meaning) (Heard : History → Type 0) (old new : NodeVa
     → IsAlike old new → new.leader ≡ old.leader → ActsSafely m Heard old new out out
 alike_goes_on m Heard old new out like leads = record {
   binds = λ first b. binds_alike first old new out like b;
-  serves = λ h n loose s heard. record {
+  continues = λ h n loose s heard. record {
     lawful = s.lawful;
     whose = like.header ∙ s.whose;
     holding = s.holding;
@@ -63,7 +63,7 @@ alike_goes_on m Heard old new out like leads = record {
     fits = s.fits;
     rests = s.rests;
     known = s.known;
-    news = s.news;
+    known_unsynced = s.known_unsynced;
     may = s.may;
     noted = s.noted;
   };
@@ -71,10 +71,10 @@ alike_goes_on m Heard old new out like leads = record {
 
 -- the term ends, and nothing waits
 pub leaves_goes_on : (m : Meaning) (Heard : History → Type 0) (old new : NodeValue) (out : OutboxValue)
-    → IsAlike old new → new.leader ≡ idle → ActsSafely m Heard old new out out
+    → IsAlike old new → new.leader ≡ new_leader → ActsSafely m Heard old new out out
 leaves_goes_on m Heard old new out like leads = record {
   binds = λ first b. binds_alike first old new out like b;
-  serves = λ h n loose s heard. record {
+  continues = λ h n loose s heard. record {
     lawful = s.lawful;
     whose = like.header ∙ s.whose;
     holding = record { paxos = s.holding.paxos; waiting = []; gathered = s.holding.gathered };
@@ -94,7 +94,7 @@ leaves_goes_on m Heard old new out like leads = record {
     };
     rests = s.rests;
     known = s.known;
-    news = s.news;
+    known_unsynced = s.known_unsynced;
     may = s.may;
     noted = s.noted;
   };
@@ -180,7 +180,7 @@ change_goes_on m Heard old new out header state f = record {
     tells = λ l c. subst (λ (w : HeaderValue). IsCoveredLetter w new.acceptor.state out.rebase l) (sym header)
         (subst (λ (a : AcceptorState). IsCoveredLetter old.header a out.rebase l) (sym state) (b.tells l c));
   };
-  serves = λ h n loose s heard.
+  continues = λ h n loose s heard.
       let u = f h n loose s heard in
       record {
         lawful = s.lawful;
@@ -190,7 +190,8 @@ change_goes_on m Heard old new out header state f = record {
         fits = u.fits;
         rests = s.rests;
         known = all_on (IsKnown s.holding.paxos) (IsKnown u.holding.paxos) loose u.knows s.known;
-        news = λ e. all_on (IsKnown s.holding.paxos) (IsKnown u.holding.paxos) out.entries u.knows (s.news e);
+        known_unsynced = λ e. all_on (IsKnown s.holding.paxos) (IsKnown u.holding.paxos) out.entries u.knows
+            (s.known_unsynced e);
         may = λ d c. may_go_on m h n s.holding.paxos u.holding.paxos u.grows d (s.may d c);
         noted = s.noted;
       };

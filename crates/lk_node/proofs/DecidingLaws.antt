@@ -15,7 +15,7 @@ use Rattle.lk_messages.specs.declared.message.NodeMessage.TheVariants as kinds
 use Rattle.lk_members.specs.Rosters.{Genesis, members}
 use Rattle.lk_members.specs.Windows.{RosterValue, RosterSumsUp, roster_after}
 use Rattle.lk_members.proofs.Memberships.{length_of_window, set_of_window}
-use Rattle.lk_agreement_laws.specs.Changes.{counts, in_term, with_acceptance}
+use Rattle.lk_agreement_laws.specs.Changes.{counts, with_paxos_term, with_acceptance}
 use Rattle.lk_agreement_laws.specs.Chosen.{Command, ChosenAt}
 use Rattle.lk_agreement_laws.specs.Datagrams.{HasSent}
 use Rattle.lk_agreement_laws.specs.Nodes.{Pair, Acceptance, Term, PaxosState, PaxosFits}
@@ -130,7 +130,7 @@ abbrev acceptance : ℕ → Vote → Acceptance
 acceptance from x = record { node = from; position = x.position; command = x.command }
 
 abbrev voted : ℕ → Vote → PaxosState → Term → PaxosState
-voted from x w t = in_term w (Some (with_acceptance t (acceptance from x)))
+voted from x w t = with_paxos_term w (Some (with_acceptance t (acceptance from x)))
 
 abbrev Accepts : ℕ → Vote → History → Type 0
 Accepts from x h = HasSent h.genesis h.sent from (kinds.Accepted x)

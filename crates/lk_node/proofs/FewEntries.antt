@@ -234,7 +234,7 @@ pub few_entries : (m : Meaning) (IsText : List ℕ → Type 0) (old : NodeValue)
     (out : OutboxValue) → Steps m IsText old i new out → length out.entries ≤ 16
 few_entries m IsText old input.Tick new out t = ticked_few old new out t
 few_entries m IsText old (input.Datagram bytes) new out t =
-    let heard : length t.first.entries ≤ 16 = elim t.takes [
+    let heard : length t.first.entries ≤ 16 = elim t.handles [
       | inl h ↦ by_content h.0.content h.1.0.1 h.3
       | inr h ↦ none_written t.first (ap (λ (o : OutboxValue). o.entries) h.1.1)
     ] in

@@ -30,7 +30,7 @@ use Rattle.lk_node.specs.Entries.{Rests}
 use Rattle.lk_node.specs.Executing.{RunsAll}
 use Rattle.lk_node.specs.Histories.{History}
 use Rattle.lk_node.specs.DecidedPairs.{LearnsPair, LearnsFirst, LearnsPairs, one_more}
-use Rattle.lk_node.specs.Keeping.{TellsDecided, IsKnown}
+use Rattle.lk_node.specs.Keeping.{IsDecidedEntry, IsKnown}
 use Rattle.lk_node.specs.Learning.{with_learner, Learns}
 use Rattle.lk_node.specs.NodeValue.{NodeValue}
 use Rattle.lk_node.specs.SafeSteps.{with_entries, IsSafeStep, ActsSafely}
@@ -63,11 +63,12 @@ writes_decided m Heard node out i v kept chosen = record {
   binds = λ first b. record {
     header = b.header;
     written = b.written ∙ sym (pushed out.entries (entry.Decided i v) first.acceptor.state);
-    unsynced = λ e. all_push TellsDecided out.entries (entry.Decided i v) (b.unsynced (unsynced_before out.sync e)) tt;
+    unsynced = λ e. all_push IsDecidedEntry out.entries (entry.Decided i v) (b.unsynced
+        (unsynced_before out.sync e)) tt;
     still = b.still;
     tells = b.tells;
   };
-  serves = λ h n loose s heard. record {
+  continues = λ h n loose s heard. record {
     lawful = s.lawful;
     whose = s.whose;
     holding = s.holding;
@@ -75,7 +76,8 @@ writes_decided m Heard node out i v kept chosen = record {
     fits = s.fits;
     rests = all_push (Rests h) out.entries (entry.Decided i v) s.rests (chosen h n loose s heard);
     known = s.known;
-    news = λ e. all_push (IsKnown s.holding.paxos) out.entries (entry.Decided i v) (s.news (unsynced_before out.sync e))
+    known_unsynced = λ e. all_push (IsKnown s.holding.paxos) out.entries (entry.Decided i v) (s.known_unsynced
+        (unsynced_before out.sync e))
         (inl (s.held.follows.known (i, v) kept));
     may = s.may;
     noted = s.noted;
@@ -168,7 +170,7 @@ stepped_over m position commands (Some others) old new before after other runs g
     record {
       command = skips.0;
       stands = skips.1;
-      takes = record { learned = old; written = before; learns = inr (other, refl, refl); runs = runs };
+      learns = record { learned = old; written = before; learns = inr (other, refl, refl); runs = runs };
       goes_on = unheard m (Chooses position skips.0) old new before after goes_on;
     }
 

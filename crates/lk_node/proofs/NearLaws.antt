@@ -23,7 +23,7 @@ use Rattle.lk_node.specs.Executing.{RunsNext}
 use Rattle.lk_node.specs.Learning.{with_learner}
 use Rattle.lk_node.specs.Nearness.{AreNear}
 use Rattle.lk_node.specs.NodeValue.{NodeValue}
-use Rattle.lk_node.specs.Packing.{standing_of}
+use Rattle.lk_node.specs.NewBases.{standing_of}
 use Rattle.lk_state.specs.declared.whole.Ran.{Ran}
 
 -- the same votes, or some of them

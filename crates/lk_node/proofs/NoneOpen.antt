@@ -36,10 +36,10 @@ no_majority : (set : List Member) → IsMajority [] set → ⊥
 no_majority set m = let n = majorities_meet set [] [] m m in absurd (omega (arith, n.1.1))
 
 -- so nothing is in a term that is begun
-begun_open : (node : NodeValue) (t : TermValue) → node.leader.term ≡ Some t → t.reports ≡ [] → NothingToPropose node
+begun_open : (node : NodeValue) (t : TermValue) → node.leader.term ≡ Some t → t.received ≡ [] → NothingToPropose node
 begun_open node t now none i v p =
     let same : p.0 ≡ t = cc (now, p.1) in
-    let empty : promisers p.2.set i p.0.reports ≡ [] = ap (λ (k : TermValue). promisers p.2.set i k.reports) same
+    let empty : promisers p.2.set i p.0.received ≡ [] = ap (λ (k : TermValue). promisers p.2.set i k.received) same
     ∙ ap (promisers p.2.set i) none ∙ nobody p.2.set i in
     no_majority p.2.set (subst (λ (ns : List ℕ). IsMajority ns p.2.set) empty p.2.promised)
 

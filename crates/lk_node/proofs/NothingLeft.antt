@@ -35,7 +35,7 @@ use Rattle.lk_node.specs.Installing.{HandlesPart}
 use Rattle.lk_node.specs.Leading.{HandlesPromise, having_proposed, ProposesAll}
 use Rattle.lk_node.specs.NodeValue.{NodeValue}
 use Rattle.lk_node.specs.Reminding.{Ticks}
-use Rattle.lk_node.specs.Steps.{HandlesNode, Handles, TakesBytes, Steps}
+use Rattle.lk_node.specs.Steps.{HandlesNode, Handles, HandlesBytes, Steps}
 use Rattle.lk_node.specs.Waiting.{ticked, BeginsWhereDue}
 use Rattle.lk_node.specs.Yielding.{without_term, is_term_below, yielded, with_round, seeing}
 
@@ -167,7 +167,7 @@ content_settles m IsText (content.Request r) old new out k =
 content_settles m IsText (content.Node from x) old new out k = node_settles m IsText from x old new out k
 
 bytes_settle : (m : Meaning) (IsText : List ℕ → Type 0) (bytes : List ℕ) (old new : NodeValue) (out : OutboxValue)
-    → TakesBytes m IsText old bytes new out → LeavesNothing old new
+    → HandlesBytes m IsText old bytes new out → LeavesNothing old new
 bytes_settle m IsText bytes old new out (inl heard) = content_settles m IsText heard.0.content old new out heard.3
 bytes_settle m IsText bytes old new out (inr foreign) = stays_as old old new refl foreign.1.0
 
@@ -186,4 +186,4 @@ pub step_leaves_nothing : (m : Meaning) (IsText : List ℕ → Type 0) (old : No
 step_leaves_nothing m IsText old input.Tick new out k none = tick_settles old new out k none
 step_leaves_nothing m IsText old (input.Datagram bytes) new out k none =
     stays k.mid new (proposed_learner k.proposes.0 k.mid new k.first out k.proposes.1)
-    (bytes_settle m IsText bytes old k.mid k.first k.takes none)
+    (bytes_settle m IsText bytes old k.mid k.first k.handles none)

@@ -24,7 +24,7 @@ use Rattle.lk_agreement_laws.specs.Changes as changes
 use Rattle.lk_agreement_laws.specs.Changes.{proposes}
 use Rattle.lk_agreement_laws.specs.Datagrams.{Genesis}
 use Rattle.lk_agreement_laws.specs.Nodes.{Pair, Term, MaySend}
-use Rattle.lk_agreement_laws.specs.Soundness.{IsReported}
+use Rattle.lk_agreement_laws.specs.Soundness.{IsPromisedVote}
 use Rattle.lk_acceptor.specs.AcceptorValue.{AcceptorValue}
 use Rattle.lk_leader.specs.Proposing.{AreMembersAt, LeaderProposes, proposed}
 use Rattle.lk_leader.specs.Terms.{ProposalValue, TermValue, LeaderValue, RequestValue, with_term, proposal_at}
@@ -163,14 +163,14 @@ module _ (m : Meaning) (h : History) (n : ℕ) (old : NodeValue) (x : Holding) (
     (fits : HoldingFits m h n x) (lawful : IsLawful m h) (t : Term) (is : x.paxos.term ≡ Some t) where
   -- what was reported in the term, or waits, was asked
   was_asked : (v : Command)
-      → ((y : Vote) × IsReported t.reports y × (y.command ≡ v))
+      → ((y : Vote) × IsPromisedVote t.received y × (y.command ≡ v))
       ⊎ (((q : RequestValue) × Contains old.leader.waiting q × (v ≡ Request q)) ⊎ (v ≡ Noop)) → WasAsked h v
   was_asked v (inl reported) =
       let r = reported.1.0 in
       subst (WasAsked h) reported.2
       (lawful.asked reported.0
       (lawful.sound.reported r.node (record { ballot = t.ballot; first = r.first; votes = r.votes })
-      ((fits.paxos.term t is).reports r reported.1.1) reported.0 reported.1.2).0)
+      ((fits.paxos.term t is).received r reported.1.1) reported.0 reported.1.2).0)
   was_asked v (inr (inl waits)) =
       subst (WasAsked h) (sym waits.2)
       (fits.waiting waits.0 (subst (λ (qs : List RequestValue). Contains qs waits.0) (sym held.waiting) waits.1))

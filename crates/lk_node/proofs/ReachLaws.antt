@@ -17,7 +17,7 @@ use Rattle.lk_state.specs.States.{WholeValue, SumsUp, whole_after}
 use Rattle.lk_node.proofs.Lists.{cons_cases, contains_more}
 use Rattle.lk_node.specs.Histories.{Genesis}
 use Rattle.lk_node.specs.NodeValue.{NodeValue}
-use Rattle.lk_node.specs.Packing.{standing_of, with_snapshot}
+use Rattle.lk_node.specs.NewBases.{standing_of, with_snapshot}
 use Rattle.lk_node.specs.Reaching.{IsDecidedAt, DecidesTo, LiesNear, AllLieNear, EntryLiesNear, EntriesLieNear}
 use Rattle.lk_node.specs.Reaching.{RestoresNode}
 use Rattle.lk_node.specs.Reaching.{IsRestorable, StillRestoresNode, HoldsNear}

@@ -29,14 +29,14 @@ use Rattle.lk_node.proofs.Lists.{only}
 -- nothing is done
 pub rests_here : (m : Meaning) (Heard : History → Type 0) (node : NodeValue) (out : OutboxValue)
     → ActsSafely m Heard node node out out
-rests_here m Heard node out = record { binds = λ first b. b; serves = λ h n loose s heard. s }
+rests_here m Heard node out = record { binds = λ first b. b; continues = λ h n loose s heard. s }
 
 -- one part after another
 pub then_goes_on : (m : Meaning) (Heard : History → Type 0) (a b c : NodeValue) (x y z : OutboxValue)
     → ActsSafely m Heard a b x y → ActsSafely m Heard b c y z → ActsSafely m Heard a c x z
 then_goes_on m Heard a b c x y z f g = record {
   binds = λ first k. g.binds first (f.binds first k);
-  serves = λ h n loose s heard. g.serves h n loose (f.serves h n loose s heard) heard;
+  continues = λ h n loose s heard. g.continues h n loose (f.continues h n loose s heard) heard;
 }
 
 -- a part that heard less
@@ -44,7 +44,7 @@ pub heard_goes_on : (m : Meaning) (Heard Had : History → Type 0) (old new : No
     → ((h : History) (n : ℕ) (loose : List Entry) → IsSafeStep m h n loose old before → Heard h → Had h)
     → ActsSafely m Had old new before after → ActsSafely m Heard old new before after
 heard_goes_on m Heard Had old new before after has f =
-    record { binds = f.binds; serves = λ h n loose s heard. f.serves h n loose s (has h n loose s heard) }
+    record { binds = f.binds; continues = λ h n loose s heard. f.continues h n loose s (has h n loose s heard) }
 
 -- the datagram of a letter is the node's
 pub letter_spelled : (genesis : Genesis) (n : ℕ) (whose : HeaderValue) (message : NodeMessage) (bytes : List ℕ)
@@ -81,7 +81,7 @@ says m Heard node out to message fits covers neither may = record {
           (record { message = message; fits = fits; bytes = refl; covers = covers; rebased = neither })
     ];
   };
-  serves = λ h n loose s heard. record {
+  continues = λ h n loose s heard. record {
     lawful = s.lawful;
     whose = s.whose;
     holding = s.holding;
@@ -89,7 +89,7 @@ says m Heard node out to message fits covers neither may = record {
     fits = s.fits;
     rests = s.rests;
     known = s.known;
-    news = s.news;
+    known_unsynced = s.known_unsynced;
     may = λ d c. elim (Contains-append_cases (batch_of n out.letters) (datagram_of n (letter node to message) ∷ []) d
         (subst (λ ds. Contains ds d) (mapped_append n out.letters (letter node to message)) c)) [
           | inl before ↦ s.may d before
@@ -147,7 +147,7 @@ notes m Heard node out x own bears = record {
     still = b.still;
     tells = b.tells;
   };
-  serves = λ h n loose s heard. record {
+  continues = λ h n loose s heard. record {
     lawful = s.lawful;
     whose = s.whose;
     holding = s.holding;
@@ -155,7 +155,7 @@ notes m Heard node out x own bears = record {
     fits = s.fits;
     rests = s.rests;
     known = s.known;
-    news = s.news;
+    known_unsynced = s.known_unsynced;
     may = s.may;
     noted = λ y c. elim (Contains-append_cases out.notes (x ∷ []) y c) [
       | inl before ↦ s.noted y before

@@ -26,7 +26,7 @@ rebases_goes_on m Heard node = record {
     still = λ e. b.written;
     tells = λ l c. absurd (omega (arith, c.1));
   };
-  serves = λ h n loose s heard. record {
+  continues = λ h n loose s heard. record {
     lawful = s.lawful;
     whose = s.whose;
     holding = s.holding;
@@ -34,7 +34,7 @@ rebases_goes_on m Heard node = record {
     fits = s.fits;
     rests = s.rests;
     known = s.known;
-    news = s.news;
+    known_unsynced = s.known_unsynced;
     may = s.may;
     noted = s.noted;
   };

@@ -53,7 +53,7 @@ use Rattle.lk_node.specs.NodeValue.{NodeValue}
 use Rattle.lk_node.specs.Reaching.{IsDecidedAt, DecidesTo, EntryLiesNear, EntriesLieNear, RestoresNode}
 use Rattle.lk_node.specs.Reaching.{StillRestoresNode}
 use Rattle.lk_node.specs.Reminding.{Ticks}
-use Rattle.lk_node.specs.Steps.{HandlesNode, Handles, TakesBytes, Steps}
+use Rattle.lk_node.specs.Steps.{HandlesNode, Handles, HandlesBytes, Steps}
 use Rattle.lk_node.specs.Waiting.{ticked}
 use Rattle.lk_node.specs.Yielding.{without_term, is_term_below, yielded, with_round, seeing}
 use Rattle.lk_node.proofs.FewEntries.{ran_same, proposed_same, offered_same, fed_same, asked_few}
@@ -438,7 +438,7 @@ content_told m IsText (content.Request r) old new out k puts =
 content_told m IsText (content.Node from x) old new out k puts = node_told m IsText from x old new out k puts
 
 bytes_told : (m : Meaning) (IsText : List ℕ → Type 0) (bytes : List ℕ) (old new : NodeValue) (out : OutboxValue)
-    → TakesBytes m IsText old bytes new out → out.rebase ≡ false → StillRestoresNode old new out.entries
+    → HandlesBytes m IsText old bytes new out → out.rebase ≡ false → StillRestoresNode old new out.entries
 bytes_told m IsText bytes old new out (inl heard) puts = content_told m IsText heard.0.content old new out heard.3 puts
 bytes_told m IsText bytes old new out (inr foreign) puts =
     none_told old new out.entries (ap (λ (o : OutboxValue). o.entries) foreign.1.1) (as_this old new foreign.1.0)
@@ -484,4 +484,4 @@ step_told m IsText old (input.Datagram bytes) new out k puts = λ ahead s t.
     told_as ahead s k.first.entries out.entries k.mid new
     (proposed_same k.proposes.0 k.mid new k.first out k.proposes.1)
     (proposed_rests k.proposes.0 k.mid new k.first out k.proposes.1)
-    (bytes_told m IsText bytes old k.mid k.first k.takes first ahead s t)
+    (bytes_told m IsText bytes old k.mid k.first k.handles first ahead s t)

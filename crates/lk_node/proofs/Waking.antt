@@ -36,7 +36,7 @@ use Rattle.lk_node.specs.Leading.{HandlesPromise, having_proposed, ProposesAll}
 use Rattle.lk_node.specs.Learning.{Learns}
 use Rattle.lk_node.specs.NodeValue.{NodeValue}
 use Rattle.lk_node.specs.Reminding.{Ticks}
-use Rattle.lk_node.specs.Steps.{HandlesNode, Handles, TakesBytes, Steps}
+use Rattle.lk_node.specs.Steps.{HandlesNode, Handles, HandlesBytes, Steps}
 use Rattle.lk_node.specs.Waiting.{ticked, BeginsWhereDue}
 use Rattle.lk_node.specs.Yielding.{without_term, is_term_below, yielded, with_round, seeing}
 
@@ -193,7 +193,7 @@ content_wakes m IsText (content.Request r) old new out k =
 content_wakes m IsText (content.Node from x) old new out k = node_wakes m IsText from x old new out k
 
 bytes_wake : (m : Meaning) (IsText : List ℕ → Type 0) (bytes : List ℕ) (old new : NodeValue) (out : OutboxValue)
-    → TakesBytes m IsText old bytes new out → Wakes old new
+    → HandlesBytes m IsText old bytes new out → Wakes old new
 bytes_wake m IsText bytes old new out (inl heard) = content_wakes m IsText heard.0.content old new out heard.3
 bytes_wake m IsText bytes old new out (inr foreign) = as_this old new foreign.1.0
 
@@ -211,4 +211,5 @@ pub step_wakes : (m : Meaning) (IsText : List ℕ → Type 0) (old : NodeValue) 
     (out : OutboxValue) → Steps m IsText old i new out → new.halted ≡ old.halted
 step_wakes m IsText old input.Tick new out k = tick_wakes old new out k
 step_wakes m IsText old (input.Datagram bytes) new out k =
-    proposed_wakes k.proposes.0 k.mid new k.first out k.proposes.1 ∙ bytes_wake m IsText bytes old k.mid k.first k.takes
+    proposed_wakes k.proposes.0 k.mid new k.first out k.proposes.1
+    ∙ bytes_wake m IsText bytes old k.mid k.first k.handles

@@ -23,7 +23,7 @@ pub record LearnsFirst (m : Meaning) (position : ℕ) (commands others : List Co
     (before : OutboxValue) (new : NodeValue) (after : OutboxValue) : Type 0 where
   pub command : Command
   pub stands : commands ≡ command ∷ others
-  pub takes : LearnsPair m (position, command) old before new after
+  pub learns : LearnsPair m (position, command) old before new after
   pub goes_on : ActsSafely m (λ h. ChosenAt h.genesis h.sent position command) old new before after
 
 -- this many of the commands are learned in order, the first as that of this position

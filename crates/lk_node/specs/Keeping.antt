@@ -24,10 +24,10 @@ use Rattle.lk_node.specs.NodeValue.{NodeValue}
 use Rattle.lk_node.specs.Reaching.{EntriesLieNear, IsRestorable}
 
 -- the entry tells of a decided command
-abbrev pub TellsDecided : Entry → Type 0
-TellsDecided (Promise b) = ⊥
-TellsDecided (Vote x) = ⊥
-TellsDecided (Decided i c) = Unit {0}
+abbrev pub IsDecidedEntry : Entry → Type 0
+IsDecidedEntry (Promise b) = ⊥
+IsDecidedEntry (Vote x) = ⊥
+IsDecidedEntry (Decided i c) = Unit {0}
 
 -- the entry tells of a decided command that the node knows: it is among its pairs, or was executed
 abbrev pub IsKnown : PaxosState → Entry → Type 0
@@ -41,7 +41,7 @@ pub record StoreKeeps (whose : HeaderValue) (store : StoreValue) (acceptor : Acc
   pub entries : List Stored
   pub loose : List Entry
   pub holds : HoldsEntries store entries (plain loose)
-  pub decided : AllByRecursion TellsDecided loose
+  pub decided : AllByRecursion IsDecidedEntry loose
   pub header : HasHeader entries whose
   pub standing : StandingValue
   pub stands : StandsFor entries standing

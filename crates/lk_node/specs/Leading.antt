@@ -4,7 +4,7 @@ use Rattle.lk_types.specs.declared.vote.Vote.{Vote}
 use Rattle.lk_messages.specs.Values.{PromiseValue}
 use Rattle.lk_messages.specs.declared.message.NodeMessage.TheVariants as kinds
 use Rattle.lk_leader.specs.Proposing.{Proposes, LeaderProposes, proposed}
-use Rattle.lk_leader.specs.Terms.{Command, ReceivedPromise, TermValue, LeaderValue, with_term, with_report, IsFirstOf}
+use Rattle.lk_leader.specs.Terms.{Command, ReceivedPromise, TermValue, LeaderValue, with_term, with_received, IsFirstOf}
 use Rattle.lk_members.specs.Nodes.{nodes_of}
 use Rattle.lk_node_interface.specs.Outboxes.{OutboxValue, nothing}
 use Rattle.lk_node.specs.NodeValue.{NodeValue}
@@ -16,14 +16,14 @@ with_leader node l = record node { leader = l }
 -- ---- a promise
 
 -- what the promise of the node reports
-abbrev pub report_of : ℕ → PromiseValue → ReceivedPromise
-report_of from p = record { node = from; first = p.first; votes = p.votes }
+abbrev pub received_from : ℕ → PromiseValue → ReceivedPromise
+received_from from p = record { node = from; first = p.first; votes = p.votes }
 
 -- it is kept if it is of the term's ballot, of a node of the window, and that node's first
 abbrev pub RecordsPromise : NodeValue → ℕ → PromiseValue → NodeValue → Type 0
 RecordsPromise old from p new =
     (t : TermValue) × IsFirstOf old.leader old.learner.whole.roster from p.ballot t
-    × (new ≡ with_leader old (with_term (with_report (report_of from p) t) old.leader))
+    × (new ≡ with_leader old (with_term (with_received (received_from from p) t) old.leader))
 
 -- any other changes nothing
 abbrev pub DropsPromise : NodeValue → ℕ → PromiseValue → NodeValue → Type 0

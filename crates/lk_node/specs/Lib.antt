@@ -20,7 +20,7 @@ pub mod Installing
 pub mod Telling
 pub mod Promised
 pub mod Nearness
-pub mod Packing
+pub mod NewBases
 pub mod Reaching
 pub mod Leading
 pub mod DecidedPairs

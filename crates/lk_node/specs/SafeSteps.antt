@@ -17,7 +17,7 @@ use Rattle.lk_node.specs.Calls.{MayGo}
 use Rattle.lk_node.specs.Entries.{Rests}
 use Rattle.lk_node.specs.Histories.{History, Datagram, IsLawful}
 use Rattle.lk_node.specs.Holdings.{Holding, HoldingFits}
-use Rattle.lk_node.specs.Keeping.{TellsDecided, IsKnown, IsHeld}
+use Rattle.lk_node.specs.Keeping.{IsDecidedEntry, IsKnown, IsHeld}
 use Rattle.lk_node.specs.Leavings.{header_of}
 use Rattle.lk_node.specs.NodeValue.{NodeValue}
 use Rattle.lk_node.specs.BorneOut.{IsBorneOut, IsOfNode}
@@ -49,7 +49,7 @@ with_entries (e ∷ es) s = with_entries es (acceptor_with e s)
 pub record Binds (first now : NodeValue) (out : OutboxValue) : Type 0 where
   pub header : now.header ≡ first.header
   pub written : now.acceptor.state ≡ with_entries out.entries first.acceptor.state
-  pub unsynced : out.sync ≡ false → AllByRecursion TellsDecided out.entries
+  pub unsynced : out.sync ≡ false → AllByRecursion IsDecidedEntry out.entries
   pub still : out.rebase ≡ true → now.acceptor.state ≡ first.acceptor.state
   pub tells : (l : LetterValue) → Contains out.letters l → IsCoveredLetter now.header now.acceptor.state out.rebase l
 
@@ -64,7 +64,7 @@ pub record IsSafeStep (m : Meaning) (h : History) (n : ℕ) (loose : List Entry)
   pub fits : HoldingFits m h n holding
   pub rests : AllByRecursion (Rests h) out.entries
   pub known : AllByRecursion (IsKnown holding.paxos) loose
-  pub news : out.sync ≡ false → AllByRecursion (IsKnown holding.paxos) out.entries
+  pub known_unsynced : out.sync ≡ false → AllByRecursion (IsKnown holding.paxos) out.entries
   pub may : (d : Datagram) → Contains (batch_of n out.letters) d → MayGo m h n holding.paxos d
   pub noted : (x : Note) → Contains out.notes x → IsOfNode x × IsBorneOut m h x
 
@@ -72,5 +72,5 @@ pub record IsSafeStep (m : Meaning) (h : History) (n : ℕ) (loose : List Entry)
 pub record ActsSafely (m : Meaning) (Heard : History → Type 0) (old new : NodeValue)
     (before after : OutboxValue) : Type 0 where
   pub binds : (first : NodeValue) → Binds first old before → Binds first new after
-  pub serves : (h : History) (n : ℕ) (loose : List Entry) → IsSafeStep m h n loose old before → Heard h
+  pub continues : (h : History) (n : ℕ) (loose : List Entry) → IsSafeStep m h n loose old before → Heard h
       → IsSafeStep m h n loose new after

@@ -59,20 +59,20 @@ abbrev pub IsForeign : NodeValue → List ℕ → Type 0
 IsForeign node bytes = (m : Message) → Spells m bytes → m.cluster ≡ node.header.cluster → ⊥
 
 -- what it does with any bytes: it handles those of its cluster's messages, and ignores all others
-abbrev pub TakesBytes : Meaning → (List ℕ → Type 0) → NodeValue → List ℕ → NodeValue → OutboxValue → Type 0
-TakesBytes m IsText old bytes new out =
+abbrev pub HandlesBytes : Meaning → (List ℕ → Type 0) → NodeValue → List ℕ → NodeValue → OutboxValue → Type 0
+HandlesBytes m IsText old bytes new out =
     ((x : Message) × Spells x bytes × (x.cluster ≡ old.header.cluster) × Handles m IsText old x.content new out)
     ⊎ (IsForeign old bytes × ChangesNothing old new out)
 
 -- and after that it proposes everything that is open
-pub record TakesDatagram (m : Meaning) (IsText : List ℕ → Type 0) (old : NodeValue) (bytes : List ℕ) (new : NodeValue)
+pub record HandlesDatagram (m : Meaning) (IsText : List ℕ → Type 0) (old : NodeValue) (bytes : List ℕ) (new : NodeValue)
     (out : OutboxValue) : Type 0 where
   pub mid : NodeValue
   pub first : OutboxValue
-  pub takes : TakesBytes m IsText old bytes mid first
+  pub handles : HandlesBytes m IsText old bytes mid first
   pub proposes : ProposesOpen mid new first out
 
 -- what a step is
 abbrev pub Steps : Meaning → (List ℕ → Type 0) → NodeValue → Input → NodeValue → OutboxValue → Type 0
 Steps m IsText old input.Tick new out = Ticks old new out
-Steps m IsText old (input.Datagram bytes) new out = TakesDatagram m IsText old bytes new out
+Steps m IsText old (input.Datagram bytes) new out = HandlesDatagram m IsText old bytes new out

@@ -2,12 +2,12 @@
 use Rattle.std.specs.Prelude.{Bool, false, Option, Some, None, if◌then◌else◌, max}
 use Rattle.lk_types.specs.BallotValue.{BallotValue}
 use Rattle.lk_types.specs.Ballots.{is_below}
-use Rattle.lk_leader.specs.Terms.{TermValue, idle}
+use Rattle.lk_leader.specs.Terms.{TermValue, new_leader}
 use Rattle.lk_node.specs.NodeValue.{NodeValue}
 
 -- no term, nothing waits, and ticks count from the start
 abbrev pub without_term : NodeValue → NodeValue
-without_term node = record node { leader = idle; ticks = 0 }
+without_term node = record node { leader = new_leader; ticks = 0 }
 
 -- there is a term, of a smaller ballot
 abbrev pub is_term_below : BallotValue → Option TermValue → Bool

@@ -7,7 +7,7 @@ ghost use Rattle.lk_learner.specs.Learners.{alpha};
 ghost use Rattle.lk_node_interface.specs.Outboxes.{OutboxValue};
 ghost use Rattle.lk_node_interface.specs.declared.input.Input.{Input};
 ghost use Rattle.lk_node.specs.NodeValue.{NodeValue};
-ghost use Rattle.lk_node.specs.Packing.{standing_of, with_snapshot};
+ghost use Rattle.lk_node.specs.NewBases.{standing_of, with_snapshot};
 ghost use Rattle.lk_node.specs.Reaching.{AllLieNear, EntriesLieNear, HoldsNear, RestoresNode, StillRestoresNode};
 ghost use Rattle.lk_node.specs.Steps.{Steps};
 

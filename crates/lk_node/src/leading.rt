@@ -23,7 +23,7 @@ use lk_types::{Ballot, NoMemory, NodeNo, Vote};
 use lk_wire::{NodeMessage, PromiseRef};
 
 impl<M: Machine> Node<M> {
-    // Handles a Promise: passes it to the leader, which drops it unless it is the node's first in the term's ballot.
+    // Handles a Promise: gives it to the leader, which drops it unless it is the node's first in the term's ballot.
     // Sends nothing.
     pub(crate) fn handle_promise(
         &mut self,
@@ -42,7 +42,7 @@ impl<M: Machine> Node<M> {
         Ok(Outbox::new(self.alloc))
     }
 
-    // Shows the prover that the term's ballot is at most the promised one. Has no effect.
+    // Shows the prover that the term's ballot is at most the promised one. Does nothing at run time.
     pub(crate) fn facts(&self)
         ensures { IsTermPromised self.now.acceptor self.now.leader }
     {

@@ -11,7 +11,7 @@ pub mod laws;
 mod leading;
 mod learning;
 mod node;
-mod packing;
+mod rebasing;
 mod reminding;
 mod responding;
 mod sending;

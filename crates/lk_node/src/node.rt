@@ -1,7 +1,7 @@
 // The node, and how it sends a message. It has no access to a disk, socket or clock: a step only fills an `Outbox`.
 ghost use Rattle.std.specs.Prelude.{◌≡◌, ◌∷◌, [], None, true, false, OnOk, OnErr, IsErr};
 ghost use Rattle.lk_messages.specs.Grammar.{spelling, IsMessage};
-ghost use Rattle.lk_leader.specs.Terms.{idle};
+ghost use Rattle.lk_leader.specs.Terms.{new_leader};
 ghost use Rattle.lk_node_interface.specs.Outboxes.{nothing, with_letter};
 ghost use Rattle.lk_node_interface.specs.Saying.{saying};
 ghost use Rattle.lk_node.specs.Nearness.{AreNear};
@@ -67,7 +67,7 @@ impl<M: Machine> Node<M> {
           header = header;
           acceptor = acceptor;
           learner = learner;
-          leader = idle;
+          leader = new_leader;
           ticks = 0;
           rounds = 0;
           known = None;

@@ -49,7 +49,7 @@ impl<M: Machine> Node<M> {
         Ok(out)
     }
 
-    // Handles a Prepare: passes it to the acceptor, and sends its reply.
+    // Handles a Prepare: gives it to the acceptor, and sends its reply.
     pub(crate) fn handle_prepare(
         &mut self,
         from: NodeNo,

@@ -9,7 +9,7 @@ ghost use Rattle.lk_node.specs.Executing.{NothingToRun};
 ghost use Rattle.lk_node.specs.Histories.{IsHeard};
 ghost use Rattle.lk_node.specs.Leading.{NothingToPropose};
 ghost use Rattle.lk_node.specs.SafeSteps.{ActsSafely};
-ghost use Rattle.lk_node.specs.Steps.{Handles, HandlesNode, TakesBytes, TakesDatagram, Steps, WasHeard};
+ghost use Rattle.lk_node.specs.Steps.{Handles, HandlesNode, HandlesBytes, HandlesDatagram, Steps, WasHeard};
 
 use crate::node::Node;
 use lk_node_interface::{Halted, Input, Outbox};
@@ -60,8 +60,8 @@ impl<M: Machine> Node<M> {
 
     #[tactic(auto, using(crate::proofs::SafeSteps::rests_here, crate::proofs::SafeSteps::bytes_go_on))]
     // Parses and handles a datagram. Ignores bytes that are no message of this cluster.
-    fn take_bytes(&mut self, datagram: &Datagram<'_>) -> Result<Outbox, NoMemory>
-        ensures exact { IfOk result (λ o. TakesBytes M.meaning M.IsText self.old datagram.now self.new o) }
+    fn handle_bytes(&mut self, datagram: &Datagram<'_>) -> Result<Outbox, NoMemory>
+        ensures exact { IfOk result (λ o. HandlesBytes M.meaning M.IsText self.old datagram.now self.new o) }
         ensures safe { IfOk result
             (λ o. ActsSafely M.meaning (λ h. IsHeard h datagram.now) self.old self.new nothing o) }
     {
@@ -76,13 +76,13 @@ impl<M: Machine> Node<M> {
     }
 
     // Handles a datagram, and then proposes whatever it can.
-    fn take_datagram(&mut self, datagram: &Datagram<'_>) -> Result<Outbox, NoMemory>
-        ensures exact { IfOk result (λ o. TakesDatagram M.meaning M.IsText self.old datagram.now self.new o) }
+    fn handle_datagram(&mut self, datagram: &Datagram<'_>) -> Result<Outbox, NoMemory>
+        ensures exact { IfOk result (λ o. HandlesDatagram M.meaning M.IsText self.old datagram.now self.new o) }
         ensures done { OnOk result (NothingToPropose self.new) }
         ensures safe { IfOk result
             (λ o. ActsSafely M.meaning (λ h. IsHeard h datagram.now) self.old self.new nothing o) }
     {
-        let mut out = self.take_bytes(datagram)?;
+        let mut out = self.handle_bytes(datagram)?;
         self.propose(&mut out)?;
         Ok(out)
     }
@@ -96,7 +96,7 @@ impl<M: Machine> Node<M> {
     {
         match input {
             Input::Tick => self.tick(),
-            Input::Datagram(datagram) => self.take_datagram(&datagram),
+            Input::Datagram(datagram) => self.handle_datagram(&datagram),
         }
     }
 

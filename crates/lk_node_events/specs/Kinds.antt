@@ -1,7 +1,8 @@
 -- The kinds of events, and which of them are warnings.
 use Rattle.std.specs.Prelude.{ℕ, Bool, true, false}
 use Rattle.lk_node_events.specs.declared.event.Event.{Event}
-use Rattle.lk_node_events.specs.declared.event.Event.TheVariants.{Begun, Found, Leads, Ended, Follows, Leaderless}
+use Rattle.lk_node_events.specs.declared.event.Event.TheVariants.{StartedEmpty, Found, Leads, Ended, Follows}
+use Rattle.lk_node_events.specs.declared.event.Event.TheVariants.{Leaderless}
 use Rattle.lk_node_events.specs.declared.event.Event.TheVariants.{Joined}
 use Rattle.lk_node_events.specs.declared.event.Event.TheVariants.{Left, Wrote, Installed, Unsent, Behind, CaughtUp}
 use Rattle.lk_node_events.specs.declared.event.Event.TheVariants.{OtherGenesis, OtherCluster}
@@ -12,7 +13,7 @@ kinds = 15
 
 -- the index of an event's kind, below that number
 abbrev pub kind_of : Event → ℕ
-kind_of Begun = 0
+kind_of StartedEmpty = 0
 kind_of (Found executed) = 1
 kind_of (Leads ballot) = 2
 kind_of (Ended ballot why) = 3

@@ -5,7 +5,8 @@ use Rattle.lk_types.specs.declared.member.Member.{Member}
 use Rattle.lk_types.specs.BallotValue.{BallotValue}
 use Rattle.lk_node_events.specs.Observations.{why_of}
 use Rattle.lk_node_events.specs.declared.event.Event.{Event}
-use Rattle.lk_node_events.specs.declared.event.Event.TheVariants.{Begun, Found, Leads, Ended, Follows, Leaderless}
+use Rattle.lk_node_events.specs.declared.event.Event.TheVariants.{StartedEmpty, Found, Leads, Ended, Follows}
+use Rattle.lk_node_events.specs.declared.event.Event.TheVariants.{Leaderless}
 use Rattle.lk_node_events.specs.declared.event.Event.TheVariants.{Joined}
 use Rattle.lk_node_events.specs.declared.event.Event.TheVariants.{Left, Wrote, Installed, Unsent, Behind, CaughtUp}
 use Rattle.lk_node_events.specs.declared.event.Event.TheVariants.{OtherGenesis, OtherCluster}
@@ -36,15 +37,15 @@ IsNews story seen (Installed position node) = seen.installed ≡ Some (position,
 IsNews story seen (Unsent node) = seen.unsent ≡ Some node
 IsNews story seen (OtherGenesis node) = seen.stranger ≡ Some node
 IsNews story seen (OtherCluster count) = seen.foreign ≡ Some count
-IsNews story seen Begun = ⊥
+IsNews story seen StartedEmpty = ⊥
 IsNews story seen (Found executed) = ⊥
 IsNews story seen (Leaderless seconds) = ⊥
 IsNews story seen (Behind node) = ⊥
 IsNews story seen (CaughtUp executed) = ⊥
 
 -- the story after an observation was reported
-abbrev pub told_with : Observation → Story → Story
-told_with seen story = record {
+abbrev pub story_with : Observation → Story → Story
+story_with seen story = record {
   leads = seen.leads;
   follows = newer seen.follows story.follows;
   members = seen.members;

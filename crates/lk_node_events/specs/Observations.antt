@@ -3,14 +3,15 @@ use Rattle.std.specs.Prelude.{Bool, ◌||◌, is_some, if◌then◌else◌}
 use Rattle.lk_types.specs.BallotValue.{BallotValue}
 use Rattle.lk_types.specs.Ballots.{is_below}
 use Rattle.lk_node_events.specs.declared.event.Why.{Why}
-use Rattle.lk_node_events.specs.declared.event.Why.TheVariants.{Promised, NoMember, Told}
+use Rattle.lk_node_events.specs.declared.event.Why.TheVariants.{Promised, NoMember, HeardGreater}
 use Rattle.lk_node_events.specs.declared.observation.Observation.{Observation}
 
 -- why a node no longer leads in this ballot: it is no member, or else it has promised a greater ballot, or else it has
 -- heard of one
 abbrev pub why_of : Observation → BallotValue → Why
 why_of seen ballot =
-    if seen.is_member then (if is_below ballot seen.promised then Promised seen.promised.node else Told) else NoMember
+    if seen.is_member then
+    (if is_below ballot seen.promised then Promised seen.promised.node else HeardGreater) else NoMember
 
 -- somebody leads, as far as the node knows
 abbrev pub has_leader : Observation → Bool

@@ -7,7 +7,7 @@ use Rattle.lk_node_events.specs.declared.rate_limit.RateLimit.{RateLimit}
 -- a line may be logged now: there was none, a second has passed since, or the clock was set back
 abbrev pub is_due : Option ℕ → ℕ → Bool
 is_due None now = true
-is_due (Some told) now = nat_lt now told || nat_le (told + 1000) now
+is_due (Some logged) now = nat_lt now logged || nat_le (logged + 1000) now
 
 -- one more is counted, as far as a number of 64 bits goes
 abbrev pub one_more : ℕ → ℕ
@@ -20,23 +20,23 @@ others_with (Some waiting) others = one_more others
 
 -- nothing has happened
 abbrev pub empty : RateLimit
-empty = record { newest = None; others = 0; told = None }
+empty = record { newest = None; others = 0; logged = None }
 
 -- after one event more, which is the newest then
 abbrev pub having_put : ℕ → Event → RateLimit → RateLimit
 having_put now event slot =
-    record { newest = Some (now, event); others = others_with slot.newest slot.others; told = slot.told }
+    record { newest = Some (now, event); others = others_with slot.newest slot.others; logged = slot.logged }
 
 -- after its line was logged: nothing waits
-abbrev pub having_told : ℕ → RateLimit
-having_told now = record { newest = None; others = 0; told = Some now }
+abbrev pub having_logged : ℕ → RateLimit
+having_logged now = record { newest = None; others = 0; logged = Some now }
 
 -- the line is that of the newest event of the slot, and of how many others there were, and may be logged now
 pub record IsLineOf (slot : RateLimit) (now : ℕ) (line : Line) : Type 0 where
-  pub due : is_due slot.told now ≡ true
+  pub due : is_due slot.logged now ≡ true
   pub newest : slot.newest ≡ Some (line.time, line.event)
   pub others : line.others ≡ slot.others
 
 -- nothing waits, or no line may be logged yet
 abbrev pub Waits : RateLimit → ℕ → Type 0
-Waits slot now = (slot.newest ≡ None) ⊎ (is_due slot.told now ≡ false)
+Waits slot now = (slot.newest ≡ None) ⊎ (is_due slot.logged now ≡ false)

@@ -19,11 +19,11 @@ first_asked (Some asked) now = asked.0
 -- there has been no leader for so many whole seconds: at least two, and at least twice those reported last
 pub record IsQuiet (quiet : LeaderlessTimer) (now seconds : ℕ) : Type 0 where
   pub since : ℕ
-  pub begun : quiet.since ≡ Some since
+  pub is_since : quiet.since ≡ Some since
   pub elapsed : since + seconds * 1000 ≤ now
   pub whole : now < since + (seconds + 1) * 1000
   pub long : 2 ≤ seconds
-  pub doubled : 2 * quiet.told ≤ seconds
+  pub doubled : 2 * quiet.logged ≤ seconds
 
 abbrev pub IsQuietNews : LeaderlessTimer → ℕ → Event → Type 0
 IsQuietNews quiet now event = (seconds : ℕ) × (event ≡ Leaderless seconds) × IsQuiet quiet now seconds
@@ -33,10 +33,10 @@ pub record TurnsQuiet (old : LeaderlessTimer) (now : ℕ) (has_leader : Bool) (n
     (new : LeaderlessTimer) : Type 0 where
   pub some : IfSome news (λ e. (has_leader ≡ false) × IsQuietNews old now e)
   pub none : IsNone news → (has_leader ≡ true) ⊎ ((e : Event) → IsQuietNews old now e → ⊥)
-  pub leader : has_leader ≡ true → new ≡ record { since = None; told = 0 }
+  pub leader : has_leader ≡ true → new ≡ record { since = None; logged = 0 }
   pub since : has_leader ≡ false → new.since ≡ Some (first_time old.since now)
-  pub told : IfSome news (λ e. e ≡ Leaderless new.told)
-  pub kept : has_leader ≡ false → IsNone news → new.told ≡ old.told
+  pub logged : IfSome news (λ e. e ≡ Leaderless new.logged)
+  pub kept : has_leader ≡ false → IsNone news → new.logged ≡ old.logged
 
 -- it has been asking for a second, and that is not yet reported
 pub record IsBehind (lag : BehindTimer) (now : ℕ) : Type 0 where
@@ -44,7 +44,7 @@ pub record IsBehind (lag : BehindTimer) (now : ℕ) : Type 0 where
   pub last : ℕ
   pub asked : lag.asked ≡ Some (first, last)
   pub long : first + 1000 ≤ now
-  pub untold : lag.told ≡ false
+  pub unlogged : lag.logged ≡ false
 
 -- it has asked nobody for a second, or the clock was set back
 pub record IsOver (lag : BehindTimer) (now : ℕ) : Type 0 where
@@ -56,7 +56,7 @@ pub record IsOver (lag : BehindTimer) (now : ℕ) : Type 0 where
 -- the same, and it was reported to be behind
 pub record HasRested (lag : BehindTimer) (now : ℕ) : Type 0 where
   pub over : IsOver lag now
-  pub told : lag.told ≡ true
+  pub logged : lag.logged ≡ true
 
 -- the event that is due after a turn in which it asked that node, or nobody
 abbrev pub IsLagNews : BehindTimer → ℕ → Option ℕ → ℕ → Event → Type 0
@@ -65,13 +65,13 @@ IsLagNews lag now None executed event = (event ≡ CaughtUp executed) × HasRest
 
 -- it has asked nothing
 abbrev pub no_lag : BehindTimer
-no_lag = record { asked = None; told = false }
+no_lag = record { asked = None; logged = false }
 
 -- what is known after a turn in which it asked: when that began, and what was reported
 pub record HasAsked (old : BehindTimer) (now : ℕ) (news : Option Event) (new : BehindTimer) : Type 0 where
   pub asked : new.asked ≡ Some (first_asked old.asked now, now)
-  pub told : IsSome news → new.told ≡ true
-  pub kept : IsNone news → new.told ≡ old.told
+  pub logged : IsSome news → new.logged ≡ true
+  pub kept : IsNone news → new.logged ≡ old.logged
 
 -- it has asked nobody: what is over is forgotten, and nothing else
 pub record HasPaused (old : BehindTimer) (now : ℕ) (new : BehindTimer) : Type 0 where

@@ -1,9 +1,9 @@
 -- A turn of a watch: which events it puts into the slots, and which line is taken out of them.
 use Rattle.std.specs.Prelude.{◌≡◌, ℕ, List, [], ◌∷◌, Option, Some, None, IsSomeAnd, slice_get, slice_set}
 use Rattle.lk_node_events.specs.Kinds.{kind_of}
-use Rattle.lk_node_events.specs.News.{Topic, topics, Gives, forgetting, told_with}
+use Rattle.lk_node_events.specs.News.{Topic, topics, Gives, forgetting, story_with}
 use Rattle.lk_node_events.specs.Timers.{TurnsQuiet, TurnsLag}
-use Rattle.lk_node_events.specs.RateLimits.{having_put, having_told, IsLineOf}
+use Rattle.lk_node_events.specs.RateLimits.{having_put, having_logged, IsLineOf}
 use Rattle.lk_node_events.specs.declared.event.Event.{Event}
 use Rattle.lk_node_events.specs.declared.rate_limit.Line.{Line}
 use Rattle.lk_node_events.specs.declared.rate_limit.RateLimit.{RateLimit}
@@ -32,11 +32,11 @@ pub data PutsNews (now : ℕ) (story : Story) (seen : Observation) : List Topic 
       → PutsNews now story seen rest mid new → PutsNews now story seen (topic ∷ rest) old new
 
 -- the line is that of this kind's slot, in which nothing waits then, and all other slots are unchanged
-pub record TakesOut (kind now : ℕ) (line : Line) (old new : List RateLimit) : Type 0 where
+pub record PopsDue (kind now : ℕ) (line : Line) (old new : List RateLimit) : Type 0 where
   pub slot : RateLimit
   pub is : slice_get old kind ≡ Some slot
-  pub told : IsLineOf slot now line
-  pub becomes : new ≡ slice_set old kind (having_told now)
+  pub logged : IsLineOf slot now line
+  pub becomes : new ≡ slice_set old kind (having_logged now)
 
 -- the first half of a turn: the events that depend on time are put into the slots
 pub record TurnsTimes (now : ℕ) (seen : Observation) (old new : Watch) : Type 0 where
@@ -55,7 +55,7 @@ pub record Turns (now : ℕ) (seen : Observation) (old new : Watch) : Type 0 whe
   pub times : TurnsTimes now seen old timed
   pub news : PutsNews now timed.story seen (topics timed.story seen) timed.slots.all new.slots.all
   pub becomes : new ≡ record {
-    story = told_with seen timed.story;
+    story = story_with seen timed.story;
     quiet = timed.quiet;
     lag = timed.lag;
     slots = new.slots;

@@ -17,14 +17,14 @@ pub enum Why {
     /// It is no member of the next position.
     NoMember,
     /// It has heard of a greater ballot.
-    Told,
+    HeardGreater,
 }
 
 /// What has happened to a node.
 #[derive(Debug, Drop)]
 pub enum Event {
     /// It started with an empty store: no promise, and no position executed.
-    Begun,
+    StartedEmpty,
     /// It started with its store, by which it has executed this many positions.
     Found(Executed),
     /// A majority has promised its ballot.
@@ -62,7 +62,7 @@ impl Event {
         ensures few { result < kinds }
     {
         match self {
-            Event::Begun => 0,
+            Event::StartedEmpty => 0,
             Event::Found(_) => 1,
             Event::Leads(_) => 2,
             Event::Ended(_, _) => 3,
@@ -99,7 +99,7 @@ impl fmt::Display for Why {
         match self {
             Why::Promised(node) => write!(f, "node {} began a greater ballot", node.get()),
             Why::NoMember => f.write_str("it is not a member"),
-            Why::Told => f.write_str("there is a greater ballot"),
+            Why::HeardGreater => f.write_str("there is a greater ballot"),
         }
     }
 }
@@ -188,7 +188,7 @@ fn write_foreign<W: fmt::Write>(count: u64, f: &mut fmt::Formatter<W>) -> fmt::R
 impl fmt::Display for Event {
     fn fmt<W: fmt::Write>(&self, f: &mut fmt::Formatter<W>) -> fmt::Result {
         match self {
-            Event::Begun => f.write_str("began with an empty store"),
+            Event::StartedEmpty => f.write_str("began with an empty store"),
             Event::Found(executed) => write_found(*executed, f),
             Event::Leads(ballot) => write_lead(*ballot, None, f),
             Event::Ended(ballot, why) => write_lead(*ballot, Some(*why), f),

@@ -114,7 +114,7 @@ impl<C: Clock + Drop, L: Log + Drop> Events<C, L> {
         ensures { watch.new ≡ record watch.old { slots = watch.new.slots } }
     {
         'kinds: for kind in 0..KINDS {
-            if let Some(line) = watch.take(kind, now) {
+            if let Some(line) = watch.pop_due(kind, now) {
                 self.log_line(&line);
             }
         }
@@ -137,7 +137,7 @@ impl<C: Clock + Drop, L: Log + Drop> Observer for Events<C, L> {
         watch.put(
             now,
             if is_empty {
-                Event::Begun
+                Event::StartedEmpty
             } else {
                 Event::Found(executed)
             },

@@ -53,7 +53,7 @@ impl Observation {
         }
         match NodeNo::of(self.promised.node()) {
             Some(node) if ballot.get().is_below(self.promised) => Why::Promised(node),
-            _ => Why::Told,
+            _ => Why::HeardGreater,
         }
     }
 }

@@ -1,7 +1,7 @@
 //! The slot of one kind of events, which limits its lines in the log to one a second.
 
 ghost use Rattle.std.specs.Prelude.{◌≡◌, Some, None, IfSome, IsSome, IsNone};
-ghost use Rattle.lk_node_events.specs.RateLimits.{having_put, having_told, is_due, IsLineOf, Waits};
+ghost use Rattle.lk_node_events.specs.RateLimits.{having_put, having_logged, is_due, IsLineOf, Waits};
 
 use crate::event::Event;
 
@@ -24,7 +24,7 @@ pub struct RateLimit {
     /// How many events of the kind it has replaced since the last line.
     pub others: u64,
     /// When the last line was logged.
-    pub told: Option<u64>,
+    pub logged: Option<u64>,
 }
 
 impl RateLimit {
@@ -32,7 +32,7 @@ impl RateLimit {
     pub const EMPTY: RateLimit = RateLimit {
         newest: None,
         others: 0,
-        told: None,
+        logged: None,
     };
 
     /// Keeps the event as the newest. One that waits is dropped, and only counted.
@@ -47,18 +47,18 @@ impl RateLimit {
 
     // Whether a line is due: none was logged, a second has passed since the last, or the clock was set back.
     fn is_due(&self, now: u64) -> bool
-        ensures { result ≡ is_due self.now.told now }
+        ensures { result ≡ is_due self.now.logged now }
     {
-        match self.told {
+        match self.logged {
             None => true,
-            Some(told) => now < told || now - told >= APART,
+            Some(logged) => now < logged || now - logged >= APART,
         }
     }
 
     /// Removes and returns the waiting line, if one is due.
     pub fn pop_due(&mut self, now: u64) -> Option<Line>
         ensures line { IfSome result (λ line. IsLineOf self.old now line) }
-        ensures told { IsSome result → self.new ≡ having_told now }
+        ensures logged { IsSome result → self.new ≡ having_logged now }
         ensures none { IsNone result → (self.new ≡ self.old) × (Waits self.old now) }
     {
         if !self.is_due(now) {
@@ -69,7 +69,7 @@ impl RateLimit {
         };
         let others = self.others;
         self.others = 0;
-        self.told = Some(now);
+        self.logged = Some(now);
         Some(Line {
             time,
             event,

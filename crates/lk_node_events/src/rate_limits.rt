@@ -4,7 +4,7 @@ ghost use Rattle.std.specs.Prelude.{◌≡◌, replicate, slice_get, Some, None,
 ghost use Rattle.lk_node_events.specs.Kinds.{kinds};
 ghost use Rattle.lk_node_events.specs.RateLimits.{empty, Waits};
 ghost use Rattle.lk_node_events.specs.declared.rate_limit.RateLimit.{RateLimit as RateLimitValue};
-ghost use Rattle.lk_node_events.specs.Watches.{Puts, PutsSome, TakesOut};
+ghost use Rattle.lk_node_events.specs.Watches.{Puts, PutsSome, PopsDue};
 
 use crate::event::{Event, KINDS};
 use crate::rate_limit::{Line, RateLimit};
@@ -59,8 +59,8 @@ impl RateLimits {
     }
 
     /// Removes and returns the waiting line of that kind, if one is due. `None` too for a kind that does not exist.
-    pub fn take(&mut self, kind: usize, now: u64) -> Option<Line>
-        ensures line { IfSome result (λ line. TakesOut kind now line self.old.all self.new.all) }
+    pub fn pop_due(&mut self, kind: usize, now: u64) -> Option<Line>
+        ensures line { IfSome result (λ line. PopsDue kind now line self.old.all self.new.all) }
         ensures none { result ≡ None → self.new ≡ self.old }
         ensures waits { result ≡ None → (slot : RateLimitValue) → slice_get self.old.all kind ≡ Some slot
             → Waits slot now }

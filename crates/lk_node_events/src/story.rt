@@ -1,7 +1,7 @@
 //! What was last reported of a node, and the events that an observation yields compared with that.
 
 ghost use Rattle.std.specs.Prelude.{◌≡◌};
-ghost use Rattle.lk_node_events.specs.News.{Gives, story_of, forgetting, told_with, is_one_of};
+ghost use Rattle.lk_node_events.specs.News.{Gives, story_of, forgetting, story_with, is_one_of};
 ghost use Rattle.lk_node_events.specs.News.{ending, leading, following, joining, leaving};
 ghost use Rattle.lk_node_events.specs.News.{writing, installing, failing, meeting, straying};
 ghost use Rattle.lk_node_events.specs.News.{lead_topics, joins, leaves, member_topics, work_topics, topics};
@@ -216,8 +216,8 @@ impl Story {
     }
 
     // Replaces the story by an observation. If that names no leader, the one followed last is kept.
-    fn become_told(&mut self, seen: Observation)
-        ensures { self.new ≡ told_with seen self.old }
+    fn become_observed(&mut self, seen: Observation)
+        ensures { self.new ≡ story_with seen self.old }
     {
         let Observation {
             leads,
@@ -235,9 +235,9 @@ impl Story {
     /// Puts what is news after a turn into the slots, and remembers it as reported.
     pub fn observe(&mut self, now: u64, seen: Observation, slots: &mut RateLimits)
         ensures news { PutsNews now self.old seen (topics self.old seen) slots.old.all slots.new.all }
-        ensures told { self.new ≡ told_with seen self.old }
+        ensures observed { self.new ≡ story_with seen self.old }
     {
         self.put_all(now, &seen, slots);
-        self.become_told(seen);
+        self.become_observed(seen);
     }
 }

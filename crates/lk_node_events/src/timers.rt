@@ -22,7 +22,7 @@ pub struct LeaderlessTimer {
     /// Since when, `None` while it has a leader.
     pub since: Option<u64>,
     /// How many seconds were last reported, 0 if none were.
-    pub told: u64,
+    pub logged: u64,
 }
 
 /// How long a node has been asking for commands that it missed.
@@ -31,23 +31,23 @@ pub struct BehindTimer {
     /// When it first asked, and when it asked last. `None` if it has asked nobody for a second.
     pub asked: Option<(u64, u64)>,
     /// Whether `Behind` was reported, so that `CaughtUp` has to follow.
-    pub told: bool,
+    pub logged: bool,
 }
 
 impl LeaderlessTimer {
     /// It has a leader.
     pub const NONE: LeaderlessTimer = LeaderlessTimer {
         since: None,
-        told: 0,
+        logged: 0,
     };
 
     // Notes the start of a time without a leader, or returns `Leaderless` if that has lasted two seconds, and again
     // each time that it has lasted twice the seconds reported last.
-    fn report_leaderless(&mut self, now: u64) -> Option<Event>
+    fn leaderless_event(&mut self, now: u64) -> Option<Event>
         ensures some { IfSome result (IsQuietNews self.old now) }
         ensures none { IsNone result → (e : EventValue) → IsQuietNews self.old now e → ⊥ }
-        ensures told { IfSome result (λ e. e ≡ Leaderless self.new.told) }
-        ensures kept { IsNone result → self.new.told ≡ self.old.told }
+        ensures logged { IfSome result (λ e. e ≡ Leaderless self.new.logged) }
+        ensures kept { IsNone result → self.new.logged ≡ self.old.logged }
         ensures since { self.new.since ≡ Some (first_time self.old.since now) }
     {
         let Some(since) = self.since else {
@@ -55,10 +55,10 @@ impl LeaderlessTimer {
             return None;
         };
         let seconds = now.saturating_sub(since) / SECOND;
-        if seconds < FIRST || seconds / 2 < self.told {
+        if seconds < FIRST || seconds / 2 < self.logged {
             return None;
         }
-        self.told = seconds;
+        self.logged = seconds;
         Some(Event::Leaderless(seconds))
     }
 
@@ -67,16 +67,16 @@ impl LeaderlessTimer {
         ensures some { IfSome result (λ e. (has_leader ≡ false) × IsQuietNews self.old now e) }
         // An event that is due is returned.
         ensures none { IsNone result → (has_leader ≡ true) ⊎ ((e : EventValue) → IsQuietNews self.old now e → ⊥) }
-        ensures leader { has_leader ≡ true → self.new ≡ record { since = None; told = 0 } }
+        ensures leader { has_leader ≡ true → self.new ≡ record { since = None; logged = 0 } }
         ensures since { has_leader ≡ false → self.new.since ≡ Some (first_time self.old.since now) }
-        ensures told { IfSome result (λ e. e ≡ Leaderless self.new.told) }
-        ensures kept { has_leader ≡ false → IsNone result → self.new.told ≡ self.old.told }
+        ensures logged { IfSome result (λ e. e ≡ Leaderless self.new.logged) }
+        ensures kept { has_leader ≡ false → IsNone result → self.new.logged ≡ self.old.logged }
     {
         if has_leader {
             *self = LeaderlessTimer::NONE;
             return None;
         }
-        self.report_leaderless(now)
+        self.leaderless_event(now)
     }
 }
 
@@ -84,15 +84,15 @@ impl BehindTimer {
     /// It has asked for nothing.
     pub const NONE: BehindTimer = BehindTimer {
         asked: None,
-        told: false,
+        logged: false,
     };
 
     // Notes that the node asks for what it missed. Returns `Behind` once, if it has been asking for a second.
-    fn report_behind(&mut self, now: u64, node: NodeNo) -> Option<Event>
+    fn behind_event(&mut self, now: u64, node: NodeNo) -> Option<Event>
         ensures some { IfSome result (λ e. (e ≡ Behind node) × IsBehind self.old now) }
         ensures none { IsNone result → IsBehind self.old now → ⊥ }
-        ensures told { IsSome result → self.new.told ≡ true }
-        ensures kept { IsNone result → self.new.told ≡ self.old.told }
+        ensures logged { IsSome result → self.new.logged ≡ true }
+        ensures kept { IsNone result → self.new.logged ≡ self.old.logged }
         ensures asked { self.new.asked ≡ Some (first_asked self.old.asked now, now) }
     {
         let Some((first, _)) = self.asked else {
@@ -100,16 +100,16 @@ impl BehindTimer {
             return None;
         };
         self.asked = Some((first, now));
-        if self.told || now.saturating_sub(first) < SECOND {
+        if self.logged || now.saturating_sub(first) < SECOND {
             return None;
         }
-        self.told = true;
+        self.logged = true;
         Some(Event::Behind(node))
     }
 
     // Forgets that the node was behind if it has asked nobody for a second, or the clock was set back. Then returns
     // `CaughtUp` if `Behind` was reported.
-    fn report_caught_up(&mut self, now: u64, executed: Executed) -> Option<Event>
+    fn caught_up_event(&mut self, now: u64, executed: Executed) -> Option<Event>
         ensures some { IfSome result (λ e. (e ≡ CaughtUp executed) × HasRested self.old now) }
         ensures none { IsNone result → HasRested self.old now → ⊥ }
         ensures over { IsOver self.old now → self.new ≡ no_lag }
@@ -121,9 +121,9 @@ impl BehindTimer {
         if now >= last && now - last < SECOND {
             return None;
         }
-        let was_told = self.told;
+        let was_logged = self.logged;
         *self = BehindTimer::NONE;
-        if !was_told {
+        if !was_logged {
             return None;
         }
         Some(Event::CaughtUp(executed))
@@ -138,8 +138,8 @@ impl BehindTimer {
         ensures becomes { BecomesLag self.old now wanted result self.new }
     {
         match wanted {
-            Some(node) => self.report_behind(now, node),
-            None => self.report_caught_up(now, executed),
+            Some(node) => self.behind_event(now, node),
+            None => self.caught_up_event(now, executed),
         }
     }
 }

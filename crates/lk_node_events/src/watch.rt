@@ -6,7 +6,7 @@ ghost use Rattle.lk_node_events.specs.News.{story_of};
 ghost use Rattle.lk_node_events.specs.Timers.{no_lag};
 ghost use Rattle.lk_node_events.specs.RateLimits.{empty, Waits};
 ghost use Rattle.lk_node_events.specs.declared.rate_limit.RateLimit.{RateLimit as RateLimitValue};
-ghost use Rattle.lk_node_events.specs.Watches.{Puts, TakesOut, TurnsTimes, Turns};
+ghost use Rattle.lk_node_events.specs.Watches.{Puts, PopsDue, TurnsTimes, Turns};
 
 use crate::event::Event;
 use crate::observation::Observation;
@@ -28,7 +28,7 @@ impl Watch {
     /// Returns a watch that begins with this observation: nothing waits to be logged.
     pub fn new(seen: Observation) -> Watch
         ensures story { result.story ≡ story_of seen }
-        ensures quiet { result.quiet ≡ record { since = None; told = 0 } }
+        ensures quiet { result.quiet ≡ record { since = None; logged = 0 } }
         ensures lag { result.lag ≡ no_lag }
         ensures slots { result.slots.all ≡ replicate kinds empty }
     {
@@ -68,13 +68,13 @@ impl Watch {
     }
 
     /// Removes and returns the waiting line of that kind, if one is due.
-    pub fn take(&mut self, kind: usize, now: u64) -> Option<Line>
-        ensures line { IfSome result (λ line. TakesOut kind now line self.old.slots.all self.new.slots.all) }
+    pub fn pop_due(&mut self, kind: usize, now: u64) -> Option<Line>
+        ensures line { IfSome result (λ line. PopsDue kind now line self.old.slots.all self.new.slots.all) }
         ensures others { self.new ≡ record self.old { slots = self.new.slots } }
         ensures none { result ≡ None → self.new ≡ self.old }
         ensures waits { result ≡ None → (slot : RateLimitValue)
             → slice_get self.old.slots.all kind ≡ Some slot → Waits slot now }
     {
-        self.slots.take(kind, now)
+        self.slots.pop_due(kind, now)
     }
 }

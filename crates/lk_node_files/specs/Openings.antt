@@ -1,8 +1,8 @@
 -- Why something does not open.
 use Rattle.std.specs.Prelude.{◌≡◌, ◌⊎◌}
-use Rattle.lk_transport.specs.declared.fault.ServiceFault.{ServiceFault}
-use Rattle.lk_transport.specs.declared.fault.ServiceFault.TheVariants.{CannotOpen, NoMemory}
+use Rattle.lk_transport.specs.declared.fault.ProgramFault.{ProgramFault}
+use Rattle.lk_transport.specs.declared.fault.ProgramFault.TheVariants.{CannotOpen, NoMemory}
 
 -- the faults with which opening fails: it does not open, or there is no memory for its path
-abbrev pub IsClosed : ServiceFault → Type 0
+abbrev pub IsClosed : ProgramFault → Type 0
 IsClosed fault = (fault ≡ CannotOpen) ⊎ (fault ≡ NoMemory)

@@ -5,7 +5,7 @@ ghost use Rattle.lk_node_files.specs.Openings.{IsClosed};
 
 use lk_disk::{FileDisk, Side, SystemDisk};
 use lk_memory_disk::MemoryDisk;
-use lk_transport::fault::ServiceFault;
+use lk_transport::fault::ProgramFault;
 use lk_transport::socket::{LocalSocket, local};
 use std::alloc::Global;
 use std::fmt::Display;
@@ -20,11 +20,11 @@ pub fn write_cause<N: Display + Drop, T: Display + Drop, E: Write>(
     name: N,
     text: T,
     err: &mut E,
-) -> ServiceFault
-    ensures { result ≡ ServiceFault.CannotOpen }
+) -> ProgramFault
+    ensures { result ≡ ProgramFault.CannotOpen }
 {
     let _ = writeln!(err, "{name}: {text}");
-    ServiceFault::CannotOpen
+    ProgramFault::CannotOpen
 }
 
 /// Opens a socket at a port of 127.0.0.1, for 0 at any free one. On failure it writes the reason and returns
@@ -33,8 +33,8 @@ pub fn open_socket<R: Net, E: Write>(
     rt: &R,
     port: u16,
     err: &mut E,
-) -> Result<LocalSocket, ServiceFault>
-    ensures fault { IfErr result (λ fault. fault ≡ ServiceFault.CannotOpen) }
+) -> Result<LocalSocket, ProgramFault>
+    ensures fault { IfErr result (λ fault. fault ≡ ProgramFault.CannotOpen) }
     ensures quiet { IfOk result (λ _. err.new ≡ err.old) }
 {
     open_socket_at(rt, local(port), err)
@@ -45,8 +45,8 @@ pub fn open_socket_at<R: Net, E: Write>(
     rt: &R,
     address: SocketAddr,
     err: &mut E,
-) -> Result<LocalSocket, ServiceFault>
-    ensures fault { IfErr result (λ fault. fault ≡ ServiceFault.CannotOpen) }
+) -> Result<LocalSocket, ProgramFault>
+    ensures fault { IfErr result (λ fault. fault ≡ ProgramFault.CannotOpen) }
     ensures quiet { IfOk result (λ _. err.new ≡ err.old) }
 {
     match LocalSocket::open_at(rt, address) {
@@ -64,7 +64,7 @@ pub fn open_file<R: Files, E: Write>(
     folder: &str,
     name: &str,
     err: &mut E,
-) -> Result<R::File, ServiceFault>
+) -> Result<R::File, ProgramFault>
     ensures fault { IfErr result IsClosed }
     ensures quiet { IfOk result (λ _. err.new ≡ err.old) }
 {
@@ -83,7 +83,7 @@ pub fn write_open_error<R: Files, E: Write>(
     how: &OpenOptions,
     folder: &str,
     err: &mut E,
-) -> ServiceFault
+) -> ProgramFault
     ensures { IsClosed result }
 {
     for name in ["a", "b"] {
@@ -91,7 +91,7 @@ pub fn write_open_error<R: Files, E: Write>(
             return fault;
         }
     }
-    ServiceFault::CannotOpen
+    ProgramFault::CannotOpen
 }
 
 /// A device that says why one of its calls failed.
@@ -114,15 +114,15 @@ impl FailureCause for MemoryDisk {
 
 /// Writes a line for each file of a folder with a failed call, if the fault is `Device`. Returns the fault unchanged.
 pub fn write_failed_calls<D: FailureCause, E: Write>(
-    fault: ServiceFault,
+    fault: ProgramFault,
     device: &D,
     folder: &str,
     err: &mut E,
-) -> ServiceFault
+) -> ProgramFault
     ensures fault { result ≡ fault }
-    ensures quiet { fault ≢ ServiceFault.Device → err.new ≡ err.old }
+    ensures quiet { fault ≢ ProgramFault.Device → err.new ≡ err.old }
 {
-    if fault == ServiceFault::Device {
+    if fault == ProgramFault::Device {
         for (side, name) in [(Side::A, "a"), (Side::B, "b")] {
             if let Some(cause) = device.cause(side) {
                 let _ = writeln!(err, "{folder}/{name}: {cause}");

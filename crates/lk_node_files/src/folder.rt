@@ -1,16 +1,16 @@
-//! Opens the files of a node's folder, and locks it so that only one process serves from it.
+//! Opens the files of a node's folder, and locks it so that only one process runs on it.
 
 ghost use Rattle.std.specs.Prelude.{◌≡◌, IfOk, IfErr};
 ghost use Rattle.lk_node_files.specs.Openings.{IsClosed};
 
 use crate::causes::{open_file, write_cause, write_open_error};
 use lk_disk::{FileDisk, SystemDisk};
-use lk_transport::fault::ServiceFault;
+use lk_transport::fault::ProgramFault;
 use std::alloc::Global;
 use std::fs::{File, Files, OpenOptions, TryLockError};
 use std::io::Write;
 
-/// A folder from which no other process can serve as long as the value lives: its file `a` is locked. The lock ends
+/// A folder on which no other process can run a node as long as the value lives: its file `a` is locked. The lock ends
 /// with the process, and does not affect readers.
 #[derive(Drop)]
 pub struct FolderLock {
@@ -32,7 +32,7 @@ impl FolderLock {
         alloc: Global,
         folder: &str,
         err: &mut E,
-    ) -> Result<FolderLock, ServiceFault>
+    ) -> Result<FolderLock, ProgramFault>
         ensures fault { IfErr result IsClosed }
         ensures quiet { IfOk result (λ _. err.new ≡ err.old) }
     {
@@ -54,7 +54,7 @@ pub fn open_device<R: Files, E: Write>(
     alloc: Global,
     folder: &str,
     err: &mut E,
-) -> Result<SystemDisk<R::File>, ServiceFault>
+) -> Result<SystemDisk<R::File>, ProgramFault>
     ensures fault { IfErr result IsClosed }
     ensures quiet { IfOk result (λ _. err.new ≡ err.old) }
 {
@@ -70,7 +70,7 @@ pub fn look_at_device<R: Files, E: Write>(
     alloc: Global,
     folder: &str,
     err: &mut E,
-) -> Result<SystemDisk<R::File>, ServiceFault>
+) -> Result<SystemDisk<R::File>, ProgramFault>
     ensures fault { IfErr result IsClosed }
     ensures quiet { IfOk result (λ _. err.new ≡ err.old) }
 {

@@ -8,7 +8,7 @@ ghost use Rattle.lk_node_files.specs.Ends.{EndsAt};
 use crate::causes::{FailureCause, write_failed_calls};
 use lk_disk::{LogDisk, Side};
 use lk_store_format::{EntryFault, Header, Stored, first_entry};
-use lk_transport::fault::ServiceFault;
+use lk_transport::fault::ProgramFault;
 use std::alloc::Global;
 use std::io;
 use std::io::Write;
@@ -124,7 +124,7 @@ fn write_base<E: Write>(alloc: Global, bytes: &[u8], folder: &str, name: &str, e
 }
 
 // Writes whose store each file of a folder is, and which options to check.
-fn write_owner<D: LogDisk, E: Write>(alloc: Global, device: &mut D, folder: &str, err: &mut E)
+fn write_whose<D: LogDisk, E: Write>(alloc: Global, device: &mut D, folder: &str, err: &mut E)
     ensures { D.is_honest → (s : SideValue) → D.disk device.new s ≡ D.disk device.old s }
 {
     'files: for (side, name) in FILES {
@@ -139,19 +139,19 @@ fn write_owner<D: LogDisk, E: Write>(alloc: Global, device: &mut D, folder: &str
 /// is. It reads the files and changes none. Returns the fault unchanged.
 pub fn write_refusal<D: LogDisk + FailureCause, E: Write>(
     alloc: Global,
-    fault: ServiceFault,
+    fault: ProgramFault,
     device: &mut D,
     folder: &str,
     err: &mut E,
-) -> ServiceFault
+) -> ProgramFault
     ensures fault { result ≡ fault }
     ensures unchanged { D.is_honest → (s : SideValue) → D.disk device.new s ≡ D.disk device.old s }
-    ensures quiet { fault ≢ ServiceFault.Damaged → fault ≢ ServiceFault.WrongStore
-        → fault ≢ ServiceFault.Device → err.new ≡ err.old }
+    ensures quiet { fault ≢ ProgramFault.Damaged → fault ≢ ProgramFault.WrongStore
+        → fault ≢ ProgramFault.Device → err.new ≡ err.old }
 {
     match fault {
-        ServiceFault::Damaged => write_damage(alloc, device, folder, err),
-        ServiceFault::WrongStore => write_owner(alloc, device, folder, err),
+        ProgramFault::Damaged => write_damage(alloc, device, folder, err),
+        ProgramFault::WrongStore => write_whose(alloc, device, folder, err),
         _ => {}
     }
     write_failed_calls(fault, device, folder, err)

@@ -61,13 +61,13 @@ impl TickCount {
         self.count
     }
 
-    /// Whether a node at this place, from 0, among the members of the next position has waited long enough for a
-    /// leader: 4 ticks, and 4 more for each place. A node that is no member (`None`) never has.
+    /// Whether a node at this index, from 0, among the members of the next position has waited long enough for a
+    /// leader: 4 ticks, and 4 more for each index. A node that is no member (`None`) never has.
     pub fn is_enough(&self, index: Option<usize>) -> bool
         ensures { result ≡ is_enough self.now index }
     {
         let ticks = self.get();
-        // The same as 4 + 4 * place <= ticks, without a sum that could overflow.
+        // The same as 4 + 4 * index <= ticks, without a sum that could overflow.
         match index {
             Some(index) => ticks >= TICKS_A_MEMBER && index < usize::from(ticks / TICKS_A_MEMBER),
             None => false,

@@ -9,12 +9,12 @@ use Rattle.lk_transport.specs.Addresses.{IsSameNetwork, filter_of}
 use Rattle.lk_transport.specs.ReceiveBuffers.{BufferValue}
 use Rattle.lk_transport.specs.Kept.{KeepsOf}
 use Rattle.lk_transport.specs.Posts.{all_filtered}
-use Rattle.lk_served_replica.specs.Sayings.{SaysOf}
+use Rattle.lk_server_replica.specs.Sayings.{SaysOf}
 use Rattle.lk_server.specs.ProbeHandling.{HandlesProbes}
-use Rattle.lk_served_replica.specs.Showing.{IsShown}
-use Rattle.lk_server.specs.Servers.{ServerValue, HasReceived, TakesTurn as ServerTurn, LastTurn}
+use Rattle.lk_server_replica.specs.Showing.{IsShown}
+use Rattle.lk_server.specs.Servers.{ServerValue, HasReceived, TurnOrIdle as ServerTurn, LastTurn}
 use Rattle.lk_transport.specs.Chains.{Repeats}
-use Rattle.lk_node_process.specs.Turns.{TakesTurn, TakesTurnWith, EndsByStranger, EndsTurn, BreaksOff}
+use Rattle.lk_node_process.specs.Turns.{DoesTurn, DoesTurnWith, EndsByStranger, EndsTurn, BreaksOff}
 use Rattle.lk_node_process.specs.Turns.{BreaksOffByStranger, TellsFailure}
 
 -- what a replica on a device says, where that is honest
@@ -27,12 +27,12 @@ pub on_err : {T E P : Type 0} (r : Result T E) → P → OnErr r P
 on_err (Ok x) p = tt
 on_err (Err e) p = p
 
-module _ {Says : ReplicaValue → List (Option (List ℕ)) → List LetterValue → ReplicaValue → Type 0} {tells : Type 0}
+module _ {Says : ReplicaValue → List (Option (List ℕ)) → List LetterValue → ReplicaValue → Type 0} {observable : Type 0}
     {count : ℕ} {first last new : ServerValue ReplicaValue} where
   -- one ended the replica, or was the last
-  pub turns_end : (most : ℕ) → count < most → Repeats (TakesTurn Says tells) count first last
-      → EndsTurn Says tells last new ⊎ EndsByStranger Says tells last new
-      → BreaksOff Says tells most first new ⊎ BreaksOffByStranger Says tells most first new
+  pub turns_end : (most : ℕ) → count < most → Repeats (DoesTurn Says observable) count first last
+      → EndsTurn Says observable last new ⊎ EndsByStranger Says observable last new
+      → BreaksOff Says observable most first new ⊎ BreaksOffByStranger Says observable most first new
   turns_end most fewer so_far (inl ends) =
       inl (record { count = count; fewer = fewer; last = last; turns = so_far; ends = ends })
   turns_end most fewer so_far (inr leave) =
@@ -40,9 +40,10 @@ module _ {Says : ReplicaValue → List (Option (List ℕ)) → List LetterValue 
 
 -- a turn that ended the replica
 pub turn_ended : {Says : ReplicaValue → List (Option (List ℕ)) → List LetterValue → ReplicaValue → Type 0}
-    {tells : Type 0} (frames : List (SocketAddr × List ℕ)) (old new : ServerValue ReplicaValue)
-    → HasReceived tells frames old new → LastTurn Says tells (all_filtered (filter_of old.addresses) frames) old new
-    → IsSameNetwork old.addresses new.addresses → TellsFailure new → EndsTurn Says tells old new
+    {observable : Type 0} (frames : List (SocketAddr × List ℕ)) (old new : ServerValue ReplicaValue)
+    → HasReceived observable frames old new → LastTurn Says observable (all_filtered
+    (filter_of old.addresses) frames) old new
+    → IsSameNetwork old.addresses new.addresses → TellsFailure new → EndsTurn Says observable old new
 turn_ended frames old new received turn network failure =
     record {
       frames = frames;
@@ -56,13 +57,14 @@ turn_ended frames old new received turn network failure =
 
 -- a turn, and what the server does beside the protocol after it
 pub turn_taken : {Says : ReplicaValue → List (Option (List ℕ)) → List LetterValue → ReplicaValue → Type 0}
-    {tells : Type 0} (After : ServerValue ReplicaValue → Type 0) (frames : List (SocketAddr × List ℕ))
+    {observable : Type 0} (After : ServerValue ReplicaValue → Type 0) (frames : List (SocketAddr × List ℕ))
     (kept left : BufferValue)
-    (old mid new : ServerValue ReplicaValue) → HasReceived tells frames old mid → ServerTurn Says tells frames old mid
+    (old mid new : ServerValue ReplicaValue) → HasReceived observable frames old mid
+    → ServerTurn Says observable frames old mid
     → KeepsOf old.node old.addresses.seals frames kept left
-    → HandlesProbes IsShown tells left.asked left.reported mid new
+    → HandlesProbes IsShown observable left.asked left.reported mid new
     → IsSameNetwork old.addresses mid.addresses → TellsFailure new → After new
-    → TakesTurnWith Says tells kept.asked kept.reported After old new
+    → DoesTurnWith Says observable kept.asked kept.reported After old new
 turn_taken After frames kept left old mid new received turn keeps acts network failure becomes = record {
   frames = frames;
   came = all_filtered (filter_of old.addresses) frames;

@@ -19,7 +19,7 @@ use Rattle.lk_recovery.specs.Revivals.{IsRefusedFor}
 use Rattle.lk_node_interface.specs.declared.fault.ReplicaFault.{ReplicaFault}
 use Rattle.lk_transport.specs.Faults.{replica_fault}
 use Rattle.lk_server.specs.Servers.{ServerValue}
-use Rattle.lk_transport.specs.declared.fault.ServiceFault.{ServiceFault}
+use Rattle.lk_transport.specs.declared.fault.ProgramFault.{ProgramFault}
 
 -- a replica of this header restarts from what these disks have: it goes on in each history that they fit, and its
 -- files have not grown, except up to the size of a Base
@@ -46,7 +46,7 @@ module _ (m : Meaning) (honest : Type 0) (old : Side → Disk) (header : HeaderV
     pub ready : MayGoOn header s.replica
     pub comes_up : honest → ComesUp m header old s.replica
     pub alive : s.failed ≡ false
-    pub own_letters : s.own_letters ≡ []
+    pub loopback : s.loopback ≡ []
     pub received : s.received ≡ 0
 
 module _ (m : Meaning) (IsText : List ℕ → Type 0) (honest : Type 0) (old : Side → Disk) (header : HeaderValue) where
@@ -61,7 +61,7 @@ module _ (m : Meaning) (IsText : List ℕ → Type 0) (honest : Type 0) (old : S
         → DisksFit m h n old → IsNumberOfRevival number
 
   -- the restart failed, and this fault reports it
-  pub record IsRefusedWith (told : ServiceFault) : Type 0 where
+  pub record IsRefusedWith (told : ProgramFault) : Type 0 where
     pub fault : ReplicaFault
     pub is : told ≡ replica_fault fault
     pub left : Side → Disk

@@ -3,14 +3,14 @@ use Rattle.std.specs.Prelude.{◌≡◌, ◌⊎◌, ◌<◌, ℕ, List, Option}
 use Rattle.lk_probe.specs.declared.status.Status.{Status}
 use Rattle.lk_node_interface.specs.Letters.{LetterValue}
 use Rattle.lk_replica.specs.ReplicaValue.{ReplicaValue}
-use Rattle.lk_served_replica.specs.Showing.{IsShown}
-use Rattle.lk_served_replica.specs.declared.probed_state.ProbedState.{ProbedState}
+use Rattle.lk_server_replica.specs.Showing.{IsShown}
+use Rattle.lk_server_replica.specs.declared.probed_state.ProbedState.{ProbedState}
 use Rattle.lk_server.specs.Probes.{ReportsStatus}
 use Rattle.lk_server.specs.Servers.{ServerValue}
 use Rattle.lk_transport.specs.Chains.{Repeats}
 use Rattle.lk_node_setup.specs.Reminders.{IsDue, Reminds, having_warned}
 use Rattle.lk_node_setup.specs.declared.port_reminder.PortReminder.{PortReminder}
-use Rattle.lk_node_process.specs.Turns.{TakesTurn, EndsByStranger, EndsTurn}
+use Rattle.lk_node_process.specs.Turns.{DoesTurn, EndsByStranger, EndsTurn}
 
 -- a server, the reminder of its node, and what was written so far
 pub record Reminded : Type 0 where
@@ -37,10 +37,10 @@ pub record Warns (node port : ℕ) (s : ServerValue ReplicaValue) (old new : Por
       ⊎ ((named : ℕ) × IsDue old status named × (new ≡ having_warned old status))
 
 module _ (Says : ReplicaValue → List (Option (List ℕ)) → List LetterValue → ReplicaValue → Type 0)
-    (tells : Type 0) (node port : ℕ) where
+    (observable : Type 0) (node port : ℕ) where
   -- a turn, and then the warning by what the server reports after it
-  pub record TakesTurnAndWarns (old new : Reminded) : Type 0 where
-    pub turn : TakesTurn Says tells old.server new.server
+  pub record DoesTurnAndWarns (old new : Reminded) : Type 0 where
+    pub turn : DoesTurn Says observable old.server new.server
     pub warning : Warns node port new.server old.reminder new.reminder old.written new.written
 
   -- it took fewer turns than this, each with its warning, and then one that ended it
@@ -48,5 +48,5 @@ module _ (Says : ReplicaValue → List (Option (List ℕ)) → List LetterValue 
     pub count : ℕ
     pub fewer : count < most
     pub last : Reminded
-    pub turns : Repeats TakesTurnAndWarns count first last
-    pub ends : EndsTurn Says tells last.server ended ⊎ EndsByStranger Says tells last.server ended
+    pub turns : Repeats DoesTurnAndWarns count first last
+    pub ends : EndsTurn Says observable last.server ended ⊎ EndsByStranger Says observable last.server ended

@@ -4,7 +4,7 @@ ghost use Rattle.std.specs.Prelude.{◌≡◌};
 
 use lk_probe::DIGEST;
 use lk_probe::neighbours::Origin;
-use lk_transport::fault::ServiceFault;
+use lk_transport::fault::ProgramFault;
 use std::io;
 use std::io::Write;
 
@@ -30,9 +30,9 @@ pub fn write_other_genesis<E: Write>(
     own_origin: &Origin,
     leader: &Origin,
     err: &mut E,
-) -> ServiceFault
-    ensures { result ≡ ServiceFault.OtherGenesis }
+) -> ProgramFault
+    ensures { result ≡ ProgramFault.OtherGenesis }
 {
     let _ = write_line(own_origin, leader, err);
-    ServiceFault::OtherGenesis
+    ProgramFault::OtherGenesis
 }

@@ -13,7 +13,7 @@ use lk_replica::Replica;
 use lk_server::server::Server;
 use lk_state::Machine;
 use lk_store_format::Header;
-use lk_transport::fault::ServiceFault;
+use lk_transport::fault::ProgramFault;
 use lk_transport::network::Network;
 use lk_transport::receive_buffer::ReceiveBuffer;
 use lk_transport::socket::{DatagramSocket, LocalSocket, local};
@@ -31,7 +31,7 @@ const ALPHA: u8 = 2;
 // How many nodes it has.
 const NODES: usize = 3;
 // The clients' requests in order: the client, the number of the request, and its words as `locks ask` takes them.
-const STORY: [(u16, u64, &[u8]); 4] = [
+const REQUESTS: [(u16, u64, &[u8]); 4] = [
     (1, 1, b"acquire db"),
     (2, 1, b"acquire db"),
     (1, 2, b"release db 1"),
@@ -65,7 +65,7 @@ struct Cluster<M: Machine, S: DatagramSocket + Drop> {
     port: Port,
 }
 
-// Makes the member that serves on a socket; `None` if the port of the socket is not known, or a number is out of range.
+// Makes the member that runs on a socket; `None` if the port of the socket is not known, or a number is out of range.
 fn member_at<S: DatagramSocket>(node: u32, socket: &S) -> Option<Member> {
     let port = socket.port()?;
     match (NodeNo::of(node), Port::of(port)) {
@@ -74,18 +74,18 @@ fn member_at<S: DatagramSocket>(node: u32, socket: &S) -> Option<Member> {
     }
 }
 
-// Makes the genesis of a cluster whose members, numbered from 1, serve on these sockets.
-fn genesis_at<S: DatagramSocket>(alloc: Global, sockets: &[S]) -> Result<Genesis, ServiceFault> {
+// Makes the genesis of a cluster whose members, numbered from 1, run on these sockets.
+fn genesis_at<S: DatagramSocket>(alloc: Global, sockets: &[S]) -> Result<Genesis, ProgramFault> {
     let mut members = Vec::new(alloc);
     let mut node = 0u32;
     for socket in sockets {
         node = node.saturating_add(1);
         let Some(member) = member_at(node, socket) else {
-            return Err(ServiceFault::CannotOpen);
+            return Err(ProgramFault::CannotOpen);
         };
         members.push(member)?;
     }
-    Genesis::of(CLUSTER, ALPHA, &members).map_err(|_| ServiceFault::CannotOpen)
+    Genesis::of(CLUSTER, ALPHA, &members).map_err(|_| ProgramFault::CannotOpen)
 }
 
 // Starts the server of a member, on an empty disk in memory.
@@ -94,7 +94,7 @@ fn start<M: Machine, S: DatagramSocket + Drop>(
     node: NodeNo,
     genesis: &Genesis,
     socket: S,
-) -> Result<DemoServer<M, S>, ServiceFault> {
+) -> Result<DemoServer<M, S>, ProgramFault> {
     let header = Header::new(node, genesis.copy());
     let resources = Resources {
         device: MemoryDisk::new(alloc),
@@ -105,7 +105,7 @@ fn start<M: Machine, S: DatagramSocket + Drop>(
     };
     match revive::<M, _, _, _>(alloc, &header, resources, &Discard) {
         Ok(server) => Ok(server),
-        Err(refused) => Err(ServiceFault::of_replica(&refused.fault)),
+        Err(refused) => Err(ProgramFault::of_replica(&refused.fault)),
     }
 }
 
@@ -114,7 +114,7 @@ fn start_all<M: Machine, S: DatagramSocket + Drop>(
     alloc: Global,
     genesis: &Genesis,
     sockets: Vec<S>,
-) -> Result<Vec<DemoServer<M, S>>, ServiceFault> {
+) -> Result<Vec<DemoServer<M, S>>, ProgramFault> {
     let mut nodes = Vec::new(alloc);
     for (member, socket) in genesis.members.as_slice().iter().zip(sockets) {
         nodes.push(start(alloc, member.node, genesis, socket)?)?;
@@ -139,7 +139,7 @@ fn question_of(row: (u16, u64, &[u8]), port: Port) -> Option<Question> {
 
 impl<M: Machine, S: DatagramSocket + Drop> Cluster<M, S> {
     // Starts a new cluster on these sockets.
-    fn start(alloc: Global, sockets: Sockets<S>) -> Result<Cluster<M, S>, ServiceFault> {
+    fn start(alloc: Global, sockets: Sockets<S>) -> Result<Cluster<M, S>, ProgramFault> {
         let Sockets { nodes, client } = sockets;
         let genesis = genesis_at(alloc, &nodes)?;
         let port = genesis.members.as_slice()[0].port;
@@ -153,16 +153,16 @@ impl<M: Machine, S: DatagramSocket + Drop> Cluster<M, S> {
     }
 
     // Each node takes what is waiting for it as one group. Returns whether any replica was given something.
-    fn step_nodes(&mut self) -> Result<bool, ServiceFault> {
-        let mut was_served = false;
+    fn step_nodes(&mut self) -> Result<bool, ProgramFault> {
+        let mut was_given = false;
         for node in &mut self.nodes {
-            was_served |= node.take_waiting(&mut self.buffer, &Discard)?;
+            was_given |= node.untimed_turn(&mut self.buffer, &Discard)?;
         }
-        Ok(was_served)
+        Ok(was_given)
     }
 
     // Each node takes a tick.
-    fn tick(&mut self) -> Result<(), ServiceFault> {
+    fn tick(&mut self) -> Result<(), ProgramFault> {
         for node in &mut self.nodes {
             node.tick(&Discard)?;
         }
@@ -185,12 +185,12 @@ impl<M: Machine, S: DatagramSocket + Drop> Cluster<M, S> {
         &mut self,
         question: &Question,
         bytes: &[u8],
-    ) -> Result<Option<Reply>, ServiceFault> {
+    ) -> Result<Option<Reply>, ProgramFault> {
         for _ in 0..TURNS {
-            let was_served = self.step_nodes()?;
+            let was_given = self.step_nodes()?;
             match self.receive_reply(question, bytes) {
                 Heard::Reply(reply) => return Ok(Some(reply)),
-                Heard::Nothing if !was_served => return Ok(None),
+                Heard::Nothing if !was_given => return Ok(None),
                 Heard::Nothing | Heard::Other => {}
             }
         }
@@ -203,7 +203,7 @@ impl<M: Machine, S: DatagramSocket + Drop> Cluster<M, S> {
         &mut self,
         alloc: Global,
         question: &Question,
-    ) -> Result<Option<Reply>, ServiceFault> {
+    ) -> Result<Option<Reply>, ProgramFault> {
         let bytes = datagram(alloc, question)?;
         for idle in 0..IDLE_TURNS {
             if idle % PATIENCE == 0 {
@@ -223,12 +223,12 @@ impl<M: Machine, S: DatagramSocket + Drop> Cluster<M, S> {
         alloc: Global,
         row: (u16, u64, &[u8]),
         out: &mut W,
-    ) -> Result<bool, ServiceFault> {
+    ) -> Result<bool, ProgramFault> {
         let reply = match question_of(row, self.port) {
             Some(question) => self.exchange(alloc, &question)?,
             None => None,
         };
-        write_reply(reply, out).map_err(|_| ServiceFault::Write)
+        write_reply(reply, out).map_err(|_| ProgramFault::Write)
     }
 }
 
@@ -238,9 +238,9 @@ pub fn run_demo<M: Machine, S: DatagramSocket + Drop, W: Write>(
     alloc: Global,
     sockets: Sockets<S>,
     out: &mut W,
-) -> Result<bool, ServiceFault> {
+) -> Result<bool, ProgramFault> {
     let mut cluster: Cluster<M, S> = Cluster::start(alloc, sockets)?;
-    for row in STORY {
+    for row in REQUESTS {
         if !cluster.play_row(alloc, row, out)? {
             return Ok(false);
         }
@@ -253,7 +253,7 @@ fn free_sockets<R: Net>(
     rt: &R,
     alloc: Global,
     count: usize,
-) -> Result<Vec<LocalSocket>, ServiceFault> {
+) -> Result<Vec<LocalSocket>, ProgramFault> {
     let mut sockets = Vec::new(alloc);
     for _ in 0..count {
         sockets.push(LocalSocket::without_waiting(rt, 0)?)?;
@@ -266,12 +266,12 @@ fn play_on_ports<M: Machine, R: Net, W: Write>(
     rt: &R,
     alloc: Global,
     out: &mut W,
-) -> Result<bool, ServiceFault> {
+) -> Result<bool, ProgramFault> {
     let client = LocalSocket::without_waiting(rt, 0)?;
     let nodes = free_sockets(rt, alloc, NODES)?;
     let is_answered = run_demo::<M, _, W>(alloc, Sockets { nodes, client }, out)?;
     if out.flush().is_err() {
-        return Err(ServiceFault::Write);
+        return Err(ProgramFault::Write);
     }
     Ok(is_answered)
 }

@@ -1,4 +1,4 @@
-//! `locks node` and `locks demo`, over files and sockets: starts a node on what it runs on, takes its turns, and
+//! `locks node` and `locks demo`, over files and sockets: starts a node on what it runs on, does its turns, and
 //! reports them.
 #![tactic(auto)]
 

@@ -10,7 +10,7 @@ use lk_replica::Replica;
 use lk_server::server::Server;
 use lk_server::turn_events::TurnEvents;
 use lk_state::Machine;
-use lk_transport::fault::ServiceFault;
+use lk_transport::fault::ProgramFault;
 use lk_transport::socket::DatagramSocket;
 use lk_types::{Members, NodeNo};
 
@@ -70,7 +70,7 @@ pub fn observe_start<M: Machine, D: LogDisk + Drop, O: Observer>(
     }
 }
 
-/// Reports to an observer that a server has taken a turn, and clears the server's events. Does nothing if it is off.
+/// Reports to an observer that a server has done a turn, and clears the server's events. Does nothing if it is off.
 pub fn observe_turn<M: Machine, D: LogDisk + Drop, S: DatagramSocket + Drop, O: Observer>(
     server: &mut Server<Replica<M, D>, S>,
     observer: &mut O,
@@ -78,21 +78,21 @@ pub fn observe_turn<M: Machine, D: LogDisk + Drop, S: DatagramSocket + Drop, O: 
     ensures { server.new ≡ server.old }
 {
     if observer.is_on() {
-        let events = server.take_events();
+        let events = server.drain_events();
         observer.observe(observation_of(server.replica().node(), &events));
     }
 }
 
 // Returns the text of a fault for an event, without a line end.
-fn words_for(fault: ServiceFault) -> &'static str {
+fn words_for(fault: ProgramFault) -> &'static str {
     match fault {
-        ServiceFault::OtherGenesis => "another genesis",
+        ProgramFault::OtherGenesis => "another genesis",
         _ => fault.text().trim_end(),
     }
 }
 
 /// Reports to an observer that a node ends with a fault.
-pub fn observe_end<O: Observer>(fault: ServiceFault, observer: &mut O) {
+pub fn observe_end<O: Observer>(fault: ProgramFault, observer: &mut O) {
     if observer.is_on() {
         observer.end(words_for(fault));
     }

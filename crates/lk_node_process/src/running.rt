@@ -1,19 +1,19 @@
-//! Runs a node: starts its server from a device, and takes its turns.
+//! Runs a node: starts its server from a device, and does its turns.
 
 ghost use Rattle.std.specs.Prelude.{◌≡◌, ◌≤◌, ◌^◌, ◌⊎◌, None, IfOk, IfErr, OnOk, OnErr};
 ghost use Rattle.lk_node_interface.specs.Faults.{fault_number};
 ghost use Rattle.lk_replica.specs.ReplicaValue.{ReplicaValue};
 ghost use Rattle.lk_replica.specs.Revived.{MayGoOn};
 ghost use Rattle.lk_server.specs.ProbeHandling.{HandlesProbes};
-ghost use Rattle.lk_served_replica.specs.Showing.{IsShown};
+ghost use Rattle.lk_server_replica.specs.Showing.{IsShown};
 ghost use Rattle.lk_server.specs.Servers.{ServerValue, IsConfiguredAs, HasSocket};
 ghost use Rattle.lk_transport.specs.Chains.{Repeats};
 ghost use Rattle.lk_node_setup.specs.KeysOfNode.{AreSealsOf};
 ghost use Rattle.lk_node_process.specs.Revivals.{ComesUp, IsServerStarted, IsRestartRefused, IsRefusedWith};
-ghost use Rattle.lk_node_process.specs.Turns.{TakesTurn, TakesTurnWith, HasFollowedNoStranger, HasFollowedStranger};
+ghost use Rattle.lk_node_process.specs.Turns.{DoesTurn, DoesTurnWith, HasFollowedNoStranger, HasFollowedStranger};
 ghost use Rattle.lk_node_process.specs.Turns.{EndsTurn, BreaksOff, BreaksOffByStranger};
-ghost use Rattle.lk_node_process.specs.Turns.{Serves, EndsEarly, EndsEarlyByStranger, TellsFailure};
-ghost use Rattle.lk_node_process.specs.Warnings.{TakesTurnAndWarns, Warns, WarnsUntil, reminded};
+ghost use Rattle.lk_node_process.specs.Turns.{RunsTurns, EndsEarly, EndsEarlyByStranger, TellsFailure};
+ghost use Rattle.lk_node_process.specs.Warnings.{DoesTurnAndWarns, Warns, WarnsUntil, reminded};
 
 use crate::another_genesis::write_other_genesis;
 use crate::observing::{observe_end, observe_start, observe_turn};
@@ -26,14 +26,14 @@ use lk_node_setup::resources::{NodePlan, Resources};
 use lk_pacing::tick_timer::TickTimer;
 use lk_recovery::ReviveFault;
 use lk_replica::Replica;
-use lk_served_replica::ServedReplica;
 use lk_server::group_fault::GroupFault;
 use lk_server::notes::log_notes;
 use lk_server::server::{Server, node_turn};
 use lk_server::watching::{log_port, log_start};
+use lk_server_replica::ServerReplica;
 use lk_state::Machine;
 use lk_store_format::Header;
-use lk_transport::fault::ServiceFault;
+use lk_transport::fault::ProgramFault;
 use lk_transport::receive_buffer::ReceiveBuffer;
 use lk_transport::socket::DatagramSocket;
 use log::Log;
@@ -78,10 +78,11 @@ pub fn revive<M: Machine, D: LogDisk + Drop, S: DatagramSocket + Drop, L: Log>(
     resources: Resources<D, S>,
     log: &L,
 ) -> Result<NodeServer<M, D, S>, ReviveFault<D>>
-    // It serves as the node of this header, in its cluster, with a replica restarted from what the device has, and has
+    // It runs as the node of this header, in its cluster, with a replica restarted from what the device has, and has
     // received nothing.
-    ensures begun { IfOk result (IsServerStarted M.meaning D.is_honest (D.disk resources.device) header.now) }
-    ensures serves { IfOk result (IsConfiguredAs header.now.cluster header.now.node resources.pace resources.network) }
+    ensures started { IfOk result (IsServerStarted M.meaning D.is_honest (D.disk resources.device) header.now) }
+    ensures configured { IfOk result
+        (IsConfiguredAs header.now.cluster header.now.node resources.pace resources.network) }
     ensures socket { IfOk result
         (HasSocket (S.sent resources.socket) (S.failures resources.socket) (S.incoming resources.socket)) }
     // It fails with a fault of 7 to 11, each for its own cause. The disks then fit each history that they fitted
@@ -123,8 +124,8 @@ fn revive_plan<
     resources: Resources<D, S>,
     log: &L,
     err: &mut E,
-) -> Result<NodeServer<M, D, S>, ServiceFault>
-    ensures begun { IfOk result (IsServerStarted M.meaning D.is_honest (D.disk resources.device) plan.now.header) }
+) -> Result<NodeServer<M, D, S>, ProgramFault>
+    ensures started { IfOk result (IsServerStarted M.meaning D.is_honest (D.disk resources.device) plan.now.header) }
     ensures seals { IfOk result (λ s. s.addresses.seals ≡ resources.network.seals) }
     ensures refused { IfErr result
         (IsRefusedWith M.meaning M.IsText D.is_honest (D.disk resources.device) plan.now.header) }
@@ -134,7 +135,7 @@ fn revive_plan<
         Err(refused) => {
             let ReviveFault { fault, device } = refused;
             let mut device = device;
-            let told = ServiceFault::of_replica(&fault);
+            let told = ProgramFault::of_replica(&fault);
             Err(write_refusal(alloc, told, &mut device, plan.folder, err))
         }
     }
@@ -148,7 +149,7 @@ fn end_turn<M: Machine, D: LogDisk + Drop, S: DatagramSocket + Drop, L: Log, O: 
     log: &L,
     observer: &mut O,
     err: &mut E,
-) -> Result<(), ServiceFault>
+) -> Result<(), ProgramFault>
     ensures acts { HandlesProbes IsShown S.is_observable buffer.old.asked buffer.old.reported server.old server.new }
     ensures goes_on { OnOk result (HasFollowedNoStranger server.new) }
     ensures leaves { OnErr result (HasFollowedStranger server.new) }
@@ -173,15 +174,15 @@ fn write_failed_turn<
     D: LogDisk + FailureCause + Drop,
     S: DatagramSocket + Drop,
     E: Write,
->(server: &NodeServer<M, D, S>, fault: GroupFault, folder: &str, err: &mut E) -> ServiceFault
+>(server: &NodeServer<M, D, S>, fault: GroupFault, folder: &str, err: &mut E) -> ProgramFault
     ensures failure { TellsFailure server.now }
 {
-    let told = ServiceFault::from(fault);
+    let told = ProgramFault::from(fault);
     write_failed_calls(told, server.replica().device(), folder, err)
 }
 
-// Takes one turn, and reports it to an observer. If the device failed, writes why.
-fn take_turn<
+// Does one turn, and reports it to an observer. If the device failed, writes why.
+fn do_turn<
     M: Machine,
     D: LogDisk + FailureCause + Drop,
     S: DatagramSocket + Drop,
@@ -197,13 +198,13 @@ fn take_turn<
     log: &L,
     observer: &mut O,
     err: &mut E,
-) -> Result<(), ServiceFault>
+) -> Result<(), ProgramFault>
     // Its replica was given as one group the letters of the node to itself, or else what was taken of the frames that
     // came, and a tick if one was due. Of the letters that it produced, those to the node itself are kept, after the
     // ones that wait. Then probes are handled: the probe and the report that were kept before, or else the first that
     // came. No node of another genesis has led the node.
     ensures turn { OnOk result
-        (TakesTurnWith ⟦<Replica<M, D> as ServedReplica>⟧.Says S.is_observable buffer.old.asked buffer.old.reported
+        (DoesTurnWith ⟦<Replica<M, D> as ServerReplica>⟧.Says S.is_observable buffer.old.asked buffer.old.reported
         HasFollowedNoStranger server.old server.new) }
     ensures spent { OnOk result ((buffer.new.asked ≡ None) × (buffer.new.reported ≡ None)) }
     // While the node goes on nothing is written.
@@ -211,8 +212,8 @@ fn take_turn<
     // The turn ended the replica, and after that nothing is sent and no probe is answered; or it is such a turn, and a
     // node of another genesis has led the node.
     ensures ends { OnErr result
-        (EndsTurn ⟦<Replica<M, D> as ServedReplica>⟧.Says S.is_observable server.old server.new
-        ⊎ TakesTurnWith ⟦<Replica<M, D> as ServedReplica>⟧.Says S.is_observable buffer.old.asked buffer.old.reported
+        (EndsTurn ⟦<Replica<M, D> as ServerReplica>⟧.Says S.is_observable server.old server.new
+        ⊎ DoesTurnWith ⟦<Replica<M, D> as ServerReplica>⟧.Says S.is_observable buffer.old.asked buffer.old.reported
         HasFollowedStranger server.old server.new) }
 {
     match node_turn(server, buffer, tick_timer, log) {
@@ -235,8 +236,8 @@ fn warn_if_due<M: Machine, D: LogDisk + Drop, S: DatagramSocket + Drop, E: Write
     let _ = reminder.remind(&status, plan, err);
 }
 
-// Takes 2^48 turns, warns after each if that is due, and reports them to an observer. If the device failed, writes why.
-fn take_turns<
+// Does 2^48 turns, warns after each if that is due, and reports them to an observer. If the device failed, writes why.
+fn do_turns<
     M: Machine,
     D: LogDisk + FailureCause + Drop,
     S: DatagramSocket + Drop,
@@ -252,30 +253,30 @@ fn take_turns<
     log: &L,
     observer: &mut O,
     err: &mut E,
-) -> Result<(), ServiceFault>
-    // At Ok it has taken exactly this many turns, one after another.
+) -> Result<(), ProgramFault>
+    // At Ok it has done exactly this many turns, one after another.
     ensures ok { OnOk result
-        (Repeats (TakesTurn ⟦<Replica<M, D> as ServedReplica>⟧.Says S.is_observable) (2 ^ 48) server.old server.new) }
-    // At an error it has taken fewer, and then one that ended the replica, or after which a node of another genesis had
+        (Repeats (DoesTurn ⟦<Replica<M, D> as ServerReplica>⟧.Says S.is_observable) (2 ^ 48) server.old server.new) }
+    // At an error it has done fewer, and then one that ended the replica, or after which a node of another genesis had
     // led the node.
     ensures err { OnErr result
-        (BreaksOff ⟦<Replica<M, D> as ServedReplica>⟧.Says S.is_observable (2 ^ 48) server.old server.new
-        ⊎ BreaksOffByStranger ⟦<Replica<M, D> as ServedReplica>⟧.Says S.is_observable (2 ^ 48) server.old server.new) }
+        (BreaksOff ⟦<Replica<M, D> as ServerReplica>⟧.Says S.is_observable (2 ^ 48) server.old server.new
+        ⊎ BreaksOffByStranger ⟦<Replica<M, D> as ServerReplica>⟧.Says S.is_observable (2 ^ 48) server.old server.new) }
     // After each of its turns, but the last at an error, it warns by the server's own status if that is due, and
     // nothing else is written.
     ensures warns { OnOk result
         ((last : PortReminder) × Repeats
-        (TakesTurnAndWarns ⟦<Replica<M, D> as ServedReplica>⟧.Says S.is_observable plan.now.header.node plan.now.port)
+        (DoesTurnAndWarns ⟦<Replica<M, D> as ServerReplica>⟧.Says S.is_observable plan.now.header.node plan.now.port)
         (2 ^ 48) (reminded server.old reminder (E.contents err.old)) (reminded server.new last (E.contents err.new))) }
     ensures warned { OnErr result
-        (WarnsUntil ⟦<Replica<M, D> as ServedReplica>⟧.Says S.is_observable plan.now.header.node plan.now.port (2 ^ 48)
+        (WarnsUntil ⟦<Replica<M, D> as ServerReplica>⟧.Says S.is_observable plan.now.header.node plan.now.port (2 ^ 48)
         (reminded server.old reminder (E.contents err.old)) server.new) }
 {
     let mut buffer = ReceiveBuffer::new();
     let mut tick_timer = TickTimer::new(clock);
     let mut reminder = reminder;
     'turns: for _ in 0..TURNS {
-        take_turn::<M, D, S, &C, L, O, E>(
+        do_turn::<M, D, S, &C, L, O, E>(
             server,
             &mut buffer,
             &mut tick_timer,
@@ -289,8 +290,8 @@ fn take_turns<
     Ok(())
 }
 
-// Logs the port of a server, reports its start to an observer, and takes 2^48 turns. The server ends then.
-fn serve_turns<
+// Logs the port of a server, reports its start to an observer, and does 2^48 turns. The server ends then.
+fn run_turns<
     M: Machine,
     D: LogDisk + FailureCause + Drop,
     S: DatagramSocket + Drop,
@@ -306,22 +307,22 @@ fn serve_turns<
     log: &L,
     observer: &mut O,
     err: &mut E,
-) -> Result<(), ServiceFault>
+) -> Result<(), ProgramFault>
     ensures ok { OnOk result
         ((ended : ServerValue ReplicaValue)
-        × Repeats (TakesTurn ⟦<Replica<M, D> as ServedReplica>⟧.Says S.is_observable) (2 ^ 48) server ended) }
+        × Repeats (DoesTurn ⟦<Replica<M, D> as ServerReplica>⟧.Says S.is_observable) (2 ^ 48) server ended) }
     ensures err { OnErr result
         ((ended : ServerValue ReplicaValue)
-        × (BreaksOff ⟦<Replica<M, D> as ServedReplica>⟧.Says S.is_observable (2 ^ 48) server ended
-        ⊎ BreaksOffByStranger ⟦<Replica<M, D> as ServedReplica>⟧.Says S.is_observable (2 ^ 48) server ended)) }
+        × (BreaksOff ⟦<Replica<M, D> as ServerReplica>⟧.Says S.is_observable (2 ^ 48) server ended
+        ⊎ BreaksOffByStranger ⟦<Replica<M, D> as ServerReplica>⟧.Says S.is_observable (2 ^ 48) server ended)) }
 {
     let mut server = server;
     log_port(log, plan.port);
     observe_start(server.replica(), observer);
-    take_turns(clock, &mut server, plan, reminder, log, observer, err)
+    do_turns(clock, &mut server, plan, reminder, log, observer, err)
 }
 
-// Starts the server of a node, and takes 2^48 turns.
+// Starts the server of a node, and does 2^48 turns.
 fn run_server<
     M: Machine,
     D: LogDisk + FailureCause + Drop,
@@ -338,22 +339,22 @@ fn run_server<
     log: &L,
     observer: &mut O,
     err: &mut E,
-) -> Result<(), ServiceFault>
+) -> Result<(), ProgramFault>
     requires { AreSealsOf plan.now.header resources.network.seals }
     ensures ok { OnOk result
-        (Serves (IsServerStarted M.meaning D.is_honest (D.disk resources.device) plan.now.header) plan.now.header
-        resources.network.seals ⟦<Replica<M, D> as ServedReplica>⟧.Says S.is_observable (2 ^ 48)) }
+        (RunsTurns (IsServerStarted M.meaning D.is_honest (D.disk resources.device) plan.now.header) plan.now.header
+        resources.network.seals ⟦<Replica<M, D> as ServerReplica>⟧.Says S.is_observable (2 ^ 48)) }
     ensures err { IfErr result
         (λ f. IsRefusedWith M.meaning M.IsText D.is_honest (D.disk resources.device) plan.now.header f
         ⊎ EndsEarly (IsServerStarted M.meaning D.is_honest (D.disk resources.device) plan.now.header) plan.now.header
-        resources.network.seals ⟦<Replica<M, D> as ServedReplica>⟧.Says S.is_observable (2 ^ 48)
+        resources.network.seals ⟦<Replica<M, D> as ServerReplica>⟧.Says S.is_observable (2 ^ 48)
         ⊎ EndsEarlyByStranger (IsServerStarted M.meaning D.is_honest
         (D.disk resources.device) plan.now.header) plan.now.header
-        resources.network.seals ⟦<Replica<M, D> as ServedReplica>⟧.Says S.is_observable (2 ^ 48)) }
+        resources.network.seals ⟦<Replica<M, D> as ServerReplica>⟧.Says S.is_observable (2 ^ 48)) }
 {
     let reminder = PortReminder::of(resources.unheard);
     let server = revive_plan::<M, D, S, L, E>(alloc, plan, resources, log, err)?;
-    serve_turns(clock, server, plan, reminder, log, observer, err)
+    run_turns(clock, server, plan, reminder, log, observer, err)
 }
 
 /// Runs a node on these resources, and reports what happens to it to an observer. The status is 0 after 2^48 turns, and
@@ -377,21 +378,21 @@ pub fn run_node<
 ) -> u8
     requires { AreSealsOf plan.now.header resources.network.seals }
     ensures status { result ≤ 1 }
-    // At status 0 the server of the plan's node, with a replica restarted from what the device had, has taken this
+    // At status 0 the server of the plan's node, with a replica restarted from what the device had, has done this
     // many turns.
-    ensures served { result ≡ 0
-        → Serves (IsServerStarted M.meaning D.is_honest (D.disk resources.device) plan.now.header) plan.now.header
-        resources.network.seals ⟦<Replica<M, D> as ServedReplica>⟧.Says S.is_observable (2 ^ 48) }
-    // At status 1 it did not start, or it has taken fewer turns, and then one that ended its replica, or after which a
+    ensures ran_all_turns { result ≡ 0
+        → RunsTurns (IsServerStarted M.meaning D.is_honest (D.disk resources.device) plan.now.header) plan.now.header
+        resources.network.seals ⟦<Replica<M, D> as ServerReplica>⟧.Says S.is_observable (2 ^ 48) }
+    // At status 1 it did not start, or it has done fewer turns, and then one that ended its replica, or after which a
     // node of another genesis had led it.
     ensures broken { result ≡ 1
-        → ((f : ServiceFault) × IsRefusedWith M.meaning M.IsText D.is_honest
+        → ((f : ProgramFault) × IsRefusedWith M.meaning M.IsText D.is_honest
         (D.disk resources.device) plan.now.header f)
         ⊎ EndsEarly (IsServerStarted M.meaning D.is_honest (D.disk resources.device) plan.now.header) plan.now.header
-        resources.network.seals ⟦<Replica<M, D> as ServedReplica>⟧.Says S.is_observable (2 ^ 48)
+        resources.network.seals ⟦<Replica<M, D> as ServerReplica>⟧.Says S.is_observable (2 ^ 48)
         ⊎ EndsEarlyByStranger (IsServerStarted M.meaning D.is_honest
         (D.disk resources.device) plan.now.header) plan.now.header
-        resources.network.seals ⟦<Replica<M, D> as ServedReplica>⟧.Says S.is_observable (2 ^ 48) }
+        resources.network.seals ⟦<Replica<M, D> as ServerReplica>⟧.Says S.is_observable (2 ^ 48) }
 {
     match run_server::<M, D, S, C, L, O, E>(clock, alloc, plan, resources, log, observer, err) {
         Ok(()) => 0,

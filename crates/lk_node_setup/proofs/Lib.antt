@@ -1,1 +1,1 @@
-mod OwnProbing
+mod SelfProbing

@@ -2,6 +2,6 @@ pub mod ClientKeys
 pub mod Digests
 pub mod Guards
 pub mod KeysOfNode
-pub mod OwnProbes
+pub mod SelfProbes
 pub mod Ports
 pub mod Reminders

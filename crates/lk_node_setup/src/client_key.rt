@@ -4,7 +4,7 @@ ghost use Rattle.std.specs.Prelude.{◌≡◌, ◌≤◌, List, ℕ, OnOk};
 ghost use Rattle.lk_node_setup.specs.ClientKeys.{Prints};
 
 use crate::network::keys_of;
-use lk_transport::fault::ServiceFault;
+use lk_transport::fault::ProgramFault;
 use lk_types::ClientNo;
 use std::alloc::Global;
 use std::fs::{File, Files};
@@ -18,14 +18,14 @@ fn print_keys<R: Files<File = File>, W: Write, E: Write>(
     client: ClientNo,
     out: &mut W,
     err: &mut E,
-) -> Result<(), ServiceFault>
+) -> Result<(), ProgramFault>
     ensures { OnOk result ((text : List ℕ) × Prints text client (W.contents out.old) (W.contents out.new)) }
 {
     let masters = keys_of(rt, alloc, master, err)?;
     let keys = masters.of_client(client.get());
     match keys.write(out) {
         Ok(()) => Ok(()),
-        Err(_) => Err(ServiceFault::Write),
+        Err(_) => Err(ProgramFault::Write),
     }
 }
 

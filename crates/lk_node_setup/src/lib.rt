@@ -5,6 +5,6 @@
 pub mod client_key;
 pub mod digest;
 pub mod network;
-mod own_probe;
 pub mod port_reminder;
 pub mod resources;
+mod self_probe;

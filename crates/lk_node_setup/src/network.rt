@@ -11,7 +11,7 @@ use lk_auth::{AskerSeals, Keys, Masters, Seals};
 use lk_client::destination::Destination;
 use lk_node_files::causes::write_cause;
 use lk_store_format::Header;
-use lk_transport::fault::ServiceFault;
+use lk_transport::fault::ProgramFault;
 use lk_transport::hosts::Hosts;
 use lk_transport::network::Network;
 use lk_types::{NodeNo, Port};
@@ -52,7 +52,7 @@ fn read_file<R: Files<File = File>, E: Write>(
     path: &str,
     is_secret: bool,
     err: &mut E,
-) -> Result<Vec<u8>, ServiceFault> {
+) -> Result<Vec<u8>, ProgramFault> {
     let mut file = match open_file(rt, path) {
         Ok(file) => file,
         Err(error) => return Err(write_cause(path, error, err)),
@@ -94,7 +94,7 @@ fn may_follow(last: Option<&(NodeNo, IpAddr)>, host: &(NodeNo, IpAddr)) -> bool 
 }
 
 // Whether a line is empty or a comment.
-fn is_idle(line: &[u8]) -> bool {
+fn is_blank_or_comment(line: &[u8]) -> bool {
     line.is_empty() || line[0] == b'#'
 }
 
@@ -103,12 +103,12 @@ fn is_idle(line: &[u8]) -> bool {
 fn read_hosts(
     alloc: Global,
     text: &[u8],
-) -> Result<Result<Vec<(NodeNo, IpAddr)>, u32>, ServiceFault> {
+) -> Result<Result<Vec<(NodeNo, IpAddr)>, u32>, ProgramFault> {
     let mut hosts: Vec<(NodeNo, IpAddr)> = Vec::new(alloc);
     let mut number = 0u32;
     for line in text.split(|byte| *byte == b'\n') {
         number = number.saturating_add(1);
-        if is_idle(line) {
+        if is_blank_or_comment(line) {
             continue;
         }
         match host_of(line) {
@@ -126,7 +126,7 @@ fn load_hosts<R: Files<File = File>, E: Write>(
     alloc: Global,
     path: Option<&str>,
     err: &mut E,
-) -> Result<Hosts, ServiceFault> {
+) -> Result<Hosts, ProgramFault> {
     let Some(path) = path else {
         return Ok(Hosts::Local);
     };
@@ -135,7 +135,7 @@ fn load_hosts<R: Files<File = File>, E: Write>(
         Ok(lines) => Ok(Hosts::Listed(lines)),
         Err(number) => {
             let _ = writeln!(err, "{path}: line {number} is not NODE ADDRESS");
-            Err(ServiceFault::CannotOpen)
+            Err(ProgramFault::CannotOpen)
         }
     }
 }
@@ -147,7 +147,7 @@ pub fn keys_of<R: Files<File = File>, E: Write>(
     alloc: Global,
     path: &str,
     err: &mut E,
-) -> Result<Keys, ServiceFault>
+) -> Result<Keys, ProgramFault>
     ensures { IfOk result (λ keys. (text : List ℕ) × (key_file text ≡ Some (key_list keys))) }
 {
     let text = read_file(rt, alloc, path, true, err)?;
@@ -167,7 +167,7 @@ fn load_keys<R: Files<File = File>, E: Write>(
     alloc: Global,
     path: Option<&str>,
     err: &mut E,
-) -> Result<Keys, ServiceFault> {
+) -> Result<Keys, ProgramFault> {
     match path {
         Some(path) => keys_of(rt, alloc, path, err),
         None => Ok(Keys::NoKey),
@@ -175,9 +175,9 @@ fn load_keys<R: Files<File = File>, E: Write>(
 }
 
 // Writes that no address of a node is known, and returns `CannotOpen`.
-fn write_no_address<E: Write>(node: NodeNo, path: &str, err: &mut E) -> ServiceFault {
+fn write_no_address<E: Write>(node: NodeNo, path: &str, err: &mut E) -> ProgramFault {
     let _ = writeln!(err, "{path}: no line of node {}, and no --bind", node.get());
-    ServiceFault::CannotOpen
+    ProgramFault::CannotOpen
 }
 
 // Returns the address on which a node listens: that of `--bind`, or else its address among the hosts.
@@ -187,7 +187,7 @@ fn listen_host<E: Write>(
     path: Option<&str>,
     bind: Option<IpAddr>,
     err: &mut E,
-) -> Result<IpAddr, ServiceFault> {
+) -> Result<IpAddr, ProgramFault> {
     match bind.or(hosts.address(header.node())) {
         Some(host) => Ok(host),
         None => Err(write_no_address(header.node(), path.unwrap_or(""), err)),
@@ -200,7 +200,7 @@ fn check_keys<E: Write>(
     clients: &Keys,
     path: &str,
     err: &mut E,
-) -> Result<(), ServiceFault> {
+) -> Result<(), ProgramFault> {
     if nodes.is_none() && !clients.is_none() {
         return Err(write_cause(path, "the clients' key, and the nodes have none", err));
     }
@@ -221,7 +221,7 @@ fn load_seals<R: Files<File = File>, E: Write>(
     header: &Header,
     options: &NetworkOptions<'_>,
     err: &mut E,
-) -> Result<Seals, ServiceFault>
+) -> Result<Seals, ProgramFault>
     ensures { IfOk result (AreSealsOf header.now) }
 {
     let nodes = load_keys(rt, alloc, options.key, err)?;
@@ -241,7 +241,7 @@ fn check_reach<E: Write>(
     seals: &Seals,
     address: SocketAddr,
     err: &mut E,
-) -> Result<(), ServiceFault>
+) -> Result<(), ProgramFault>
     ensures { OnOk result (IsReachedWithKey seals.now address) }
 {
     let host = address.ip();
@@ -269,7 +269,7 @@ pub fn network_of<R: Files<File = File>, E: Write>(
     port: Port,
     options: &NetworkOptions<'_>,
     err: &mut E,
-) -> Result<(Network, SocketAddr), ServiceFault>
+) -> Result<(Network, SocketAddr), ProgramFault>
     // They are the seals of this node in its cluster, for its genesis.
     ensures seals { IfOk result (λ r. AreSealsOf header.now r.0.seals) }
     // If other machines can reach the address, the nodes have a key.
@@ -291,7 +291,7 @@ pub fn destination_of<R: Files<File = File>, E: Write>(
     cluster: u64,
     options: &NetworkOptions<'_>,
     err: &mut E,
-) -> Result<Destination, ServiceFault> {
+) -> Result<Destination, ProgramFault> {
     let hosts = load_hosts(rt, alloc, options.hosts, err)?;
     let keys = load_keys(rt, alloc, options.client_key, err)?;
     let address = match options.bind {

@@ -61,7 +61,7 @@ impl PortReminder {
     }
 
     // Returns the port if a warning of it is due; the next one is then due a minute later.
-    fn take_due(&mut self, status: &Status) -> Option<Port>
+    fn pop_due(&mut self, status: &Status) -> Option<Port>
         ensures some { IfSome result
             (λ port. IsDue self.old status.now port × (self.new ≡ having_warned self.old status.now)) }
         ensures none { IsNone result → IsNoneDue self.old status.now × (self.new ≡ self.old) }
@@ -93,7 +93,7 @@ impl PortReminder {
         // A node that is heard at the port that the genesis names is never warned of.
         ensures heard { self.old.unheard ≡ None → (self.new ≡ self.old) × (err.new ≡ err.old) }
     {
-        match self.take_due(status) {
+        match self.pop_due(status) {
             Some(named) => write_reminder(plan, named, err),
             None => Ok(()),
         }

@@ -3,19 +3,19 @@
 ghost use Rattle.std.specs.Prelude.{◌≡◌, ◌≢◌, [], Some, None, IfOk, IfSome, OnErr};
 ghost use Rattle.lk_members.specs.Ports.{port_in};
 ghost use Rattle.lk_auth.specs.Seals.{key_list};
-ghost use Rattle.lk_node_setup.specs.OwnProbes.{FindsUnheard, socket_value};
+ghost use Rattle.lk_node_setup.specs.SelfProbes.{FindsUnheard, socket_value};
 ghost use Rattle.lk_node_setup.specs.Ports.{misnamed};
 ghost use Rattle.lk_node_setup.specs.KeysOfNode.{AreSealsOf};
 
 use crate::network::{NetworkOptions, network_of};
-use crate::own_probe::unheard_port;
+use crate::self_probe::unheard_port;
 use lk_auth::{Keys, Seals};
 use lk_disk::SystemDisk;
 use lk_node_files::causes::open_socket_at;
 use lk_node_files::folder::{FolderLock, open_device};
 use lk_pacing::pace::Pace;
 use lk_store_format::Header;
-use lk_transport::fault::ServiceFault;
+use lk_transport::fault::ProgramFault;
 use lk_transport::network::Network;
 use lk_transport::socket::{DatagramSocket, LocalSocket};
 use lk_types::{Member, NodeNo, Port};
@@ -90,7 +90,7 @@ fn check_named_port<S: DatagramSocket, E: Write>(
     network: &Network,
     socket: &mut S,
     err: &mut E,
-) -> Result<Option<Port>, ServiceFault>
+) -> Result<Option<Port>, ProgramFault>
     ensures finds { S.is_observable
         → IfOk result (λ unheard. FindsUnheard plan.now.header network.now
         (misnamed plan.now.header plan.now.port) unheard
@@ -155,14 +155,14 @@ fn warn_of_members<E: Write>(plan: &NodePlan<'_>, err: &mut E) {
 }
 
 /// Opens the resources of a plan's node: its files, which are created if they are missing, and its socket. The folder
-/// stays locked as long as the second value lives. On failure, or if another process serves from the folder, it writes
+/// stays locked as long as the second value lives. On failure, or if another process runs on the folder, it writes
 /// the reason and returns `CannotOpen`; out of memory, it returns `NoMemory`.
 pub fn open_resources<R: Files<File = File> + Net, E: Write>(
     rt: &R,
     alloc: Global,
     plan: &NodePlan<'_>,
     err: &mut E,
-) -> Result<(Resources<FolderDisk, LocalSocket>, FolderLock), ServiceFault>
+) -> Result<(Resources<FolderDisk, LocalSocket>, FolderLock), ProgramFault>
     // The keys are for the node of the plan, in its cluster.
     ensures seals { IfOk result (λ r. AreSealsOf plan.now.header r.0.network.seals) }
     // Where the nodes have a key, ticks go by the clock.

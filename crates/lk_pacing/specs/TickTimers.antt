@@ -6,11 +6,11 @@ use Rattle.std.specs.declared.time.Instant.{Instant}
 -- when the current period of 100 ms began: `now` if none has begun
 abbrev pub period_start : Instant → Option Instant → Instant
 period_start now None = now
-period_start now (Some began) = began
+period_start now (Some period_from) = period_from
 
 -- how many nanoseconds of the period have passed at `now`
 abbrev pub spent : Instant → Option Instant → ℕ
-spent now began = instant_nanos now - instant_nanos (period_start now began)
+spent now period_from = instant_nanos now - instant_nanos (period_start now period_from)
 
 -- this many nanoseconds of the period are left at this reading of the clock, `None` if it failed: then all are left,
 -- and nothing changes. `old` and `new` are the start of the period before and after

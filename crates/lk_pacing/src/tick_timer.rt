@@ -30,46 +30,49 @@ impl Clock for FrozenClock {
 pub struct TickTimer<C: Clock> {
     clock: C,
     // when the current period began; `None` if none has begun
-    began: Option<Instant>,
+    period_from: Option<Instant>,
 }
 
 impl<C: Clock> TickTimer<C> {
     /// Makes a tick timer whose first period begins at the first `left` or `has_elapsed`.
     pub fn new(clock: C) -> TickTimer<C>
-        ensures { result ≡ record { clock = clock; began = None } }
+        ensures { result ≡ record { clock = clock; period_from = None } }
     {
-        TickTimer { clock, began: None }
+        TickTimer {
+            clock,
+            period_from: None,
+        }
     }
 
     // Returns the rest of the period at `now`, where one begins if none has.
     fn left_at(&mut self, now: Instant) -> Duration
-        ensures left { as_nanos result ≡ 100000000 - spent now self.old.began }
-        ensures begins { self.new.began ≡ Some (period_start now self.old.began) }
-        ensures others { self.new ≡ record self.old { began = self.new.began } }
+        ensures left { as_nanos result ≡ 100000000 - spent now self.old.period_from }
+        ensures period { self.new.period_from ≡ Some (period_start now self.old.period_from) }
+        ensures others { self.new ≡ record self.old { period_from = self.new.period_from } }
     {
-        let began = self.began.unwrap_or(now);
-        self.began = Some(began);
-        Duration::from_millis(PERIOD).saturating_sub(now.duration_since(began))
+        let period_from = self.period_from.unwrap_or(now);
+        self.period_from = Some(period_from);
+        Duration::from_millis(PERIOD).saturating_sub(now.duration_since(period_from))
     }
 
     // Returns whether the period has ended at `now`; if so, the next one begins there.
     fn elapses_at(&mut self, now: Instant) -> bool
-        ensures elapsed { result ≡ true ↔ (100000000 ≤ spent now self.old.began) }
-        ensures again { result ≡ true → self.new.began ≡ Some now }
-        ensures goes_on { result ≡ false → self.new.began ≡ Some (period_start now self.old.began) }
-        ensures others { self.new ≡ record self.old { began = self.new.began } }
+        ensures elapsed { result ≡ true ↔ (100000000 ≤ spent now self.old.period_from) }
+        ensures again { result ≡ true → self.new.period_from ≡ Some now }
+        ensures goes_on { result ≡ false → self.new.period_from ≡ Some (period_start now self.old.period_from) }
+        ensures others { self.new ≡ record self.old { period_from = self.new.period_from } }
     {
         if !self.left_at(now).is_zero() {
             return false;
         }
-        self.began = Some(now);
+        self.period_from = Some(now);
         true
     }
 
     /// Returns the rest of the period: 100 ms if one begins now, or if the clock fails.
     pub fn left(&mut self) -> Duration
         // This holds for some reading of the clock: no contract states which.
-        ensures { Leaves self.old.began self.new.began (as_nanos result) }
+        ensures { Leaves self.old.period_from self.new.period_from (as_nanos result) }
     {
         match Instant::now(&self.clock) {
             Ok(now) => self.left_at(now),
@@ -81,7 +84,7 @@ impl<C: Clock> TickTimer<C> {
     /// that ticks go on, and changes nothing.
     pub fn has_elapsed(&mut self) -> bool
         // This holds for some reading of the clock: no contract states which.
-        ensures { Elapses self.old.began self.new.began result }
+        ensures { Elapses self.old.period_from self.new.period_from result }
     {
         match Instant::now(&self.clock) {
             Ok(now) => self.elapses_at(now),
@@ -91,9 +94,9 @@ impl<C: Clock> TickTimer<C> {
 
     /// Drops the current period; the next one begins at the next `left` or `has_elapsed`.
     pub fn reset(&mut self)
-        ensures { self.new ≡ record self.old { began = None } }
+        ensures { self.new ≡ record self.old { period_from = None } }
     {
-        self.began = None;
+        self.period_from = None;
     }
 
     /// Returns the clock's reading, or `None` if it fails.

@@ -151,14 +151,14 @@ bound_in [] = None
 bound_in (e ∷ es) = or_else (bound_at e) (bound_in es)
 
 -- what a node of that genesis knows of a node that has reported this origin
-abbrev pub having_told : List ℕ → Origin → Knowledge
-having_told own_genesis told = if pointwise nat_eq told.genesis own_genesis then Same else Other told
+abbrev pub knowledge_after : List ℕ → Origin → Knowledge
+knowledge_after own_genesis reporter = if pointwise nat_eq reporter.genesis own_genesis then Same else Other reporter
 
 -- the node there was asked and has reported that origin; every other entry is unchanged
-pub record Learns (address : SocketAddr) (own_genesis : List ℕ) (told : Origin) (is : Neighbour)
+pub record Learns (address : SocketAddr) (own_genesis : List ℕ) (reporter : Origin) (is : Neighbour)
     (old new : Entries) : Type 0 where
   pub neighbour : Neighbour
   pub entry : slice_get old (entry_for address old) ≡ Some (Some neighbour)
   pub asked : is_open neighbour.knowledge ≡ true
-  pub learned : is ≡ record neighbour { knowledge = having_told own_genesis told }
+  pub learned : is ≡ record neighbour { knowledge = knowledge_after own_genesis reporter }
   pub becomes : new ≡ slice_set old (entry_for address old) (Some is)

@@ -16,4 +16,4 @@ abbrev pub IsReportedOf : Probe → SocketAddr × List ℕ → Option Reported �
 IsReportedOf p d None = (r : Report) → SpellsReport r d.1 → IsReportFor p r → ⊥
 IsReportedOf p d (Some t) =
     (r : Report) × SpellsReport r d.1 × IsReportFor p r × (t.from ≡ d.0)
-    × (t.told ≡ record { node = r.node; genesis = r.status.identity.genesis })
+    × (t.reporter ≡ record { node = r.node; genesis = r.status.identity.genesis })

@@ -5,7 +5,8 @@ ghost use Rattle.std.specs.List.{list_any};
 ghost use Rattle.std.specs.declared.net.socket_addr.SocketAddr.{SocketAddr as Address};
 ghost use Rattle.lk_probe.specs.Neighbours.{ProbesNeighbour, Learns, Meets, Readmits, bound_at};
 ghost use Rattle.lk_probe.specs.Neighbours.{bound_by, bound_in, entry_for};
-ghost use Rattle.lk_probe.specs.Neighbours.{having_asked, having_met, having_told, is_due, is_due_at, is_for, is_open};
+ghost use Rattle.lk_probe.specs.Neighbours.{having_asked, having_met, knowledge_after, is_due, is_due_at, is_for};
+ghost use Rattle.lk_probe.specs.Neighbours.{is_open};
 ghost use Rattle.lk_probe.specs.Neighbours.{is_open_at, is_stranger, other_of, is_stranger_at, readmitted};
 
 use crate::status::DIGEST;
@@ -14,7 +15,7 @@ use std::marker::Model;
 use std::net::SocketAddr;
 
 // How many addresses are kept. Datagrams from a further one are accepted, but it is never probed.
-const ROOM: usize = 64;
+const MAX_NEIGHBOURS: usize = 64;
 
 /// A node, and the digest of the genesis that it was started with.
 #[derive(Clone, Copy)]
@@ -28,9 +29,9 @@ pub struct Origin {
 pub enum Knowledge {
     /// It was never asked.
     Unknown,
-    /// It was asked once, at that count of ticks, and has not answered.
+    /// It was asked once, at that count of ticks, and has not replied.
     Asked(u64),
-    /// It was asked twice, and has not answered.
+    /// It was asked twice, and has not replied.
     AskedTwice,
     /// It is this node's.
     Same,
@@ -50,7 +51,7 @@ pub struct Neighbour {
 /// The first 64 addresses from which nodes wrote. Its size is fixed, whatever arrives.
 #[derive(Drop)]
 pub struct Neighbours {
-    entries: [Option<Neighbour>; ROOM],
+    entries: [Option<Neighbour>; MAX_NEIGHBOURS],
 }
 
 impl Model for Neighbours {
@@ -104,7 +105,7 @@ impl Knowledge {
         }
     }
 
-    // Whether it was asked and has not answered.
+    // Whether it was asked and has not replied.
     fn is_open(self) -> bool
         ensures { result ≡ is_open self }
     {
@@ -112,13 +113,13 @@ impl Knowledge {
     }
 
     // Returns what a node of this genesis knows of a node that has reported `told`.
-    fn having_told(own_genesis: &[u8; DIGEST], told: Origin) -> Knowledge
-        ensures { result ≡ having_told own_genesis.now told }
+    fn knowledge_after(own_genesis: &[u8; DIGEST], reporter: Origin) -> Knowledge
+        ensures { result ≡ knowledge_after own_genesis.now reporter }
     {
-        if told.genesis == *own_genesis {
+        if reporter.genesis == *own_genesis {
             Knowledge::Same
         } else {
-            Knowledge::Other(told)
+            Knowledge::Other(reporter)
         }
     }
 }
@@ -250,7 +251,7 @@ impl Neighbours {
         ensures { (address : Address) → is_stranger result address ≡ false }
     {
         Neighbours {
-            entries: [None; ROOM],
+            entries: [None; MAX_NEIGHBOURS],
         }
     }
 
@@ -261,7 +262,7 @@ impl Neighbours {
         ensures strangers { is_stranger self.new ≡ is_stranger self.old }
     {
         let at = entry_for(address, &self.entries);
-        if at < ROOM {
+        if at < MAX_NEIGHBOURS {
             self.entries[at] = Some(having_met(address, binds, self.entries[at]));
         }
     }
@@ -290,7 +291,7 @@ impl Neighbours {
         ensures { Readmits address self.old self.new }
     {
         let at = entry_for(address, &self.entries);
-        if at >= ROOM {
+        if at >= MAX_NEIGHBOURS {
             return;
         }
         if let Some(neighbour) = self.entries[at] {
@@ -302,19 +303,19 @@ impl Neighbours {
     }
 
     /// Records the origin that the node at an address has reported, and returns its entry. `None`, and nothing changes,
-    /// if it was not asked, or has answered before.
+    /// if it was not asked, or has replied before.
     pub fn learn(
         &mut self,
         address: SocketAddr,
         own_genesis: &[u8; DIGEST],
-        told: Origin,
+        reporter: Origin,
     ) -> Option<Neighbour>
-        ensures some { IfSome result (λ n. Learns address own_genesis.now told n self.old self.new) }
+        ensures some { IfSome result (λ n. Learns address own_genesis.now reporter n self.old self.new) }
         ensures none { IsNone result
             → (is_open_at (slice_get self.old (entry_for address self.old)) ≡ false) × (self.new ≡ self.old) }
     {
         let at = entry_for(address, &self.entries);
-        if at >= ROOM {
+        if at >= MAX_NEIGHBOURS {
             return None;
         }
         let Some(neighbour) = self.entries[at] else {
@@ -324,7 +325,7 @@ impl Neighbours {
             return None;
         }
         self.entries[at] = Some(Neighbour {
-            knowledge: Knowledge::having_told(own_genesis, told),
+            knowledge: Knowledge::knowledge_after(own_genesis, reporter),
             ..neighbour
         });
         self.entries[at]

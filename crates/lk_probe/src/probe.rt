@@ -1,4 +1,4 @@
-// Probes and reports as values, and which report answers which probe.
+// Probes and reports as values, and which report replies to which probe.
 ghost use Rattle.std.specs.Prelude.{◌≡◌, ◌↔◌, IsTrue, IfSome};
 ghost use Rattle.lk_types.specs.Ranges.{IsClient};
 ghost use Rattle.lk_probe.specs.Grammar.{IsOrigin, IsProbe, IsReport, IsReportFor, SpellsProbe, SpellsReport, node_in};
@@ -24,7 +24,7 @@ pub struct Probe {
 #[derive(Drop)]
 pub struct Report {
     pub cluster: u64,
-    /// The node that answers.
+    /// The node that replies.
     pub node: NodeNo,
     /// The client that the probe names.
     pub client: Option<ClientNo>,
@@ -34,7 +34,7 @@ pub struct Report {
 }
 
 impl Origin {
-    // Proves that each part is in its range. Does nothing when run.
+    // Shows the prover that each part is in its range. Does nothing at run time.
     fn facts(&self)
         ensures { IsOrigin self.now }
     {
@@ -43,7 +43,7 @@ impl Origin {
     }
 }
 
-// Proves that an origin, if there is one, is in its range. Does nothing when run.
+// Shows the prover that an origin, if there is one, is in its range. Does nothing at run time.
 fn origin_facts(origin: &Option<Origin>)
     ensures { IfSome origin.now IsOrigin }
 {
@@ -52,7 +52,7 @@ fn origin_facts(origin: &Option<Origin>)
     }
 }
 
-// Proves that a client, if there is one, is in its range. Does nothing when run.
+// Shows the prover that a client, if there is one, is in its range. Does nothing at run time.
 fn client_facts(client: Option<ClientNo>)
     ensures { IfSome client IsClient }
 {
@@ -62,7 +62,7 @@ fn client_facts(client: Option<ClientNo>)
 }
 
 impl Probe {
-    /// Proves that each part is in its range. Does nothing when run.
+    /// Shows the prover that each part is in its range. Does nothing at run time.
     pub fn facts(&self)
         ensures { IsProbe self.now }
     {
@@ -90,7 +90,7 @@ impl Probe {
         write_probe(self)
     }
 
-    /// Returns the report that answers this probe: with its cluster, client and token, and that node and status.
+    /// Returns the report that replies to this probe: with its cluster, client and token, and that node and status.
     pub fn report(&self, node: NodeNo, status: Status) -> Report
         ensures is_for { IsReportFor self.now result }
         ensures node { result.node ≡ node }
@@ -107,7 +107,7 @@ impl Probe {
 }
 
 impl Report {
-    /// Proves that each part is in its range. Does nothing when run.
+    /// Shows the prover that each part is in its range. Does nothing at run time.
     pub fn facts(&self)
         ensures { IsReport self.now }
     {

@@ -11,7 +11,7 @@ use std::net::SocketAddr;
 #[derive(Clone, Copy)]
 pub struct Reported {
     pub from: SocketAddr,
-    pub told: Origin,
+    pub reporter: Origin,
 }
 
 /// Returns the probe by which the node `asker` asks for a genesis. Its token is the asker's number.
@@ -28,7 +28,7 @@ pub fn question(cluster: u64, asker: Origin) -> Probe
 }
 
 impl Reported {
-    /// Reads a datagram from an address. `None` if it is no report, or answers another probe.
+    /// Reads a datagram from an address. `None` if it is no report, or replies to another probe.
     pub fn by(probe: &Probe, from: SocketAddr, datagram: &[u8]) -> Option<Reported>
         ensures { IsReportedOf probe.now (from, datagram.now) result }
     {
@@ -36,10 +36,10 @@ impl Reported {
         if !report.is_for(probe) {
             return None;
         }
-        let told = Origin {
+        let reporter = Origin {
             node: report.node,
             genesis: report.status.identity.genesis,
         };
-        Some(Reported { from, told })
+        Some(Reported { from, reporter })
     }
 }

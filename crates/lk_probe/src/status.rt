@@ -89,7 +89,7 @@ pub struct Status {
     pub members: Members,
 }
 
-/// Proves that a node, if there is one, is in its range. Does nothing when run.
+/// Shows the prover that a node, if there is one, is in its range. Does nothing at run time.
 pub fn node_facts(node: Option<NodeNo>)
     ensures { IfSome node IsNode }
 {
@@ -99,7 +99,7 @@ pub fn node_facts(node: Option<NodeNo>)
 }
 
 impl Identity {
-    /// Proves that each part is in its range. Does nothing when run.
+    /// Shows the prover that each part is in its range. Does nothing at run time.
     pub fn facts(&self)
         ensures { IsIdentity self.now }
     {
@@ -115,7 +115,7 @@ impl Identity {
 }
 
 impl Leadership {
-    /// Proves that each part is in its range. Does nothing when run.
+    /// Shows the prover that each part is in its range. Does nothing at run time.
     pub fn facts(&self)
         ensures { IsLeadership self.now }
     {
@@ -126,7 +126,7 @@ impl Leadership {
 }
 
 impl Progress {
-    /// Proves that each part is in its range. Does nothing when run.
+    /// Shows the prover that each part is in its range. Does nothing at run time.
     pub fn facts(&self)
         ensures { IsProgress self.now }
     {
@@ -137,7 +137,7 @@ impl Progress {
 }
 
 impl Traffic {
-    /// Proves that each part is in its range. Does nothing when run.
+    /// Shows the prover that each part is in its range. Does nothing at run time.
     pub fn facts(&self)
         ensures { IsTraffic self.now }
     {
@@ -149,7 +149,7 @@ impl Traffic {
 }
 
 impl Status {
-    /// Proves that each part is in its range. Does nothing when run.
+    /// Shows the prover that each part is in its range. Does nothing at run time.
     pub fn facts(&self)
         ensures { IsStatus self.now }
     {

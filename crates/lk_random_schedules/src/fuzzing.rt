@@ -263,7 +263,7 @@ fn write_run<R: MemoryReplica, W: Write>(
 }
 
 // Returns a transcript that keeps lines and begins with the line that sets up the world.
-fn begun_script(alloc: Global) -> Result<Transcript, NoMemory>
+fn script_head(alloc: Global) -> Result<Transcript, NoMemory>
     ensures kept { IfOk result (λ t. t.is_kept ≡ true) }
     ensures text { IfOk result (λ t. t.text.items ≡ world_line) }
 {
@@ -281,7 +281,7 @@ fn write_script<R: MemoryReplica, W: Write>(
     ensures { OnOk result ((text : List ℕ) × IsScript R.behaves plan text
         × Appends (W.contents out.old) (W.contents out.new) text) }
 {
-    let Ok(mut transcript) = begun_script(alloc) else {
+    let Ok(mut transcript) = script_head(alloc) else {
         return Err(ScriptFault::ScriptMemory);
     };
     let mut world = world_of_three::<R>(alloc);

@@ -13,7 +13,7 @@ use Rattle.lk_store_format.specs.declared.stored.Stored.{Stored}
 use Rattle.lk_store_format.specs.declared.stored.Stored.TheVariants.{Plain}
 use Rattle.lk_log.specs.EveryImage.{EveryFound}
 use Rattle.lk_log.specs.StoreValue.{StoreValue, disks}
-use Rattle.lk_log.specs.Stores.{HoldsEntries, KeepsAtLeast, NarrowsOrBegins}
+use Rattle.lk_log.specs.Stores.{HoldsEntries, KeepsAtLeast, NarrowsOrIsNew}
 use Rattle.lk_log.proofs.StoreLaws.{plain_stands, plain_append, header_more, holds_keeps, one_standing, of_every}
 use Rattle.lk_log.proofs.StoreLaws.{keeps_every, put_keeps_every, opening_every}
 use Rattle.lk_state.specs.Meanings.{Meaning}
@@ -87,13 +87,13 @@ entries_cover m genesis n disks x every image left =
 -- ---- an opening
 
 pub opening_fits : (m : Meaning) (h : History) (n : ℕ) (old new : Side → Disk)
-    → NarrowsOrBegins old new (header_of h.genesis n) (text m h.genesis []) → DisksFit m h n old → DisksFit m h n new
+    → NarrowsOrIsNew old new (header_of h.genesis n) (text m h.genesis []) → DisksFit m h n old → DisksFit m h n new
 opening_fits m h n old new o f =
     entries_fit m h n new (opening_every (EntriesFit m h n) old new (header_of h.genesis n) (text m h.genesis []) o
     (fit_entries m h n old f))
 
 pub opening_covers : (m : Meaning) (genesis : Genesis) (n : ℕ) (old new : Side → Disk) (x : NodeMessage)
-    → NarrowsOrBegins old new (header_of genesis n) (text m genesis []) → AllCover m genesis n old x
+    → NarrowsOrIsNew old new (header_of genesis n) (text m genesis []) → AllCover m genesis n old x
     → AllCover m genesis n new x
 opening_covers m genesis n old new x o f =
     entries_cover m genesis n new x

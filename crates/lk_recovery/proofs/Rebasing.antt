@@ -27,7 +27,7 @@ use Rattle.lk_log.proofs.StoreLaws.{rebase_every}
 use Rattle.lk_state.specs.Meanings.{Meaning}
 use Rattle.lk_state.specs.Packed.{packed}
 use Rattle.lk_agreement_laws.specs.Acceptors.{AcceptorState, Covers, AreProposed, ForgetsVotes}
-use Rattle.lk_agreement_laws.specs.Changes.{holding_acceptor, packs}
+use Rattle.lk_agreement_laws.specs.Changes.{holding_acceptor, compacts}
 use Rattle.lk_agreement_laws.proofs.Histories.{at_most_below, below_self, change_fits}
 use Rattle.lk_acceptor.specs.States.{IsOrdered, without_votes_to}
 use Rattle.lk_acceptor.proofs.Acceptors.{takes_snapshot}
@@ -40,7 +40,7 @@ use Rattle.lk_node.specs.Holdings.{Holding, HoldingFits}
 use Rattle.lk_node.specs.Keeping.{StoreKeeps, ReplicaHolds, HoldsBeforeRebase}
 use Rattle.lk_node.specs.Leavings.{header_of, acceptor_of, DisksFit, AllCover}
 use Rattle.lk_node.specs.NodeValue.{NodeValue}
-use Rattle.lk_node.specs.Packing.{standing_of, with_snapshot}
+use Rattle.lk_node.specs.NewBases.{standing_of, with_snapshot}
 use Rattle.lk_node.specs.Reaching.{HoldsNear}
 use Rattle.lk_node.specs.BorneOut.{text}
 use Rattle.lk_node.proofs.Nodes.{contains_more, window_is}
@@ -305,7 +305,8 @@ module _ (m : Meaning) (h : History) (n : ℕ) (node : NodeValue) (old new : Sto
   here_fits = record {
     paxos = change_fits h.genesis h.sent lawful.sound n x.paxos
         (holding_acceptor x.paxos (without_votes_to x.paxos.acceptor (executed node.learner))) fits.paxos
-        (packs (executed node.learner) (without_votes_to x.paxos.acceptor (executed node.learner)) (omega (arith, far))
+        (compacts (executed node.learner) (without_votes_to x.paxos.acceptor (executed node.learner)) (omega
+        (arith, far))
         (takes_snapshot x.paxos.acceptor (executed node.learner) (omega (arith, far, fits.paxos.stems.snapshot))));
     waiting = fits.waiting;
     proposals = fits.proposals;

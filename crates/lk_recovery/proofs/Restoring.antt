@@ -7,7 +7,7 @@ use Rattle.lk_types.specs.declared.vote.Vote.{Vote}
 use Rattle.lk_acceptor.specs.AcceptorValue.{AcceptorValue}
 use Rattle.lk_acceptor.specs.States.{IsOrdered}
 use Rattle.lk_learner.specs.Learners.{Pair, LearnerValue}
-use Rattle.lk_leader.specs.Terms.{idle}
+use Rattle.lk_leader.specs.Terms.{new_leader}
 use Rattle.lk_store_format.specs.Values.{HeaderValue, StandingValue}
 use Rattle.lk_log.specs.Stores.{StandsForSome}
 use Rattle.lk_state.specs.Meanings.{Meaning}
@@ -110,7 +110,7 @@ module _ (IsText : List ℕ → Type 0) (whose : HeaderValue) (s : StandingValue
         header = header;
         acceptor = a;
         learner = l;
-        leader = idle;
+        leader = new_leader;
         ticks = 0;
         rounds = 0;
         known = None;
@@ -126,7 +126,7 @@ module _ (IsText : List ℕ → Type 0) (whose : HeaderValue) (s : StandingValue
       header = same i;
       acceptor = acceptor i;
       learner = (learner ∙ ap (relearned m w) are) i;
-      leader = idle;
+      leader = new_leader;
       ticks = 0;
       rounds = 0;
       known = None;

@@ -16,7 +16,7 @@ use Rattle.lk_store_format.specs.declared.stored.Stored.{Stored}
 use Rattle.lk_log.specs.Images.{Image, IsDamaged, seen}
 use Rattle.lk_log.specs.Rooms.{StaysWithin}
 use Rattle.lk_log.specs.StoreValue.{StoreValue, pick, disks}
-use Rattle.lk_log.specs.Stores.{Opens, NarrowsOrBegins, IsWrong}
+use Rattle.lk_log.specs.Stores.{Opens, NarrowsOrIsNew, IsWrong}
 use Rattle.lk_log.specs.declared.fault.OpenFault.{OpenFault}
 use Rattle.lk_log.specs.declared.fault.OpenFault.TheVariants as opening
 use Rattle.lk_log.proofs.StoreLaws.{found_live, found_sound, one_standing, opens_found, opens_holds, seen_left}
@@ -351,9 +351,9 @@ picked B d a b here there B = here
 -- ---- whose cluster it is
 
 -- a header names one genesis
-pub began : (g k : Genesis) (whose : HeaderValue) (n : ℕ) → g.cluster ≡ whose.cluster → g.alpha ≡ whose.alpha
+pub whose_is : (g k : Genesis) (whose : HeaderValue) (n : ℕ) → g.cluster ≡ whose.cluster → g.alpha ≡ whose.alpha
     → g.members ≡ whose.members → whose ≡ header_of k n → g ≡ k
-began g k whose n cluster alpha members is =
+whose_is g k whose n cluster alpha members is =
     same_genesis g k (cluster ∙ ap (λ (w : HeaderValue). w.cluster) is) (alpha ∙ ap (λ (w : HeaderValue). w.alpha) is)
     (members ∙ ap (λ (w : HeaderValue). w.members) is)
 
@@ -366,24 +366,24 @@ own_header g whose cluster alpha members =
 
 module _ (m : Meaning) (genesis : Genesis) (n : ℕ) (whose : HeaderValue) (zero' : List ℕ)
     (is : whose ≡ header_of genesis n) (begins : zero' ≡ text m genesis []) where
-  narrowed : (old new : Side → Disk) → NarrowsOrBegins old new whose zero'
-      → NarrowsOrBegins old new (header_of genesis n) (text m genesis [])
+  narrowed : (old new : Side → Disk) → NarrowsOrIsNew old new whose zero'
+      → NarrowsOrIsNew old new (header_of genesis n) (text m genesis [])
   narrowed old new narrows =
-      subst (λ (w : HeaderValue). NarrowsOrBegins old new w (text m genesis [])) is
-      (subst (NarrowsOrBegins old new whose) begins narrows)
+      subst (λ (w : HeaderValue). NarrowsOrIsNew old new w (text m genesis [])) is
+      (subst (NarrowsOrIsNew old new whose) begins narrows)
 
   pub opened : (old : Side → Disk) (store : StoreValue) (s : StandingValue) → Opens (seen old) whose zero' store s
       → Opens (seen old) (header_of genesis n) (text m genesis []) store s
   opened old store s o = subst (λ (w : HeaderValue). Opens (seen old) w (text m genesis []) store s) is
       (subst (λ (t : List ℕ). Opens (seen old) whose t store s) begins o)
 
-  pub opening_covers_as : (old new : Side → Disk) (x : NodeMessage) → NarrowsOrBegins old new whose zero'
+  pub opening_covers_as : (old new : Side → Disk) (x : NodeMessage) → NarrowsOrIsNew old new whose zero'
       → AllCover m genesis n old x → AllCover m genesis n new x
   opening_covers_as old new x narrows every = opening_covers m genesis n old new x (narrowed old new narrows) every
 
 pub opening_fits_as : (m : Meaning) (h : History) (n : ℕ) (whose : HeaderValue) (zero' : List ℕ)
     → whose ≡ header_of h.genesis n → zero' ≡ text m h.genesis [] → (old new : Side → Disk)
-    → NarrowsOrBegins old new whose zero' → DisksFit m h n old → DisksFit m h n new
+    → NarrowsOrIsNew old new whose zero' → DisksFit m h n old → DisksFit m h n new
 opening_fits_as m h n whose zero' is begins old new narrows before =
     opening_fits m h n old new (narrowed m h.genesis n whose zero' is begins old new narrows) before
 

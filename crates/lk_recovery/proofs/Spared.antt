@@ -8,7 +8,7 @@ use Rattle.lk_disk.specs.Disk.{Disk, contents, other}
 use Rattle.lk_disk.specs.declared.device.Side.{Side}
 use Rattle.lk_store_format.specs.Values.{HeaderValue}
 use Rattle.lk_log.specs.StoreValue.{StoreValue, pick, disks}
-use Rattle.lk_log.specs.Stores.{KeepsItsFile, NarrowsOrBegins}
+use Rattle.lk_log.specs.Stores.{KeepsItsFile, NarrowsOrIsNew}
 use Rattle.lk_log.specs.declared.fault.StoreFault.{StoreFault}
 use Rattle.lk_log.specs.declared.fault.StoreFault.TheVariants as store
 use Rattle.lk_log.specs.declared.fault.OpenFault.{OpenFault}
@@ -154,10 +154,10 @@ second_after node mid old between where_due short less = elim (either_due node o
 
 -- the device that a store gives back has its disks
 pub given_narrow : (old : Side → Disk) (whose : HeaderValue) (text : List ℕ) (s : StoreValue) (d : Side → Disk)
-    → d s.live ≡ s.live_disk → d (other s.live) ≡ s.other_disk → NarrowsOrBegins old (disks s) whose text
-    → NarrowsOrBegins old d whose text
+    → d s.live ≡ s.live_disk → d (other s.live) ≡ s.other_disk → NarrowsOrIsNew old (disks s) whose text
+    → NarrowsOrIsNew old d whose text
 given_narrow old whose text s d here there =
-    subst (λ (e : Side → Disk). NarrowsOrBegins old e whose text)
+    subst (λ (e : Side → Disk). NarrowsOrIsNew old e whose text)
     (λ i side. sym (picked s.live d s.live_disk s.other_disk here there side) i)
 
 pub damage_only : (f : OpenFault) → fault_number (open_fault f) ≡ 9 → f ≡ opening.Damaged

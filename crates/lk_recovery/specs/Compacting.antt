@@ -11,7 +11,7 @@ use Rattle.lk_log.specs.StoreValue.{StoreValue, disks}
 use Rattle.lk_log.specs.Stores.{HoldsEntries, KeepsItsFile, next_base}
 use Rattle.lk_learner.specs.Learners.{executed}
 use Rattle.lk_node.specs.NodeValue.{NodeValue}
-use Rattle.lk_node.specs.Packing.{standing_of, with_snapshot}
+use Rattle.lk_node.specs.NewBases.{standing_of, with_snapshot}
 use Rattle.lk_state.specs.Meanings.{Meaning}
 use Rattle.lk_node.specs.Histories.{Genesis, Command}
 use Rattle.lk_node.specs.Leavings.{header_of, StandsAs}

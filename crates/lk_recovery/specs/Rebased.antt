@@ -19,7 +19,7 @@ use Rattle.lk_node.specs.Holdings.{Holding}
 use Rattle.lk_node.specs.Keeping.{StoreKeeps, ReplicaHolds, HoldsBeforeRebase}
 use Rattle.lk_node.specs.Leavings.{header_of, DisksFit, AllCover}
 use Rattle.lk_node.specs.NodeValue.{NodeValue}
-use Rattle.lk_node.specs.Packing.{standing_of, with_snapshot}
+use Rattle.lk_node.specs.NewBases.{standing_of, with_snapshot}
 use Rattle.lk_node_interface.specs.Faults.{IsStoreFault, fault_number, RefusedAfter, IfSpared}
 use Rattle.lk_recovery.specs.Compacting.{AllStandAt, AreSame, Rebases, RebasesWhereDue, CallsWhereDue}
 use Rattle.lk_recovery.specs.Remembering.{ReplicaRemembers}
@@ -33,7 +33,7 @@ use Rattle.lk_node_interface.specs.declared.fault.ReplicaFault.TheVariants as fa
 -- store has the next generation and format 2, and has not failed
 pub record MatchesBase (node : NodeValue) (store : StoreValue) (new : NodeValue) (after : StoreValue) : Type 0 where
   pub becomes : new ≡ with_snapshot node
-  pub begins : FitsBase (standing_of node)
+  pub fits_base : FitsBase (standing_of node)
   pub runs : NothingToRun node → NothingToRun new
   pub generation : after.generation ≡ store.generation + 1
   pub format : after.format ≡ 2

@@ -20,7 +20,7 @@ use Rattle.lk_state.specs.Meanings.{Meaning}
 use Rattle.lk_state.specs.Packed.{Packs, packed}
 use Rattle.lk_state.specs.Runs.{ran}
 use Rattle.lk_state.specs.States.{WholeValue}
-use Rattle.lk_leader.specs.Terms.{idle}
+use Rattle.lk_leader.specs.Terms.{new_leader}
 use Rattle.lk_learner.specs.Learners.{Pair, LearnerValue}
 pub use Rattle.lk_learner.specs.Unpacking.{Unpacks}
 use Rattle.lk_node_interface.specs.declared.note.Note.{Note}
@@ -76,7 +76,7 @@ revived m whose s w = record {
   header = whose;
   acceptor = record { alpha = whose.alpha; state = acceptor_of s };
   learner = relearned m w s.pairs;
-  leader = idle;
+  leader = new_leader;
   ticks = 0;
   rounds = 0;
   known = None;
@@ -96,7 +96,7 @@ pub record Restores (m : Meaning) (IsText : List ℕ → Type 0) (whose : Header
 pub record RestartsAs (m : Meaning) (IsText : List ℕ → Type 0) (disks : Side → Disk) (whose : HeaderValue)
     (node : NodeValue) (store : StoreValue) (notes : List Note) : Type 0 where
   pub genesis : Genesis
-  pub began : whose ≡ header_of genesis whose.node
+  pub whose_is : whose ≡ header_of genesis whose.node
   pub standing : StandingValue
   pub opens : Opens (seen disks) whose (text m genesis []) store standing
   pub restores : Restores m IsText whose standing node notes
@@ -145,7 +145,7 @@ NarrowsOrRenews old new whose zero = (image : Image) → MayLeaveBoth new image
 pub record NoneRevives (m : Meaning) (IsText : List ℕ → Type 0) (disks : Side → Disk)
     (whose : HeaderValue) : Type 0 where
   pub genesis : Genesis
-  pub began : whose ≡ header_of genesis whose.node
+  pub whose_is : whose ≡ header_of genesis whose.node
   pub standing : StandingValue
   pub stands : StandsAs whose (text m genesis []) (seen disks) standing
   pub none : (w : WholeValue) → MayRevive IsText whose standing w → ⊥
@@ -154,7 +154,7 @@ pub record NoneRevives (m : Meaning) (IsText : List ℕ → Type 0) (disks : Sid
 pub record SomeRevives (m : Meaning) (IsText : List ℕ → Type 0) (disks : Side → Disk)
     (whose : HeaderValue) : Type 0 where
   pub genesis : Genesis
-  pub began : whose ≡ header_of genesis whose.node
+  pub whose_is : whose ≡ header_of genesis whose.node
   pub standing : StandingValue
   pub stands : StandsAs whose (text m genesis []) (seen disks) standing
   pub whole : WholeValue

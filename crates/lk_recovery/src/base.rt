@@ -6,7 +6,7 @@ ghost use Rattle.lk_disk.specs.Disk.{contents};
 ghost use Rattle.lk_store_format.specs.declared.stored.Stored.{Stored};
 ghost use Rattle.lk_log.specs.StoreValue.{disks};
 ghost use Rattle.lk_log.specs.Stores.{HoldsEntries, KeepsItsFile, KeepsOrIs, next_base};
-ghost use Rattle.lk_node.specs.Packing.{standing_of};
+ghost use Rattle.lk_node.specs.NewBases.{standing_of};
 ghost use Rattle.lk_node.specs.Reaching.{HoldsNear};
 ghost use Rattle.lk_recovery.specs.Compacting.{IsDue, IsSameStore};
 ghost use Rattle.lk_recovery.specs.Rebased.{MatchesBase, HasSwitchedFiles, StaysSafe, IsNotRebased, StaysAlive};

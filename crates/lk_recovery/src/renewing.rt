@@ -4,7 +4,7 @@ ghost use Rattle.lk_types.specs.Limits.{max_count};
 ghost use Rattle.lk_store_format.specs.declared.stored.Stored.{Stored};
 ghost use Rattle.lk_log.specs.StoreValue.{disks};
 ghost use Rattle.lk_log.specs.Stores.{HoldsEntries, KeepsOrIs, next_base};
-ghost use Rattle.lk_node.specs.Packing.{standing_of};
+ghost use Rattle.lk_node.specs.NewBases.{standing_of};
 ghost use Rattle.lk_recovery.specs.Compacting.{renew_calls};
 ghost use Rattle.lk_node_interface.specs.Faults.{fault_number, CountsFailures, SucceedsOr};
 ghost use Rattle.lk_recovery.specs.Rebased.{StaysSafe};

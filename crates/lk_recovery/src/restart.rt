@@ -3,7 +3,7 @@ ghost use Rattle.std.specs.Prelude.{◌≡◌, ◌⊎◌, ℕ, ◌+◌, ◌*◌,
 ghost use Rattle.std.specs.Prelude.{MatchResult};
 ghost use Rattle.std.specs.List.{list_all};
 ghost use Rattle.lk_log.specs.Images.{IsEmpty, seen};
-ghost use Rattle.lk_log.specs.Stores.{NarrowsOrBegins, StandsForSome};
+ghost use Rattle.lk_log.specs.Stores.{NarrowsOrIsNew, StandsForSome};
 ghost use Rattle.lk_log.specs.StoreValue.{disks};
 ghost use Rattle.lk_log.specs.Rooms.{StaysWithin};
 ghost use Rattle.lk_types.specs.Limits.{max_base};
@@ -155,7 +155,7 @@ pub fn restart_node<M: Machine, D: LogDisk + Drop>(
         (fault_number e.fault) (D.disk e.device)) }
     // After an error every image has the verdict and the entries of an image before it, or is a new store.
     ensures stays_err { D.is_honest → (genesis : GenesisValue) → header.now ≡ header_of genesis header.now.node
-        → IfErr result (λ e. NarrowsOrBegins (D.disk device) (D.disk e.device) header.now (text M.meaning genesis [])) }
+        → IfErr result (λ e. NarrowsOrIsNew (D.disk device) (D.disk e.device) header.now (text M.meaning genesis [])) }
     // It fails with 7 to 10, and with `Device` exactly if a call of the device has failed.
     ensures cause { MatchResult result
         (λ r. r.store.failures ≡ D.failures device)

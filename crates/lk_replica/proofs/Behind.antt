@@ -28,13 +28,13 @@ use Rattle.lk_node.specs.Holdings.{Holding, HoldingFits}
 use Rattle.lk_node.specs.Keeping.{StoreKeeps, ReplicaHolds, HoldsBeforeRebase}
 use Rattle.lk_node.specs.Leavings.{header_of, acceptor_of, paxos_of}
 use Rattle.lk_node.specs.NodeValue.{NodeValue}
-use Rattle.lk_node.specs.Packing.{standing_of, with_snapshot}
+use Rattle.lk_node.specs.NewBases.{standing_of, with_snapshot}
 use Rattle.lk_node.specs.Reaching.{HoldsNear}
 use Rattle.lk_node.specs.BorneOut.{IsOfNode, IsBorneOut}
 use Rattle.lk_node.specs.SafeSteps.{IsNeitherPromiseNorVote, IsCoveredLetter, IsSafeStep, ActsSafely}
 use Rattle.lk_replica.specs.Posts.{AreOf}
 use Rattle.lk_recovery.specs.Remembering.{ReplicaRemembers}
-use Rattle.lk_replica.proofs.Going.{said_covered, said_neither, batch_covered, bound, serves}
+use Rattle.lk_replica.proofs.Going.{said_covered, said_neither, batch_covered, bound, continues}
 use Rattle.lk_recovery.proofs.Recoveries.{fit_disks, snapshot_covers, base_stands, here, rebase_stands, base_fits}
 use Rattle.lk_recovery.proofs.Recoveries.{here_fits}
 use Rattle.lk_replica.proofs.Thinning.{batch_among}
@@ -154,7 +154,7 @@ module _ (m : Meaning) (h : History) (n : ℕ) (node stepped : NodeValue) (old :
     (f : NodeFits m h n (ReplicaHolds m node old h.genesis n) (disks old)) (heard : InputFits h i)
     (g : ActsSafely m (λ k. InputFits k i) node stepped nothing out) (is : out.rebase ≡ true) where
   abbrev served : IsSafeStep m h n f.shown.keeps.loose stepped out
-  served = serves m h n node stepped old old i out f heard g
+  served = continues m h n node stepped old old i out f heard g
 
   -- it fits on the store as it was
   abbrev pub stepped_fits : NodeFits m h n (HoldsBeforeRebase m stepped old h.genesis n) (disks old)

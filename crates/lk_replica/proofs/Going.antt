@@ -31,7 +31,7 @@ use Rattle.lk_node.specs.Calls.{InputFits, NodeFits, LeavesFit}
 use Rattle.lk_node.specs.Entries.{EntriesFit, Rests}
 use Rattle.lk_node.specs.Histories.{History, Genesis, Datagram, later}
 use Rattle.lk_node.specs.Holdings.{Holding}
-use Rattle.lk_node.specs.Keeping.{TellsDecided, IsKnown, StoreKeeps, ReplicaHolds}
+use Rattle.lk_node.specs.Keeping.{IsDecidedEntry, IsKnown, StoreKeeps, ReplicaHolds}
 use Rattle.lk_node.specs.Reaching.{IsRestorable, StillRestoresNode}
 use Rattle.lk_node.specs.Leavings.{header_of, acceptor_of, paxos_of, DisksFit, AllCover}
 use Rattle.lk_replica.specs.Posts.{AreOf}
@@ -69,7 +69,7 @@ pub record KeepsToo (whose : HeaderValue) (new : StoreValue) (b : AcceptorState)
       → IsRestorable ahead keeps.standing keeps.loose now
 
 pub put_keeps : (whose : HeaderValue) (old new : StoreValue) (a b : AcceptorState) (es : List Entry) (sync : Bool)
-    (k : StoreKeeps whose old a) → b ≡ with_entries es a → (sync ≡ false → AllByRecursion TellsDecided es)
+    (k : StoreKeeps whose old a) → b ≡ with_entries es a → (sync ≡ false → AllByRecursion IsDecidedEntry es)
     → (sync ≡ false → HoldsEntries new k.entries (plain k.loose ++ plain es))
     → (sync ≡ true → HoldsEntries new (k.entries ++ (plain k.loose ++ plain es)) [])
     → KeepsToo whose new b k.standing k.loose es sync
@@ -78,7 +78,7 @@ put_keeps whose old new a b es false k written decided added synced = record {
     entries = k.entries;
     loose = k.loose ++ es;
     holds = subst (HoldsEntries new k.entries) (sym (plain_append k.loose es)) (added refl);
-    decided = all_append TellsDecided k.loose es k.decided (decided refl);
+    decided = all_append IsDecidedEntry k.loose es k.decided (decided refl);
     header = k.header;
     standing = k.standing;
     stands = k.stands;
@@ -172,8 +172,8 @@ module _ (m : Meaning) (h : History) (n : ℕ) (node new : NodeValue) (old store
   abbrev loose : List Entry
   loose = f.shown.keeps.loose
 
-  pub serves : IsSafeStep m h n loose new out
-  serves = g.serves h n loose
+  pub continues : IsSafeStep m h n loose new out
+  continues = g.continues h n loose
       (record {
         lawful = f.lawful;
         whose = f.shown.whose;
@@ -182,7 +182,7 @@ module _ (m : Meaning) (h : History) (n : ℕ) (node new : NodeValue) (old store
         fits = f.fits;
         rests = tt;
         known = f.shown.known;
-        news = λ e. tt;
+        known_unsynced = λ e. tt;
         may = λ d c. absurd (omega (arith, c.1));
         noted = λ x c. absurd (omega (arith, c.1));
       }) heard
@@ -195,7 +195,7 @@ module _ (m : Meaning) (h : History) (n : ℕ) (node new : NodeValue) (old store
   unsynced = f.shown.keeps.loose
 
   abbrev served : IsSafeStep m h n unsynced new out
-  served = serves m h n node new old store i out f heard g
+  served = continues m h n node new old store i out f heard g
 
   -- after any exit of the put every image fits
   pub put_leaves : KeepsAtLeast store f.shown.keeps.entries (plain unsynced ++ plain out.entries)
@@ -216,7 +216,7 @@ module _ (m : Meaning) (h : History) (n : ℕ) (node new : NodeValue) (old store
     tells l c = (bound m (λ k. InputFits k i) node new out g).tells l (among l c)
 
     known : AllByRecursion (IsKnown served.holding.paxos) k.keeps.loose
-    known = k.known served.holding.paxos served.known served.news
+    known = k.known served.holding.paxos served.known served.known_unsynced
 
     entries : EntriesFit m h n k.keeps.entries
     entries = held_fit m h n store k.keeps.entries (plain k.keeps.loose) k.keeps.holds left

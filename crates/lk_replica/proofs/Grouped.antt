@@ -43,10 +43,10 @@ use Rattle.lk_node.specs.Calls.{InputFits, NodeFits, LeavesFit}
 use Rattle.lk_node.specs.Entries.{Rests}
 use Rattle.lk_node.specs.Histories.{History, Genesis, Datagram}
 use Rattle.lk_node.specs.Holdings.{Holding}
-use Rattle.lk_node.specs.Keeping.{TellsDecided, IsKnown, StoreKeeps, ReplicaHolds}
+use Rattle.lk_node.specs.Keeping.{IsDecidedEntry, IsKnown, StoreKeeps, ReplicaHolds}
 use Rattle.lk_node.specs.Leavings.{header_of, acceptor_of, DisksFit, AllCover}
 use Rattle.lk_node.specs.NodeValue.{NodeValue}
-use Rattle.lk_node.specs.Packing.{standing_of, with_snapshot}
+use Rattle.lk_node.specs.NewBases.{standing_of, with_snapshot}
 use Rattle.lk_node.specs.Reaching.{EntriesLieNear, RestoresNode, StillRestoresNode, HoldsNear}
 use Rattle.lk_node.specs.BorneOut.{text}
 use Rattle.lk_node.specs.SafeSteps.{with_entries, ActsSafely}
@@ -68,7 +68,7 @@ use Rattle.lk_replica.proofs.Refusals.{number_of_calls, halted_alone}
 use Rattle.lk_replica.proofs.NoSend.{sends_not}
 use Rattle.lk_recovery.specs.Remembering.{ReplicaRemembers}
 use Rattle.lk_replica.proofs.Behind.{installed_goes}
-use Rattle.lk_replica.proofs.Going.{KeepsToo, put_leaves, put_goes, serves, bound, step_syncs, step_covers}
+use Rattle.lk_replica.proofs.Going.{KeepsToo, put_leaves, put_goes, continues, bound, step_syncs, step_covers}
 use Rattle.lk_replica.proofs.Standings.{entries_are, decided_leave, entries_behind}
 use Rattle.lk_replica.proofs.Thinning.{batch_among}
 
@@ -216,7 +216,7 @@ none_waits true w s is e = absurd (cc is)
 
 module _ (whose : HeaderValue) (old store : StoreValue) (a b : AcceptorState) (out : OutboxValue)
     (is : out.rebase ≡ false) (written : b ≡ with_entries out.entries a)
-    (unsynced : out.sync ≡ false → AllByRecursion TellsDecided out.entries) where
+    (unsynced : out.sync ≡ false → AllByRecursion IsDecidedEntry out.entries) where
   abbrev pub gathers_more : (needs_sync after : Bool) → after ≡ needs_sync_after needs_sync out
       → (k : StoreKeepsInGroup whose old needs_sync a)
       → HoldsEntries store k.entries (plain k.loose ++ plain out.entries)
@@ -226,7 +226,7 @@ module _ (whose : HeaderValue) (old store : StoreValue) (a b : AcceptorState) (o
     loose = k.loose ++ out.entries;
     holds = subst (HoldsEntries store k.entries) (sym (plain_append k.loose out.entries)) added;
     decided = λ none. let z = none_waits out.rebase needs_sync out.sync is (sym none ∙ e) in
-        all-append TellsDecided k.loose out.entries (k.decided z.0) (unsynced z.1);
+        all-append IsDecidedEntry k.loose out.entries (k.decided z.0) (unsynced z.1);
     header = k.header;
     standing = k.standing;
     stands = k.stands;
@@ -323,7 +323,7 @@ module _ (m : Meaning) (h : History) (n : ℕ) (node new : NodeValue) (old store
   at_least = let b = bound m (λ k. InputFits k i) node new out g in by_waits b.written b.unsynced needs_sync f added
     where
       by_waits : new.acceptor.state ≡ with_entries out.entries node.acceptor.state
-          → (out.sync ≡ false → AllByRecursion TellsDecided out.entries) → (w : Bool) (k : GroupFits m h n node old w)
+          → (out.sync ≡ false → AllByRecursion IsDecidedEntry out.entries) → (w : Bool) (k : GroupFits m h n node old w)
           → HoldsEntries store k.shown.keeps.entries (plain k.shown.keeps.loose ++ plain out.entries)
           → KeepsAtLeast (as_released (needs_sync_after w out) store)
           (group_fits m h n node old w k).shown.keeps.entries
@@ -340,7 +340,7 @@ module _ (m : Meaning) (h : History) (n : ℕ) (node new : NodeValue) (old store
   too = let b = bound m (λ k. InputFits k i) node new out g in by_waits b.written b.unsynced needs_sync f added
     where
       by_waits : new.acceptor.state ≡ with_entries out.entries node.acceptor.state
-          → (out.sync ≡ false → AllByRecursion TellsDecided out.entries) → (w : Bool) (k : GroupFits m h n node old w)
+          → (out.sync ≡ false → AllByRecursion IsDecidedEntry out.entries) → (w : Bool) (k : GroupFits m h n node old w)
           → HoldsEntries store k.shown.keeps.entries (plain k.shown.keeps.loose ++ plain out.entries)
           → KeepsToo mine (as_released (needs_sync_after w out) store) new.acceptor.state
           (group_fits m h n node old w k).shown.keeps.standing
@@ -386,7 +386,7 @@ module _ (m : Meaning) (h : History) (n : ℕ) (node new : NodeValue) (old store
   pub gather_goes : (sent : List LetterValue) → AreOf sent out.letters
       → GroupLeavesFit m h n new store after out.notes (batch_of n sent)
   gather_goes sent among =
-      let s = serves m h n node new (as_released needs_sync old) (as_released after store) i out fits heard g in
+      let s = continues m h n node new (as_released needs_sync old) (as_released after store) i out fits heard g in
       let p = put_goes m h n node new (as_released needs_sync old)
       (as_released after store) i out fits heard g on too leaves_as_sent sent among in
       record {
@@ -394,7 +394,7 @@ module _ (m : Meaning) (h : History) (n : ℕ) (node new : NodeValue) (old store
         shown = record {
           whose = s.whose;
           keeps = gathered_more;
-          known = known_now s.holding.paxos s.known s.news;
+          known = known_now s.holding.paxos s.known s.known_unsynced;
           held = s.held;
           tells = tells_now;
           near = near_after;
@@ -418,7 +418,7 @@ module _ (m : Meaning) (h : History) (n : ℕ) (node new : NodeValue) (old store
   -- what it writes rests on what was sent
   rests_too : AllByRecursion (Rests h) (s.fits.shown.keeps.loose ++ out.entries)
   rests_too = all-append (Rests h) s.fits.shown.keeps.loose out.entries s.rests
-      (serves m h n node new (as_released needs_sync old) old i out pretended heard g).rests
+      (continues m h n node new (as_released needs_sync old) old i out pretended heard g).rests
 
   near_too : EntriesLieNear h.genesis.alpha s.fits.shown.keeps.standing (s.fits.shown.keeps.loose ++ out.entries)
   near_too =
@@ -438,7 +438,7 @@ module _ (m : Meaning) (h : History) (n : ℕ) (node new : NodeValue) (old store
       → HoldsEntries store s.fits.shown.keeps.entries (plain s.fits.shown.keeps.loose ++ plain out.entries)
       → GroupStays m h n new store (needs_sync_after needs_sync out)
   group_stays is keeps added =
-      let v = serves m h n node new (as_released needs_sync old) old i out pretended heard g in
+      let v = continues m h n node new (as_released needs_sync old) old i out pretended heard g in
       record {
         fits = record {
           lawful = s.fits.lawful;
@@ -447,7 +447,7 @@ module _ (m : Meaning) (h : History) (n : ℕ) (node new : NodeValue) (old store
             whose = v.whose;
             keeps = gathered_more m h n node new old store needs_sync i out s.fits heard g on is added;
             known = known_now m h n node new old store needs_sync i out s.fits heard g on is added
-                v.holding.paxos v.known v.news;
+                v.holding.paxos v.known v.known_unsynced;
             held = v.held;
             tells = tells_now m h n node new old store needs_sync i out s.fits heard g on is added;
             near = near_after m h n node new old store needs_sync i out s.fits heard g on is added;

@@ -8,7 +8,7 @@ use Rattle.lk_store_format.specs.Values.{StandingValue}
 use Rattle.lk_agreement_laws.specs.Acceptors.{AcceptorState}
 use Rattle.lk_acceptor.specs.States.{acceptor_with}
 use Rattle.lk_node.specs.Leavings.{acceptor_of}
-use Rattle.lk_node.specs.Keeping.{TellsDecided}
+use Rattle.lk_node.specs.Keeping.{IsDecidedEntry}
 use Rattle.lk_node.specs.SafeSteps.{with_entries}
 
 -- one more entry is to a standing what it is to an acceptor
@@ -23,7 +23,7 @@ entries_are s [] = refl
 entries_are s (e ∷ es) = entries_are (with_plain e s) es ∙ ap (with_entries es) (entry_is s e)
 
 -- decided commands leave an acceptor as it is
-pub decided_leave : (es : List Entry) (a : AcceptorState) → AllByRecursion TellsDecided es → with_entries es a ≡ a
+pub decided_leave : (es : List Entry) (a : AcceptorState) → AllByRecursion IsDecidedEntry es → with_entries es a ≡ a
 decided_leave [] a all = refl
 decided_leave (Promise b ∷ es) a all = absurd all.0
 decided_leave (Vote v ∷ es) a all = absurd all.0

@@ -250,8 +250,8 @@ module _ (m : Meaning) (IsText : List ℕ → Type 0) (begun_as : ReplicaValue) 
   own_notes : step.notes.items ≡ one.notes
   own_notes = notes ∙ noted_is ∙ ap (λ l. l ++ one.notes) s.no_notes
 
-  own_letters : step.sends ≡ length one.letters
-  own_letters = sends ∙ ap (λ l. length l - length g.letters) said_is
+  loopback : step.sends ≡ length one.letters
+  loopback = sends ∙ ap (λ l. length l - length g.letters) said_is
       ∙ ap (λ k. k - length g.letters) (length-append g.letters one.letters)
       ∙ add-sub_cancel_left (length g.letters) (length one.letters)
 
@@ -289,7 +289,7 @@ module _ (m : Meaning) (IsText : List ℕ → Type 0) (begun_as : ReplicaValue) 
     pub one_taken : TakenSoFar m IsText begun_as all now (record new { notes = [] }) (steps ++ step ∷ []) rest
     one_taken = record {
       said = s.said ++ (step.notes.items, one.letters) ∷ [];
-      counted = one_step_more steps s.said step one.letters s.counted own_letters;
+      counted = one_step_more steps s.said step one.letters s.counted loopback;
       letters = letters_more s.said ((step.notes.items, one.letters) ∷ [])
           ∙ (λ k. s.letters k ++ append-nil one.letters k) ∙ sym said_is;
       no_notes = refl;

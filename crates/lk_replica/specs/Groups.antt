@@ -34,7 +34,7 @@ use Rattle.lk_node.specs.Calls.{InputFits, NodeFits, LeavesFit}
 use Rattle.lk_node.specs.Entries.{Rests}
 use Rattle.lk_node.specs.Histories.{History, Genesis, Datagram}
 use Rattle.lk_node.specs.Holdings.{Holding}
-use Rattle.lk_node.specs.Keeping.{TellsDecided, IsKnown, IsHeld, ReplicaHolds}
+use Rattle.lk_node.specs.Keeping.{IsDecidedEntry, IsKnown, IsHeld, ReplicaHolds}
 use Rattle.lk_node.specs.Leavings.{header_of, acceptor_of, DisksFit, AllCover}
 use Rattle.lk_node.specs.NodeValue.{NodeValue}
 use Rattle.lk_node.specs.Reaching.{EntriesLieNear, RestoresNode}
@@ -60,7 +60,7 @@ pub record StoreKeepsInGroup (whose : HeaderValue) (store : StoreValue) (needs_s
   pub entries : List Stored
   pub loose : List Entry
   pub holds : HoldsEntries store entries (plain loose)
-  pub decided : needs_sync ≡ false → AllByRecursion TellsDecided loose
+  pub decided : needs_sync ≡ false → AllByRecursion IsDecidedEntry loose
   pub header : HasHeader entries whose
   pub standing : StandingValue
   pub stands : StandsFor entries standing

@@ -31,7 +31,7 @@ pub record Revives (m : Meaning) (IsText : List ℕ → Type 0) (disks : Side �
     (r : ReplicaValue) (notes : List Note) : Type 0 where
   pub node : NodeValue
   pub store : StoreValue
-  pub takes : RestartsAs m IsText disks whose node store notes
+  pub restarts : RestartsAs m IsText disks whose node store notes
   pub renews : Renews node store r.node r.store
   pub further : IsLastOld (seen disks) → ⊥
   pub alive : r.failed ≡ false

@@ -172,7 +172,8 @@ pub record StepKeeps (m : Meaning) (Heard : History → Type 0) (node : NodeValu
       → (d : Datagram) → Contains (batch_of n out.letters) d → Spells (said_by genesis n x) d.bytes
       → AllCover m genesis n (disks after) x
 
--- the same of a step alone: the files are no longer than that if the live one was shorter than what makes a rebase due
+-- what a step alone leaves on the disks, as `LeavesDisks` of a call, but with a premise for the lengths: the files are
+-- no longer than `most` bytes if the live one was shorter than the length at which a rebase is due
 pub record StepLeavesDisks (m : Meaning) (Heard : History → Type 0) (most : ℕ) (node : NodeValue) (store : StoreValue)
     (after : Side → Disk) : Type 0 where
   pub ends : (h : History) (n : ℕ) → NodeFits m h n (ReplicaHolds m node store h.genesis n) (disks store)

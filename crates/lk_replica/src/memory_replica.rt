@@ -108,8 +108,8 @@ pub trait MemoryReplica: Sized + Drop {
             → AllCover meaning genesis n (disks_by behaves self.new) x }
         // However it ends, neither file has grown, except up to half of its maximum and one step.
         ensures room { StaysWithin max_after (disks_by behaves self.old) (disks_by behaves self.new) }
-        // At Ok its device has made this many changing calls, and all have passed. After error 7 one has failed; after
-        // any other error all have passed.
+        // At Ok its device has made this many changing calls, and all have succeeded. After error 7 one has failed;
+        // after any other error all have succeeded.
         ensures calls { IfOk result
             (λ t. (k : ℕ) × CallsSucceed (behaves.memory self.old).meter (behaves.memory self.new).meter k) }
         ensures calls_err { IfErr result
@@ -175,8 +175,8 @@ pub trait MemoryReplica: Sized + Drop {
             (whole self.new).roster.executed held.paxos.done) }
         // However it ends, neither file has grown, except up to the size of a Base.
         ensures room { StaysWithin max_base (disks_by behaves self.old) (disks_by behaves self.new) }
-        // At Ok its device has made the changing calls of a rebase, and all have passed. After error 7 one has failed;
-        // after any other error all have passed.
+        // At Ok its device has made the changing calls of a rebase, and all have succeeded. After error 7 one has
+        // failed; after any other error all have succeeded.
         ensures calls { OnOk result
             (CallsSucceed (behaves.memory self.old).meter (behaves.memory self.new).meter rebase_calls) }
         ensures calls_err { IfErr result

@@ -1,4 +1,4 @@
-pub mod TableServerLaws
+pub mod TableRunLaws
 pub mod PrintLaws
 pub mod Following
 pub mod ScriptLaws

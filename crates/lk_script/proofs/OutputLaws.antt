@@ -19,13 +19,14 @@ use Rattle.lk_members.proofs.Memberships.{numbers_take_effect_once}
 use Rattle.lk_locks.specs.Lists.{table_of, table_answer}
 use Rattle.lk_replica.specs.Behaviours.{Behaviour}
 use Rattle.lk_script.specs.Replies.{IsReply, with_request}
-use Rattle.lk_script.specs.Scripts.{Script, begun, table, world, IsUnderstood, Takes, Refuses, Stop, Runs, OpensWorld}
+use Rattle.lk_script.specs.Scripts.{Script, begun, table, world, IsUnderstood, RunsLine, Refuses, Stop, Runs}
+use Rattle.lk_script.specs.Scripts.{OpensWorld}
 use Rattle.lk_script.specs.Scripts.OpensWorld.{here, later}
 use Rattle.lk_script.specs.TableMode.{Replies, Prints, IsTableLine, from_client, from_node, is_request_to, is_for_table}
 use Rattle.lk_script.specs.TableMode.Replies.{answers, passes}
 use Rattle.lk_script.specs.TableMode.Prints.{unreadable, others, not_here, replied}
-use Rattle.lk_script.specs.Scripts.Takes.{begins, opens, prints, happens}
-use Rattle.lk_script.specs.Scripts.Runs.{ends, skips, takes, stops, refuses}
+use Rattle.lk_script.specs.Scripts.RunsLine.{begins, opens, prints, happens}
+use Rattle.lk_script.specs.Scripts.Runs.{ends, skips, runs_line, stops, refuses}
 use Rattle.lk_sim_nodes.specs.declared.refused.Refused.{Refused}
 use Rattle.lk_script_lines.proofs.HexSpelling.{same_bytes}
 
@@ -143,7 +144,7 @@ plain_skipped (table cluster L) lines plain = tt
 plain_skipped (world scene done) lines plain = absurd plain
 
 plain_taken : {R : Type 0} (b : Behaviour R) (s after : Script R) (line out : List ℕ) (lines : List (List ℕ))
-    → IsPlain s (line ∷ lines) → Takes b s line out after → IsPlain after lines
+    → IsPlain s (line ∷ lines) → RunsLine b s line out after → IsPlain after lines
 plain_taken b _ _ line _ lines plain (begins l c first) = tt
 plain_taken b _ _ line _ lines plain (opens l genesis first) =
     absurd (plain (here l genesis.cluster genesis.alpha genesis.members lines first))
@@ -157,7 +158,7 @@ not_refused b (table cluster L) line out r lines plain refused = refused
 not_refused b (world scene done) line out r lines plain refused = plain
 
 takes_once : {R : Type 0} (b : Behaviour R) (s : Script R) (line out out' : List ℕ) (after after' : Script R)
-    (lines : List (List ℕ)) → IsPlain s (line ∷ lines) → Takes b s line out after → Takes b s line out' after'
+    (lines : List (List ℕ)) → IsPlain s (line ∷ lines) → RunsLine b s line out after → RunsLine b s line out' after'
     → (out ≡ out') × (after ≡ after')
 takes_once b _ line _ _ _ _ lines plain (begins l c first) (begins l' d first') =
     (refl, ap (λ (k : ℕ). table k []) (cluster_once line c d first first'))
@@ -175,7 +176,7 @@ takes_once b _ line _ _ _ _ lines plain (prints cluster L l bytes text after spe
 
 -- what is taken is understood
 taken_understood : {R : Type 0} (b : Behaviour R) (s after : Script R) (line out : List ℕ)
-    → Takes b s line out after → IsUnderstood s line
+    → RunsLine b s line out after → IsUnderstood s line
 taken_understood b _ _ line _ (begins l c first) = inl (c, first)
 taken_understood b _ _ line _ (opens l genesis first) = inr (genesis.cluster, genesis.alpha, genesis.members, first)
 taken_understood b _ _ line _ (prints cluster L l bytes text after spells printed) = (bytes, spells)
@@ -190,28 +191,28 @@ runs_once b _ _ _ _ _ _ _ plain (ends s n) (ends s' n') = (refl, refl)
 runs_once b _ _ _ _ _ _ _ plain (skips s n lines text stop r) (skips s' n' lines' text' stop' r') =
     runs_once b s (n + 1) lines text text' stop stop' (plain_skipped s lines plain) r r'
 runs_once b _ _ _ _ _ _ _ plain (skips s n lines text stop r)
-    (takes s' after n' line out lines' text' stop' filled t r') = absurd (filled refl)
+    (runs_line s' after n' line out lines' text' stop' filled t r') = absurd (filled refl)
 runs_once b _ _ _ _ _ _ _ plain (skips s n lines text stop r) (stops s' n' line lines' filled none) =
     absurd (filled refl)
 runs_once b _ _ _ _ _ _ _ plain (skips s n lines text stop r) (refuses s' n' line out why lines' filled refused) =
     absurd (filled refl)
-runs_once b _ _ _ _ _ _ _ plain (takes s after n line out lines text stop filled t r)
+runs_once b _ _ _ _ _ _ _ plain (runs_line s after n line out lines text stop filled t r)
     (skips s' n' lines' text' stop' r') = absurd (filled refl)
-runs_once b _ _ _ _ _ _ _ plain (takes s after n line out lines text stop filled t r)
-    (takes s' after' n' line' out' lines' text' stop' filled' t' r') =
+runs_once b _ _ _ _ _ _ _ plain (runs_line s after n line out lines text stop filled t r)
+    (runs_line s' after' n' line' out' lines' text' stop' filled' t' r') =
     let line_once = takes_once b s line out out' after after' lines plain t t' in
     let rest = runs_once b after (n + 1) lines text text' stop stop' (plain_taken b s after line out lines plain t) r
     (subst (λ x. Runs b x (n + 1) lines text' stop') (sym line_once.1) r') in
     (ap (λ (x : List ℕ). x ++ text) line_once.0 ∙ ap (λ (x : List ℕ). out' ++ x) rest.0, rest.1)
-runs_once b _ _ _ _ _ _ _ plain (takes s after n line out lines text stop filled t r)
+runs_once b _ _ _ _ _ _ _ plain (runs_line s after n line out lines text stop filled t r)
     (stops s' n' line' lines' filled' none) = absurd (none (taken_understood b s after line out t))
-runs_once b _ _ _ _ _ _ _ plain (takes s after n line out lines text stop filled t r)
+runs_once b _ _ _ _ _ _ _ plain (runs_line s after n line out lines text stop filled t r)
     (refuses s' n' line' out' why lines' filled' refused) =
     absurd (not_refused b s line out' why (line ∷ lines) plain refused)
 runs_once b _ _ _ _ _ _ _ plain (stops s n line lines filled none) (skips s' n' lines' text' stop' r') =
     absurd (filled refl)
 runs_once b _ _ _ _ _ _ _ plain (stops s n line lines filled none)
-    (takes s' after' n' line' out' lines' text' stop' filled' t' r') =
+    (runs_line s' after' n' line' out' lines' text' stop' filled' t' r') =
     absurd (none (taken_understood b s' after' line' out' t'))
 runs_once b _ _ _ _ _ _ _ plain (stops s n line lines filled none) (stops s' n' line' lines' filled' none') =
     (refl, refl)

@@ -10,15 +10,15 @@ use Rattle.lk_replica.specs.Behaviours.{Behaviour}
 use Rattle.lk_sim.specs.Runs.{AreExecuted}
 use Rattle.lk_sim_nodes.specs.declared.refused.Refused.{Refused}
 use Rattle.lk_script_lines.specs.HexLines.{SpellsBytes}
-use Rattle.lk_script_lines.specs.Lines.{lines_of, TakesLine, TakesWithinLine}
+use Rattle.lk_script_lines.specs.Lines.{lines_of, ReadsLine, ReadsWithinLine}
 use Rattle.lk_script.specs.TableMode.{Prints, IsTableLine}
 use Rattle.lk_script_lines.specs.GenesisLines.{IsGenesisLine}
 use Rattle.lk_script_lines.specs.WorldLines.{SpellsInstruction}
 use Rattle.lk_script.specs.Worlds.{events_of, Follows, refused_line}
-use Rattle.lk_script.specs.Scripts.{Script, begun, table, world, IsFirstLine, IsUnderstood, Takes, Refuses, Stop}
+use Rattle.lk_script.specs.Scripts.{Script, begun, table, world, IsFirstLine, IsUnderstood, RunsLine, Refuses, Stop}
 use Rattle.lk_script.specs.Scripts.{at_end, at_line, at_refusal, Runs, last_line}
-use Rattle.lk_script.specs.Scripts.Takes.{prints, happens}
-use Rattle.lk_script.specs.Scripts.Runs.{ends, skips, takes, stops, refuses}
+use Rattle.lk_script.specs.Scripts.RunsLine.{prints, happens}
+use Rattle.lk_script.specs.Scripts.Runs.{ends, skips, runs_line, stops, refuses}
 use Rattle.lk_script.specs.Endings.{SetsUp, BreaksOff, EndsBy}
 use Rattle.lk_script_lines.specs.Faults.{fault_of_line}
 use Rattle.lk_script_lines.specs.declared.instruction.Instruction.{Instruction}
@@ -26,25 +26,25 @@ use Rattle.lk_script_lines.specs.declared.fault.ScriptFault.{ScriptFault}
 use Rattle.lk_script_lines.specs.declared.fault.ScriptFault.TheVariants.{Read, Write, ScriptMemory, Ended}
 use Rattle.lk_script_lines.specs.declared.fault.LineFault.{LineFault}
 use Rattle.lk_script_lines.specs.declared.fault.LineFault.TheVariants.{NoMemory, NotUnderstood}
-use Rattle.lk_script.specs.TableServers.{HasExecuted, Fits}
+use Rattle.lk_script.specs.TableRuns.{HasExecuted, Fits}
 use Rattle.lk_script.specs.declared.mode.Mode.{Mode}
 use Rattle.lk_script.specs.declared.mode.Mode.TheVariants as mode
-use Rattle.lk_script.specs.declared.table_server.TableServer.{TableServer}
+use Rattle.lk_script.specs.declared.table_run.TableRun.{TableRun}
 use Rattle.lk_script.specs.declared.world_run.WorldRun.{WorldRun}
 use Rattle.lk_script.proofs.Following.{GoesOn, all_passed}
 
 -- a line where a table is set up
-pub some_line : {R : Type 0} (b : Behaviour R) (s : Script R) (server new : TableServer) (line text : List ℕ)
+pub some_line : {R : Type 0} (b : Behaviour R) (s : Script R) (server new : TableRun) (line text : List ℕ)
     → Fits s (mode.Table server) → new.cluster ≡ server.cluster
     → ((L : List Command) → HasExecuted L server
     → (bytes : List ℕ) × (printed : List ℕ) × (after : List Command) × SpellsBytes line bytes
     × Prints server.cluster L bytes printed after × (text ≡ printed ++ 10 ∷ []) × HasExecuted after new)
-    → (after : Script R) × Takes b s line text after × Fits after (mode.Table new)
+    → (after : Script R) × RunsLine b s line text after × Fits after (mode.Table new)
 some_line b begun server new line text fits same printed = absurd fits
 some_line b (table cluster L) server new line text fits same printed =
     let p = printed L fits.1 in (
       table cluster p.2,
-      subst (λ (t : List ℕ). Takes b (table cluster L) line t (table cluster p.2)) (sym p.5)
+      subst (λ (t : List ℕ). RunsLine b (table cluster L) line t (table cluster p.2)) (sym p.5)
           (prints cluster L line p.0 p.1 p.2 p.3 (subst (λ (k : ℕ). Prints k L p.0 p.1 p.2) fits.0 p.4)),
       (same ∙ fits.0, p.6),
     )
@@ -52,10 +52,10 @@ some_line b (world scene done) server new line text fits same printed = absurd f
 
 -- the line that sets something up
 pub none_line : {R : Type 0} (b : Behaviour R) (s : Script R) (new : Mode R) (line text : List ℕ) → Fits s mode.Unset
-    → (after : Script R) × Takes b begun line [] after × Fits after new → text ≡ []
-    → (after : Script R) × Takes b s line text after × Fits after new
+    → (after : Script R) × RunsLine b begun line [] after × Fits after new → text ≡ []
+    → (after : Script R) × RunsLine b s line text after × Fits after new
 none_line b begun new line text fits set_up empty =
-    (set_up.0, subst (λ (t : List ℕ). Takes b begun line t set_up.0) (sym empty) set_up.1, set_up.2)
+    (set_up.0, subst (λ (t : List ℕ). RunsLine b begun line t set_up.0) (sym empty) set_up.1, set_up.2)
 none_line b (table k L) new line text fits set_up empty = absurd fits
 none_line b (world scene done) new line text fits set_up empty = absurd fits
 
@@ -72,7 +72,7 @@ no_begin begun line fits none u = none u
 no_begin (table cluster L) line fits none u = absurd fits
 no_begin (world scene done) line fits none u = absurd fits
 
-pub no_bytes : {R : Type 0} (s : Script R) (server : TableServer) (line : List ℕ) → Fits s (mode.Table server)
+pub no_bytes : {R : Type 0} (s : Script R) (server : TableRun) (line : List ℕ) → Fits s (mode.Table server)
     → ((bytes : List ℕ) → SpellsBytes line bytes → ⊥) → IsUnderstood s line → ⊥
 no_bytes begun server line fits none u = absurd fits
 no_bytes (table cluster L) server line fits none u = none u.0 u.1
@@ -87,7 +87,7 @@ no_instruction (world scene done) run line fits none u = none u.0 u.1
 -- a line of a world, of which no event is refused
 pub world_line : {R : Type 0} (b : Behaviour R) (s : Script R) (run new : WorldRun R) (line text : List ℕ)
     → Fits s (mode.World run) → GoesOn b run line None new
-    → (after : Script R) × Takes b s line text after × Fits after (mode.World new)
+    → (after : Script R) × RunsLine b s line text after × Fits after (mode.World new)
 world_line b begun run new line text fits went = absurd fits
 world_line b (table cluster L) run new line text fits went = absurd fits
 world_line b (world scene done) run new line text fits went =
@@ -172,7 +172,7 @@ pub taken : {R : Type 0} (b : Behaviour R)
     (line text : List ℕ) → line ≢ []
     → (so_far : SoFar b input before written left server number)
     → (rest : List ℕ) × (left' ≡ Some rest) × (lines_of so_far.rest ≡ line ∷ lines_of rest)
-    → ((s : Script R) → Fits s server → (after : Script R) × Takes b s line text after × Fits after server')
+    → ((s : Script R) → Fits s server → (after : Script R) × RunsLine b s line text after × Fits after server')
     → Appends written written' text → SoFar b input before written' left' server' (number + 1)
 taken b input before written written' left left' server server' number line text filled s read takes_it wrote =
     let t = takes_it s.state s.fits in
@@ -191,7 +191,7 @@ taken b input before written written' left left' server server' number line text
           (sym (append_assoc s.text text out))
           (subst (λ (ls : List (List ℕ)). Runs b begun 1 ls (s.text ++ (text ++ out)) stop)
           (sym (append_assoc s.front (line ∷ []) more))
-          (s.on (line ∷ more) (text ++ out) stop (takes s.state t.0 number line text more out stop filled t.1 r)));
+          (s.on (line ∷ more) (text ++ out) stop (runs_line s.state t.0 number line text more out stop filled t.1 r)));
     }
 
 -- the input is at its end, and what stands last was written
@@ -252,7 +252,7 @@ refused b input before written written' left server number line text r filled s 
 -- the run broke off
 pub earlier : {R : Type 0} (b : Behaviour R)
     → (input : List ℕ) (before written left left' : Option (List ℕ)) (server : Mode R) (number : ℕ)
-    → (so_far : SoFar b input before written left server number) → TakesWithinLine so_far.rest left'
+    → (so_far : SoFar b input before written left server number) → ReadsWithinLine so_far.rest left'
     → (text : List ℕ) × BreaksOff b input text left' × Appends before written text
 earlier b input before written left left' server number s within = (
   s.text ++ [],
@@ -263,7 +263,7 @@ earlier b input before written left left' server number s within = (
     state = s.state;
     printed = subst (λ (ls : List (List ℕ)). Runs b begun 1 ls (s.text ++ []) (at_end s.state)) (append-nil s.front)
         (s.on [] [] (at_end s.state) (ends s.state number));
-    taken = within;
+    within_line = within;
   },
   subst (Appends before written) (sym (append-nil s.text)) s.appended,
 )
@@ -294,22 +294,22 @@ known_ended b (Some input) before written written' left server number s h wrote 
 
 pub known_broke : {R : Type 0} (b : Behaviour R) → (fault : ScriptFault) → (fault ≡ Read) ⊎ (fault ≡ ScriptMemory)
     → (o before written left left' : Option (List ℕ)) (server : Mode R) (number : ℕ)
-    → IfSome left (λ (t : List ℕ). TakesWithinLine t left') → Known b before written left server number o
+    → IfSome left (λ (t : List ℕ). ReadsWithinLine t left') → Known b before written left server number o
     → IfSome o (λ (input : List ℕ). (text : List ℕ) × EndsBy b fault input text left' × Appends before written text)
 known_broke b fault why None before written left left' server number within s = tt
 known_broke b fault (inl e) (Some input) before written left left' server number within s =
     subst (λ (f : ScriptFault). (text : List ℕ) × EndsBy b f input text left' × Appends before written text) (sym e)
     (earlier b input before written left left' server number s
-    (at_rest left s.rest (λ (t : List ℕ). TakesWithinLine t left') s.left_is within))
+    (at_rest left s.rest (λ (t : List ℕ). ReadsWithinLine t left') s.left_is within))
 known_broke b fault (inr e) (Some input) before written left left' server number within s =
     subst (λ (f : ScriptFault). (text : List ℕ) × EndsBy b f input text left' × Appends before written text) (sym e)
     (earlier b input before written left left' server number s
-    (at_rest left s.rest (λ (t : List ℕ). TakesWithinLine t left') s.left_is within))
+    (at_rest left s.rest (λ (t : List ℕ). ReadsWithinLine t left') s.left_is within))
 
 pub known_failed : {R : Type 0} (b : Behaviour R) → (why : LineFault) (fault : ScriptFault) (number : ℕ)
     → fault ≡ fault_of_line number why → (line items : List ℕ) → line ≡ items → items ≢ []
     → (o before written left left' : Option (List ℕ)) (server : Mode R)
-    → IfSome left (λ (t : List ℕ). TakesLine t items left') → IfSome left (λ (t : List ℕ). TakesWithinLine t left')
+    → IfSome left (λ (t : List ℕ). ReadsLine t items left') → IfSome left (λ (t : List ℕ). ReadsWithinLine t left')
     → (why ≡ NotUnderstood → (s : Script R) → Fits s server → IsUnderstood s line → ⊥)
     → Known b before written left server number o
     → IfSome o (λ (input : List ℕ). (text : List ℕ) × EndsBy b fault input text left' × Appends before written text)
@@ -319,25 +319,25 @@ known_failed b NoMemory fault number e line items is filled
     known_broke b fault (inr e) (Some input) before written left left' server number within s
 known_failed b NotUnderstood fault number e line items is filled
     (Some input) before written left left' server read within refused s =
-    let taken = at_rest left s.rest (λ (t : List ℕ). TakesLine t items left') s.left_is read in
+    let taken = at_rest left s.rest (λ (t : List ℕ). ReadsLine t items left') s.left_is read in
     subst (λ (f : ScriptFault). (text : List ℕ) × EndsBy b f input text left' × Appends before written text) (sym e)
     (stopped b input before written left server number items filled s (taken.0, taken.2)
     (λ st fits u. refused refl st fits (subst (IsUnderstood st) (sym is) u)))
 
 pub known_skipped : {R : Type 0} (b : Behaviour R)
     → (o before written left left' : Option (List ℕ)) (server : Mode R) (number : ℕ) (line : List ℕ) → line ≡ []
-    → IfSome left (λ (t : List ℕ). TakesLine t line left')
+    → IfSome left (λ (t : List ℕ). ReadsLine t line left')
     → Known b before written left server number o → Known b before written left' server (number + 1) o
 known_skipped b None before written left left' server number line empty read s = tt
 known_skipped b (Some input) before written left left' server number line empty read s =
     skipped b input before written left left' server number line empty s
-    (at_rest left s.rest (λ (t : List ℕ). TakesLine t line left') s.left_is read)
+    (at_rest left s.rest (λ (t : List ℕ). ReadsLine t line left') s.left_is read)
 
 pub known_taken : {R : Type 0} (b : Behaviour R)
     → (o before written written' left left' : Option (List ℕ)) (server server' : Mode R) (number : ℕ)
     (line items text : List ℕ) → line ≡ items → items ≢ []
-    → IfSome left (λ (t : List ℕ). TakesLine t items left')
-    → ((s : Script R) → Fits s server → (after : Script R) × Takes b s line text after × Fits after server')
+    → IfSome left (λ (t : List ℕ). ReadsLine t items left')
+    → ((s : Script R) → Fits s server → (after : Script R) × RunsLine b s line text after × Fits after server')
     → Appends written written' text
     → Known b before written left server number o → Known b before written' left' server' (number + 1) o
 known_taken b None before written written' left left' server server' number line items text is filled
@@ -345,14 +345,14 @@ known_taken b None before written written' left left' server server' number line
 known_taken {R = R} b (Some input) before written written' left left' server server' number line items text is
     filled read takes_it wrote s =
     taken b input before written written' left left' server server' number items text filled s
-    (at_rest left s.rest (λ (t : List ℕ). TakesLine t items left') s.left_is read)
+    (at_rest left s.rest (λ (t : List ℕ). ReadsLine t items left') s.left_is read)
     (subst (λ (l : List ℕ). (s : Script R) → Fits s server
-    → (after : Script R) × Takes b s l text after × Fits after server') is takes_it) wrote
+    → (after : Script R) × RunsLine b s l text after × Fits after server') is takes_it) wrote
 
 pub known_refused : {R : Type 0} (b : Behaviour R) (fault : ScriptFault) (r : Refused) → fault ≡ Ended r
     → (o before written written' left left' : Option (List ℕ)) (server : Mode R) (number : ℕ)
     (line items text : List ℕ) → line ≡ items → items ≢ []
-    → IfSome left (λ (t : List ℕ). TakesLine t items left')
+    → IfSome left (λ (t : List ℕ). ReadsLine t items left')
     → ((s : Script R) → Fits s server → Refuses b s line text r) → Appends written written' text
     → Known b before written left server number o
     → IfSome o (λ (input : List ℕ). (all : List ℕ) × EndsBy b fault input all left' × Appends before written' all)
@@ -360,7 +360,7 @@ known_refused b fault r e None before written written' left left' server number 
     read refusal wrote s = tt
 known_refused {R = R} b fault r e
     (Some input) before written written' left left' server number line items text is filled read refusal wrote s =
-    let taken_line = at_rest left s.rest (λ (t : List ℕ). TakesLine t items left') s.left_is read in
+    let taken_line = at_rest left s.rest (λ (t : List ℕ). ReadsLine t items left') s.left_is read in
     subst (λ (f : ScriptFault). (all : List ℕ) × EndsBy b f input all left' × Appends before written' all) (sym e)
     (refused b input before written written' left server number items text r filled s (taken_line.0, taken_line.2)
     (subst (λ (l : List ℕ). (s : Script R) → Fits s server → Refuses b s l text r) is refusal) wrote)
@@ -369,7 +369,7 @@ known_refused {R = R} b fault r e
 module _ (fault : ScriptFault) where
   pub known_last : {R : Type 0} (b : Behaviour R) (o before written written' left left' : Option (List ℕ))
       (server : Mode R) (number : ℕ) → (fault ≡ Write) ⊎ ((fault ≡ ScriptMemory) × (written' ≡ written)) → fault ≢ Write
-      → IfSome left (λ (t : List ℕ). TakesWithinLine t left') → Known b before written left server number o
+      → IfSome left (λ (t : List ℕ). ReadsWithinLine t left') → Known b before written left server number o
       → IfSome o (λ (input : List ℕ). (text : List ℕ) × EndsBy b fault input text left' × Appends before written' text)
   known_last b o before written written' left left' server number (inl e) not_write within s = absurd (not_write e)
   known_last b o before written written' left left' server number (inr e) not_write within s =
@@ -382,7 +382,7 @@ module _ (fault : ScriptFault) where
       (o before written written' left left' : Option (List ℕ)) (server : Mode R) (number : ℕ) (line items text : List ℕ)
       → (fault ≡ Write) ⊎ ((r : Refused) × (fault ≡ Ended r) × (ended ≡ Some r) × Appends written written' text)
       → fault ≢ Write → line ≡ items → items ≢ []
-      → IfSome left (λ (t : List ℕ). TakesLine t items left')
+      → IfSome left (λ (t : List ℕ). ReadsLine t items left')
       → ((r : Refused) → ended ≡ Some r → (s : Script R) → Fits s server → Refuses b s line text r)
       → Known b before written left server number o
       → IfSome o (λ (input : List ℕ). (all : List ℕ) × EndsBy b fault input all left' × Appends before written' all)

@@ -1,10 +1,10 @@
 -- How the run of a script ends: what it has printed, and what the reader has left.
 use Rattle.std.specs.Prelude.{◌≡◌, ℕ, List, ◌++◌, Option, ⊤}
 use Rattle.lk_replica.specs.Behaviours.{Behaviour}
-use Rattle.lk_script_lines.specs.Lines.{lines_of, TakesWithinLine}
+use Rattle.lk_script_lines.specs.Lines.{lines_of, ReadsWithinLine}
 use Rattle.lk_script.specs.Scripts.{Script, begun, Runs, at_end, at_line, at_refusal, last_line}
 use Rattle.lk_sim_nodes.specs.declared.refused.Refused.{Refused}
-use Rattle.lk_script.specs.TableServers.{Fits}
+use Rattle.lk_script.specs.TableRuns.{Fits}
 use Rattle.lk_script_lines.specs.declared.fault.ScriptFault.{ScriptFault}
 use Rattle.lk_script_lines.specs.declared.fault.ScriptFault.TheVariants.{Read, Write, ScriptMemory, BadLine, Ended}
 use Rattle.lk_script.specs.declared.mode.Mode.{Mode}
@@ -36,7 +36,7 @@ pub record BreaksOff {R : Type 0} (b : Behaviour R) (script text : List ℕ) (le
   pub lines : lines_of script ≡ front ++ lines_of behind
   pub state : Script R
   pub printed : Runs b begun 1 front text (at_end state)
-  pub taken : TakesWithinLine behind left
+  pub within_line : ReadsWithinLine behind left
 
 -- a script that ends with the fault has printed the text, and the reader has this left; nothing is said of a failed
 -- write

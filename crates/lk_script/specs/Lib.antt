@@ -2,5 +2,5 @@ pub mod Replies
 pub mod TableMode
 pub mod Worlds
 pub mod Scripts
-pub mod TableServers
+pub mod TableRuns
 pub mod Endings

@@ -33,20 +33,20 @@ IsUnderstood (table cluster L) line = (bytes : List ℕ) × SpellsBytes line byt
 IsUnderstood (world scene done) line = (o : Instruction) × SpellsInstruction line o
 
 -- a valid line, what it prints and what is set up after it, if the replicas of a world behave like this
-pub data Takes {R : Type 0} (b : Behaviour R) : Script R → List ℕ → List ℕ → Script R → Type 0 where
+pub data RunsLine {R : Type 0} (b : Behaviour R) : Script R → List ℕ → List ℕ → Script R → Type 0 where
   -- the first line sets up a table
-  begins : (line : List ℕ) (cluster : ℕ) → IsTableLine line cluster → Takes b begun line [] (table cluster [])
+  begins : (line : List ℕ) (cluster : ℕ) → IsTableLine line cluster → RunsLine b begun line [] (table cluster [])
   -- or a world, in which nothing has happened
   opens : (line : List ℕ) (genesis : Genesis) → IsGenesisLine line genesis.cluster genesis.alpha genesis.members
-      → Takes b begun line [] (world (new_world genesis) 0)
+      → RunsLine b begun line [] (world (new_world genesis) 0)
   -- a later line is a datagram in hex
   prints : (cluster : ℕ) (L : List Command) (line bytes text : List ℕ) (after : List Command) → SpellsBytes line bytes
       → Prints cluster L bytes text after
-      → Takes b (table cluster L) line (text ++ 10 ∷ []) (table cluster after)
+      → RunsLine b (table cluster L) line (text ++ 10 ∷ []) (table cluster after)
   -- or an event of the world, or several, which happen in order; nothing is said here of what they print
   happens : (old new : Scene R) (done : ℕ) (line out : List ℕ) (o : Instruction) → SpellsInstruction line o
       → AreExecuted b (events_of o) old new
-      → Takes b (world old done) line out (world new (done + length (events_of o)))
+      → RunsLine b (world old done) line out (world new (done + length (events_of o)))
 
 -- a valid line, of which an event is rejected: those before it happen in order, the rejection leaves this world, and
 -- what the line prints ends with it
@@ -79,8 +79,8 @@ pub data Runs {R : Type 0} (b : Behaviour R) : Script R → ℕ → List (List �
   skips : (s : Script R) (n : ℕ) (lines : List (List ℕ)) (text : List ℕ) (stop : Stop R)
       → Runs b s (n + 1) lines text stop → Runs b s n ([] ∷ lines) text stop
   -- a valid line
-  takes : (s after : Script R) (n : ℕ) (line out : List ℕ) (lines : List (List ℕ)) (text : List ℕ) (stop : Stop R)
-      → line ≢ [] → Takes b s line out after
+  runs_line : (s after : Script R) (n : ℕ) (line out : List ℕ) (lines : List (List ℕ)) (text : List ℕ) (stop : Stop R)
+      → line ≢ [] → RunsLine b s line out after
       → Runs b after (n + 1) lines text stop → Runs b s n (line ∷ lines) (out ++ text) stop
   -- an invalid line: nothing after it is read
   stops : (s : Script R) (n : ℕ) (line : List ℕ) (lines : List (List ℕ)) → line ≢ [] → (IsUnderstood s line → ⊥)

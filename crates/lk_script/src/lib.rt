@@ -7,5 +7,5 @@ pub mod laws;
 pub mod mode;
 pub mod printing;
 pub mod script;
-pub mod table_server;
+pub mod table_run;
 pub mod world_run;

@@ -1,6 +1,6 @@
 //! The modes of a script: a lock table, or a world of replicas.
 
-use crate::table_server::TableServer;
+use crate::table_run::TableRun;
 use crate::world_run::WorldRun;
 use lk_replica::MemoryReplica;
 
@@ -10,7 +10,7 @@ pub enum Mode<R: MemoryReplica> {
     /// Nothing yet.
     Unset,
     /// One lock table.
-    Table(TableServer),
+    Table(TableRun),
     /// A world of replicas.
     World(WorldRun<R>),
 }

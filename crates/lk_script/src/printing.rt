@@ -94,7 +94,7 @@ fn kind(bytes: &[u8]) -> &'static str {
     }
 }
 
-// Appends `sent K FROM TO KIND`, where K is the place of the datagram, from 1.
+// Appends `sent K FROM TO KIND`, where K is the index of the datagram, from 1.
 fn print_datagram(text: &mut Vec<u8>, k: usize, datagram: &Datagram) -> Result<(), NoMemory> {
     let (from, sender) = party(datagram.from);
     let (to, receiver) = party(datagram.to);

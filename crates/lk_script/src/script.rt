@@ -7,15 +7,15 @@ ghost use Rattle.lk_types.specs.Limits.{max_count};
 ghost use Rattle.lk_sim_nodes.specs.declared.refused.Refused.{Refused as RefusedValue};
 ghost use Rattle.lk_script.specs.TableMode.{IsTableLine};
 ghost use Rattle.lk_script.specs.Worlds.{new_world, done_line};
-ghost use Rattle.lk_script.specs.Scripts.{Script, begun, table, world, IsFirstLine, IsUnderstood, Takes, Refuses};
+ghost use Rattle.lk_script.specs.Scripts.{Script, begun, table, world, IsFirstLine, IsUnderstood, RunsLine, Refuses};
 ghost use Rattle.lk_script.specs.Scripts.{last_line};
 ghost use Rattle.lk_script.specs.Endings.{PrintsAll, SetsUp, EndsBy};
-ghost use Rattle.lk_script.specs.TableServers.{Fits, done_in};
+ghost use Rattle.lk_script.specs.TableRuns.{Fits, done_in};
 
 use crate::buffers::Buffers;
 use crate::ending::end;
 use crate::mode::Mode;
-use crate::table_server::TableServer;
+use crate::table_run::TableRun;
 use crate::world_run::WorldRun;
 use lk_replica::MemoryReplica;
 use lk_script_lines::fault::{LineFault, ScriptFault};
@@ -60,7 +60,7 @@ fn table_mode<M: MemoryReplica>(alloc: Global, cluster: u64) -> Mode<M>
     ensures fits { Fits (table cluster []) result }
     ensures done { done_in result ≡ 0 }
 {
-    Mode::Table(TableServer::new(alloc, cluster))
+    Mode::Table(TableRun::new(alloc, cluster))
 }
 
 // Returns world mode: a world of this genesis in which nothing has happened.
@@ -72,10 +72,10 @@ fn world_mode<M: MemoryReplica>(alloc: Global, genesis: Genesis) -> Mode<M>
 }
 
 // Sets up the mode that the first line asks for: table mode if it is a cluster, or else (`NotUnderstood`) world mode by
-// a genesis. It is not inlined, as a server is large: in `take_line` each line would pay for the space of a new one.
+// a genesis. It is not inlined, as a lock table is large: in `run_line` each line would pay for the space of a new one.
 #[inline(never)]
-fn begin_mode<M: MemoryReplica>(alloc: Global, line: &[u8]) -> Result<Mode<M>, LineFault>
-    ensures ok { IfOk result (λ m. (after : Script M) × Takes M.behaves begun line.now [] after × Fits after m) }
+fn start_mode<M: MemoryReplica>(alloc: Global, line: &[u8]) -> Result<Mode<M>, LineFault>
+    ensures ok { IfOk result (λ m. (after : Script M) × RunsLine M.behaves begun line.now [] after × Fits after m) }
     ensures done { IfOk result (λ m. done_in m ≡ 0) }
     ensures not_understood { IsErrOf result LineFault.NotUnderstood → IsFirstLine line.now → ⊥ }
 {
@@ -91,7 +91,7 @@ fn begin_mode<M: MemoryReplica>(alloc: Global, line: &[u8]) -> Result<Mode<M>, L
 
 // Executes a line that is not empty, and puts what it prints into the text of the buffers. Returns why an event of the
 // line was rejected, if one was.
-fn take_line<M: MemoryReplica>(
+fn run_line<M: MemoryReplica>(
     alloc: Global,
     mode: &mut Mode<M>,
     line: &[u8],
@@ -99,7 +99,7 @@ fn take_line<M: MemoryReplica>(
 ) -> Result<Option<Refused>, LineFault>
     requires { done_in mode.old < max_count }
     ensures ok { result ≡ Ok None → (s : Script M) → Fits s mode.old
-        → (after : Script M) × Takes M.behaves s line.now buffers.new.text.items after × Fits after mode.new }
+        → (after : Script M) × RunsLine M.behaves s line.now buffers.new.text.items after × Fits after mode.new }
     ensures refused { (r : RefusedValue) → result ≡ Ok (Some r) → (s : Script M) → Fits s mode.old
         → Refuses M.behaves s line.now buffers.new.text.items r }
     ensures not_understood { IsErrOf result LineFault.NotUnderstood → (s : Script M) → Fits s mode.old
@@ -108,7 +108,7 @@ fn take_line<M: MemoryReplica>(
 {
     match mode {
         Mode::Unset => {
-            *mode = begin_mode(alloc, line)?;
+            *mode = start_mode(alloc, line)?;
             buffers.text.clear();
             Ok(None)
         }
@@ -206,7 +206,7 @@ pub fn run_script<M: MemoryReplica, R: BufRead, W: Write>(
             return Ok(mode);
         }
         if !line.is_empty() {
-            match take_line(alloc, &mut mode, &line, &mut buffers) {
+            match run_line(alloc, &mut mode, &line, &mut buffers) {
                 Ok(ended) => write_line(ended, &buffers.text, writer)?,
                 Err(fault) => return Err(fault.of_line(number)),
             }

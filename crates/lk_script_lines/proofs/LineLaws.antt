@@ -4,7 +4,7 @@ use Rattle.std.proofs.Common.{None, IfSome, refl, sym, ap, ◌∙◌, ◌≢◌}
 use Rattle.std.proofs.lemmas.Bool.{eqb-true, eqb-false}
 use Rattle.std.proofs.lemmas.List.Elements.{All-nil}
 use Rattle.std.specs.Io.BufRead.{take_through, drop_through, DropsThrough}
-use Rattle.lk_script_lines.specs.Lines.{lines_of, with_byte, first_line, TakesLine, TakesWithinLine}
+use Rattle.lk_script_lines.specs.Lines.{lines_of, with_byte, first_line, ReadsLine, ReadsWithinLine}
 
 -- the last elements of equal lists, and what stands before them
 pub snoc_same : (a b : List ℕ) (x y : ℕ) → a ++ x ∷ [] ≡ b ++ y ∷ [] → (x ≡ y) × (a ≡ b)
@@ -80,7 +80,7 @@ whole_line text line front b taken e other =
 pub took_line : (old new : Option (List ℕ)) (read line : List ℕ) → IfSome old (λ xs. read ≡ take_through 10 xs)
     → DropsThrough old new 10 → read ≢ []
     → ((text : List ℕ) → read ≡ take_through 10 text → line ≡ first_line text)
-    → IfSome old (λ text. TakesLine text line new)
+    → IfSome old (λ text. ReadsLine text line new)
 took_line None new read line taken rest some is = tt
 took_line (Some []) new read line taken rest some is = absurd (some taken)
 took_line (Some (b ∷ text)) new read line taken rest some is = (
@@ -99,6 +99,6 @@ no_line (b ∷ text) line taken e =
     ]
 
 -- nothing was taken
-pub took_nothing : (left : Option (List ℕ)) → IfSome left (λ text. TakesWithinLine text left)
+pub took_nothing : (left : Option (List ℕ)) → IfSome left (λ text. ReadsWithinLine text left)
 took_nothing None = tt
 took_nothing (Some text) = ([], All-nil (λ (x : ℕ). x ≢ 10), refl)

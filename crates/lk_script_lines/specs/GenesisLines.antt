@@ -3,14 +3,14 @@ use Rattle.std.specs.Prelude.{◌≡◌, ℕ, None, List, ◌∷◌, ◌++◌, c
 use Rattle.lk_types.specs.Genesis.{genesis_fault}
 use Rattle.lk_types.specs.declared.member.Member.{Member}
 use Rattle.lk_word_parsers.specs.Geneses.{SpellsMembers}
-use Rattle.lk_script_lines.specs.WorldLines.{BeginsWithNumber}
+use Rattle.lk_script_lines.specs.WorldLines.{StartsWithNumber}
 
 -- `CLUSTER ALPHA NODE:PORT ..`
 pub record SpellsGenesis (words : List ℕ) (cluster alpha : ℕ) (members : List Member) : Type 0 where
   pub more : List ℕ
   pub rest : List ℕ
-  pub cluster_leads : BeginsWithNumber 0 18446744073709551615 cluster more words
-  pub alpha_leads : BeginsWithNumber 1 16 alpha rest more
+  pub cluster_leads : StartsWithNumber 0 18446744073709551615 cluster more words
+  pub alpha_leads : StartsWithNumber 1 16 alpha rest more
   pub members_are : SpellsMembers 32 rest members
 
 -- the line begins a valid cluster

@@ -19,9 +19,9 @@ first_line [] = []
 first_line (b ∷ text) = if b == 10 then [] else b ∷ first_line text
 
 -- a line was taken from the start of the text, and the rest is left
-abbrev pub TakesLine : List ℕ → List ℕ → Option (List ℕ) → Type 0
-TakesLine text line left = (rest : List ℕ) × (left ≡ Some rest) × (lines_of text ≡ line ∷ lines_of rest)
+abbrev pub ReadsLine : List ℕ → List ℕ → Option (List ℕ) → Type 0
+ReadsLine text line left = (rest : List ℕ) × (left ≡ Some rest) × (lines_of text ≡ line ∷ lines_of rest)
 
 -- no more than one line, with its line feed, was taken from the start of the text, and the rest is left
-abbrev pub TakesWithinLine : List ℕ → Option (List ℕ) → Type 0
-TakesWithinLine text left = (part : List ℕ) × StopsAt part 10 × Consumes (Some text) left part
+abbrev pub ReadsWithinLine : List ℕ → Option (List ℕ) → Type 0
+ReadsWithinLine text left = (part : List ℕ) × StopsAt part 10 × Consumes (Some text) left part

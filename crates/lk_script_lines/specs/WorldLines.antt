@@ -19,15 +19,15 @@ abbrev pub IsWord : ℕ → ℕ → ℕ → List ℕ → Type 0
 IsWord least most n word = (least ≤ n) × (n ≤ most) × (word ≡ decimal n)
 
 -- the words begin with such a number, followed by a space and these words
-abbrev pub BeginsWithNumber : ℕ → ℕ → ℕ → List ℕ → List ℕ → Type 0
-BeginsWithNumber least most n rest words = (least ≤ n) × (n ≤ most) × (words ≡ decimal n ++ 32 ∷ rest)
+abbrev pub StartsWithNumber : ℕ → ℕ → ℕ → List ℕ → List ℕ → Type 0
+StartsWithNumber least most n rest words = (least ≤ n) × (n ≤ most) × (words ≡ decimal n ++ 32 ∷ rest)
 
 -- a node, alone or with words after it
 abbrev pub IsNodeWord : ℕ → List ℕ → Type 0
 IsNodeWord = IsWord 1 max_node
 
 abbrev pub NodeLeads : ℕ → List ℕ → List ℕ → Type 0
-NodeLeads = BeginsWithNumber 1 max_node
+NodeLeads = StartsWithNumber 1 max_node
 
 -- ---- what the words after each verb ask for
 
@@ -76,8 +76,8 @@ AsksForGroup words o = (n : ℕ) × (rest : List ℕ) × (inputs : List GroupInp
 
 -- `C NUMBER OP`
 abbrev pub SpellsRequest : List ℕ → RequestValue → Type 0
-SpellsRequest words r = (rest : List ℕ) × (text : List ℕ) × BeginsWithNumber 1 max_client r.client rest words
-    × BeginsWithNumber 1 max_count r.number text rest × SpellsOp text r.op
+SpellsRequest words r = (rest : List ℕ) × (text : List ℕ) × StartsWithNumber 1 max_client r.client rest words
+    × StartsWithNumber 1 max_count r.number text rest × SpellsOp text r.op
 
 -- `N C NUMBER OP`
 abbrev pub AsksOfClient : List ℕ → Instruction → Type 0
@@ -98,7 +98,7 @@ AsksToInject words o = (n : ℕ) × (digits : List ℕ) × (bytes : List ℕ) ×
 -- `N X Y`
 abbrev pub AsksToStop : List ℕ → Instruction → Type 0
 AsksToStop words o = (n : ℕ) × (x : ℕ) × (y : ℕ) × (more : List ℕ) × (word : List ℕ)
-    × NodeLeads n more words × BeginsWithNumber 0 max_count x word more × IsWord 0 max_count y word
+    × NodeLeads n more words × StartsWithNumber 0 max_count x word more × IsWord 0 max_count y word
     × (o ≡ Once (event.Stop n x y))
 
 -- `N COUNT`
@@ -109,7 +109,7 @@ AsksToFail words o = (n : ℕ) × (count : ℕ) × (word : List ℕ) × NodeLead
 -- `N COUNT BYTES`
 abbrev pub AsksToArm : List ℕ → Instruction → Type 0
 AsksToArm words o = (n : ℕ) × (count : ℕ) × (bytes : ℕ) × (more : List ℕ) × (word : List ℕ)
-    × NodeLeads n more words × BeginsWithNumber 1 max_count count word more × IsWord 0 max_count bytes word
+    × NodeLeads n more words × StartsWithNumber 1 max_count count word more × IsWord 0 max_count bytes word
     × (o ≡ Once (event.Arm n count bytes))
 
 -- ---- a line

@@ -3,7 +3,7 @@ ghost use Rattle.std.specs.Prelude.{◌≡◌, ℕ, List, None, true, false, cod
 ghost use Rattle.lk_types.specs.declared.member.Member.{Member as MemberValue};
 ghost use Rattle.lk_types.specs.Genesis.{genesis_fault};
 ghost use Rattle.lk_script_lines.specs.GenesisLines.{SpellsGenesis, IsGenesisLine};
-ghost use Rattle.lk_script_lines.specs.WorldLines.{BeginsWithNumber};
+ghost use Rattle.lk_script_lines.specs.WorldLines.{StartsWithNumber};
 
 use crate::fault::LineFault;
 use crate::world_words::first_number;
@@ -17,8 +17,8 @@ const LAST_ALPHA: u64 = MAX_ALPHA as u64;
 // Reads the number of the cluster and its alpha, and returns them with the words of its members.
 fn numbers_of(words: &[u8]) -> Option<(u64, u64, &[u8])>
     ensures some { IfSome result
-        (λ p. (more : List ℕ) × BeginsWithNumber 0 18446744073709551615 p.0 more words.now
-        × BeginsWithNumber 1 16 p.1 p.2.now more) }
+        (λ p. (more : List ℕ) × StartsWithNumber 0 18446744073709551615 p.0 more words.now
+        × StartsWithNumber 1 16 p.1 p.2.now more) }
     ensures none { IsNone result → (cluster alpha : ℕ) (ms : List MemberValue)
         → SpellsGenesis words.now cluster alpha ms → ⊥ }
 {

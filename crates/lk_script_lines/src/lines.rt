@@ -3,7 +3,7 @@
 ghost use Rattle.std.specs.Prelude.{◌≡◌, ◌≢◌, ◌⊎◌, ℕ, List, [], true, false, Ok, IfErr, IfSome};
 ghost use Rattle.std.specs.Io.BufRead.{take_through};
 ghost use Rattle.std.specs.IoError.{error_kind};
-ghost use Rattle.lk_script_lines.specs.Lines.{first_line, TakesLine, TakesWithinLine};
+ghost use Rattle.lk_script_lines.specs.Lines.{first_line, ReadsLine, ReadsWithinLine};
 ghost use Rattle.lk_script_lines.specs.declared.fault.ScriptFault.TheVariants as fault;
 
 use crate::fault::ScriptFault;
@@ -35,9 +35,9 @@ fn read_fault(error: &Error) -> ScriptFault
 /// Reads the next line into `line`, without its line feed. Returns false at the end of the input.
 pub fn next_line<R: BufRead>(reader: &mut R, line: &mut Vec<u8>) -> Result<bool, ScriptFault>
     ensures line { result ≡ Ok true
-        → IfSome (R.remaining reader.old) (λ text. TakesLine text line.new.items (R.remaining reader.new)) }
+        → IfSome (R.remaining reader.old) (λ text. ReadsLine text line.new.items (R.remaining reader.new)) }
     ensures end { result ≡ Ok false → IfSome (R.remaining reader.old) (λ text. text ≡ []) }
-    ensures within { IfSome (R.remaining reader.old) (λ text. TakesWithinLine text (R.remaining reader.new)) }
+    ensures within { IfSome (R.remaining reader.old) (λ text. ReadsWithinLine text (R.remaining reader.new)) }
     ensures err { IfErr result (λ e. (e ≡ ScriptFault.Read) ⊎ (e ≡ ScriptFault.ScriptMemory)) }
 {
     line.clear();

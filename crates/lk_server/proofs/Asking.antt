@@ -12,7 +12,7 @@ use Rattle.lk_pacing.specs.declared.turn_input.TurnInput.{TurnInput}
 use Rattle.lk_pacing.specs.declared.turn_input.TurnInput.TheVariants.{Nothing, Filtered, Something}
 use Rattle.lk_transport.specs.Askers.{BringsProbe}
 use Rattle.lk_transport.specs.ReceiveBuffers.{BufferValue, listed}
-use Rattle.lk_transport.specs.Inquiring.{IsToldBy}
+use Rattle.lk_transport.specs.Inquiring.{IsReportedBy}
 use Rattle.lk_transport.specs.Kept.{BringNothing, BringsFirst, IsFirstOf, KeepsFirst, KeepsFirstOf, KeepsProbes}
 use Rattle.lk_transport.specs.Kept.{KeepsOf}
 use Rattle.lk_transport.specs.Posts.{is_probe_or_report}
@@ -34,7 +34,7 @@ asks_nothing : (s : Seals) (d : SocketAddr × List ℕ) → is_probe_or_report (
 asks_nothing s d apart p asks = let both : false ≡ true = sym apart ∙ is_aside p (heard s d.1) asks.spelled in cc both
 
 tells_nothing : (n : ℕ) (s : Seals) (d : SocketAddr × List ℕ) → is_probe_or_report (heard s d.1) ≡ false
-    → IsToldBy n s d None
+    → IsReportedBy n s d None
 tells_nothing n s d apart r spelled answers =
     let both : false ≡ true = sym apart ∙ tells_aside r (heard s d.1) spelled in cc both
 
@@ -105,7 +105,7 @@ keeps_more n m s t xs ys old mid new node seals one two =
     let next : KeepsOf n s ys mid new = subst₂ (λ (k : ℕ) (z : Seals). KeepsOf k z ys mid new) node seals two in
     record {
       asked = first_more (BringsProbe s) xs ys old.asked mid.asked new.asked one.asked next.asked;
-      reported = first_more (IsToldBy n s) xs ys old.reported mid.reported new.reported one.reported next.reported;
+      reported = first_more (IsReportedBy n s) xs ys old.reported mid.reported new.reported one.reported next.reported;
     }
 
 -- no frame more
@@ -114,7 +114,7 @@ pub keeps_on : (n : ℕ) (s : Seals) (xs : List (SocketAddr × List ℕ)) (old m
 keeps_on n s xs old mid new kept asked reported = record {
   asked = subst (λ (a : Option ReceivedProbe). KeepsFirstOf (BringsProbe s) old.asked xs a) (sym asked) kept.asked;
   reported =
-      subst (λ (r : Option Reported). KeepsFirstOf (IsToldBy n s) old.reported xs r) (sym reported) kept.reported;
+      subst (λ (r : Option Reported). KeepsFirstOf (IsReportedBy n s) old.reported xs r) (sym reported) kept.reported;
 }
 
 -- as it did
@@ -122,7 +122,11 @@ pub keeps_still : (n : ℕ) (s : Seals) (old new : BufferValue) → new.asked �
     → new.reported ≡ old.reported → KeepsOf n s [] old new
 keeps_still n s old new asked reported =
     keeps_on n s [] old old new
-    (record { asked = first_none (BringsProbe s) old.asked; reported = first_none (IsToldBy n s) old.reported }) asked
+    (record {
+      asked = first_none (BringsProbe s) old.asked;
+      reported = first_none
+          (IsReportedBy n s) old.reported;
+    }) asked
     reported
 
 -- of a frame that a replica is given
@@ -131,7 +135,7 @@ pub keeps_given : (n : ℕ) (s : Seals) (d : SocketAddr × List ℕ) (old new : 
     → KeepsOf n s (d ∷ []) old new
 keeps_given n s d old new apart asked reported = keeps_on n s (d ∷ []) old old new (record {
   asked = first_apart (BringsProbe s) old.asked d (asks_nothing s d apart);
-  reported = first_apart (IsToldBy n s) old.reported d (tells_nothing n s d apart);
+  reported = first_apart (IsReportedBy n s) old.reported d (tells_nothing n s d apart);
 }) asked reported
 
 -- of one that stands beside the protocol
@@ -144,9 +148,9 @@ keeps_beside n m s t d old mid new node seals asked reported is keeps =
       asked = first_one (BringsProbe s) old.asked new.asked d
           (subst₂ (λ (l : Option (SocketAddr × List ℕ)) (a : Option ReceivedProbe). KeepsFirst
           (BringsProbe s) l a new.asked) is asked kept.asked);
-      reported = first_one (IsToldBy n s) old.reported new.reported d
+      reported = first_one (IsReportedBy n s) old.reported new.reported d
           (subst₂ (λ (l : Option (SocketAddr × List ℕ)) (r : Option Reported). KeepsFirst
-          (IsToldBy n s) l r new.reported) is reported kept.reported);
+          (IsReportedBy n s) l r new.reported) is reported kept.reported);
     }
 
 -- of one that is neither a probe nor a report
@@ -156,8 +160,8 @@ keeps_strange n s d old is apart = record {
   last = refl;
   asked = subst (λ (l : Option (SocketAddr × List ℕ)). KeepsFirst (BringsProbe s) l old.asked old.asked) (sym is)
       (first_still (BringsProbe s) old.asked d (asks_nothing s d apart));
-  reported = subst (λ (l : Option (SocketAddr × List ℕ)). KeepsFirst (IsToldBy n s) l old.reported old.reported)
-      (sym is) (first_still (IsToldBy n s) old.reported d (tells_nothing n s d apart));
+  reported = subst (λ (l : Option (SocketAddr × List ℕ)). KeepsFirst (IsReportedBy n s) l old.reported old.reported)
+      (sym is) (first_still (IsReportedBy n s) old.reported d (tells_nothing n s d apart));
 }
 
 -- of what came last, where a replica is given nothing of it

@@ -62,12 +62,12 @@ asked : (s : Seals) (frame bytes : List ℕ) → IsNoNodeMessage bytes
 asked s frame bytes free (inl none) m spells =
     let empty : [] ≡ spelling m = sym none ∙ spells.1 in
     absurd cc
-asked s frame bytes free (inr own_letters) m spells =
+asked s frame bytes free (inr loopback) m spells =
     let request = free m spells in
     let fits = subst IsContent request.1 spells.0.1 in
     let names : client_in bytes ≡ request.0.client = ap client_in spells.1
     ∙ request_names m request.0 request.1 fits.0 in
-    (request.0, request.1, subst (λ (n : ℕ). IsSealedByClient s n frame bytes) names own_letters)
+    (request.0, request.1, subst (λ (n : ℕ). IsSealedByClient s n frame bytes) names loopback)
 
 pub told_or_asked : (s : Seals) (frame : List ℕ) → key_list s.nodes ≢ []
     → key_list s.clients ≢ [] → IsToldOrAsked s frame
@@ -75,7 +75,7 @@ told_or_asked s frame some masters = elim (told_by_a_node s frame some) [
   | inl told ↦ inl told
   | inr none_says ↦ elim (is_of_who_it_names s frame some masters) [
     | inl told ↦ inl told
-    | inr own_letters ↦ inr (asked s frame (heard s frame) none_says own_letters)
+    | inr loopback ↦ inr (asked s frame (heard s frame) none_says loopback)
   ]
 ]
 

@@ -8,8 +8,8 @@ use Rattle.std.specs.declared.net.socket_addr.SocketAddr.{SocketAddr}
 use Rattle.lk_node_interface.specs.Letters.{LetterValue}
 use Rattle.lk_replica.specs.Groups.{GroupValue}
 use Rattle.lk_transport.specs.Addresses.{AddressBook, Filter, filter_of, IsSameFilter}
-use Rattle.lk_served_replica.specs.Groups.{Sayings, Gatherings, GathersMore, SaysNoMore}
-use Rattle.lk_server.specs.Gatherings.{AddsAll, EndsWithin, AddsOwnLetters, EndsOwnLetters, AddsHeard, EndsHeard}
+use Rattle.lk_server_replica.specs.Groups.{Sayings, Gatherings, GathersMore, SaysNoMore}
+use Rattle.lk_server.specs.Gatherings.{AddsAll, EndsWithin, AddsLoopback, EndsLoopback, AddsHeard, EndsHeard}
 use Rattle.lk_server.specs.Gatherings.{AddsFromSocket}
 use Rattle.lk_server.specs.Gatherings.{EndsSocket, AreFound, Finds}
 use Rattle.lk_pacing.specs.declared.turn_input.TurnInput.{TurnInput}
@@ -133,26 +133,26 @@ drop_all (suc n) [] le = refl
 drop_all (suc n) (x ∷ xs) le = drop_all n xs (omega (arith, le))
 
 -- so many letters were taken
-pub own_full : (own_letters taken left : List LetterValue) (n : ℕ) → own_letters ≡ taken ++ left → length taken ≡ n
-    → (take n own_letters ≡ taken) × (drop n own_letters ≡ left)
-own_full own_letters taken left n parts long = (
+pub own_full : (loopback taken left : List LetterValue) (n : ℕ) → loopback ≡ taken ++ left → length taken ≡ n
+    → (take n loopback ≡ taken) × (drop n loopback ≡ left)
+own_full loopback taken left n parts long = (
   subst₂ (λ (k : ℕ) (o : List LetterValue). take k o ≡ taken) long (sym parts) (take_front taken left),
   subst₂ (λ (k : ℕ) (o : List LetterValue). drop k o ≡ left) long (sym parts) (drop_front taken left),
 )
 
 -- all of them were
-pub own_all : (own_letters taken left : List LetterValue) (n : ℕ) → own_letters ≡ taken ++ left → left ≡ []
+pub own_all : (loopback taken left : List LetterValue) (n : ℕ) → loopback ≡ taken ++ left → left ≡ []
     → length taken ≤ n
-    → (take n own_letters ≡ taken) × (drop n own_letters ≡ left)
-own_all own_letters taken left n parts none short =
-    let is : own_letters ≡ taken = parts ∙ ap (λ (l : List LetterValue). taken ++ l) none ∙ append-nil taken in (
+    → (take n loopback ≡ taken) × (drop n loopback ≡ left)
+own_all loopback taken left n parts none short =
+    let is : loopback ≡ taken = parts ∙ ap (λ (l : List LetterValue). taken ++ l) none ∙ append-nil taken in (
       subst (λ (o : List LetterValue). take n o ≡ taken) (sym is) (take_all n taken short),
       subst (λ (o : List LetterValue). drop n o ≡ left) (sym is) (drop_all n taken short ∙ sym none),
     )
 
-pub some_own : (own_letters taken left : List LetterValue) (l : LetterValue) → own_letters
-    ≡ (taken ++ l ∷ []) ++ left → own_letters ≢ []
-some_own own_letters taken left l parts none =
+pub some_own : (loopback taken left : List LetterValue) (l : LetterValue) → loopback
+    ≡ (taken ++ l ∷ []) ++ left → loopback ≢ []
+some_own loopback taken left l parts none =
     omega (arith, ap length (sym none ∙ parts), length-append (taken ++ l ∷ []) left, length-append taken (l ∷ []))
 
 -- what was heard, one datagram after another
@@ -165,11 +165,11 @@ pub same_network : (old mid new : AddressBook) → IsSameFilter old mid → IsSa
 same_network old mid new a b = (b.0 ∙ a.0, b.1 ∙ a.1)
 
 -- no frame came
-pub none_came : {R : Type 0} (tells : Type 0) (e : Option (SocketAddr × List ℕ)) (old mid new : ServerValue R)
-    → e ≡ None → (tells → old.incoming ≡ listed e ++ mid.incoming)
+pub none_came : {R : Type 0} (observable : Type 0) (e : Option (SocketAddr × List ℕ)) (old mid new : ServerValue R)
+    → e ≡ None → (observable → old.incoming ≡ listed e ++ mid.incoming)
     → mid ≡ record old { incoming = mid.incoming } → new ≡ mid
-    → (tells → new.incoming ≡ old.incoming) × (record new { incoming = old.incoming } ≡ old)
-none_came {R} tells e old mid new is comes others same = (
+    → (observable → new.incoming ≡ old.incoming) × (record new { incoming = old.incoming } ≡ old)
+none_came {R} observable e old mid new is comes others same = (
   λ t. ap (λ (s : ServerValue R). s.incoming) same
       ∙ sym (comes t ∙ ap (λ (o : Option (SocketAddr × List ℕ)). listed o ++ mid.incoming) is),
   ap (λ (s : ServerValue R). record s { incoming = old.incoming }) (same ∙ others),
@@ -213,15 +213,15 @@ found_few s Filtered frames one = omega (arith, ap length one.1)
 found_few s Something frames never = absurd never
 
 -- what was found at the socket, where a replica is given nothing of it
-pub finds : {R : Type 0} (tells : Type 0) (found : TurnInput) (e : Option (SocketAddr × List ℕ))
+pub finds : {R : Type 0} (observable : Type 0) (found : TurnInput) (e : Option (SocketAddr × List ℕ))
     (group now : GroupValue) (old mid new : ServerValue R)
-    → (tells → old.incoming ≡ listed e ++ mid.incoming) → (tells → e ≡ None → old.incoming ≡ [])
+    → (observable → old.incoming ≡ listed e ++ mid.incoming) → (observable → e ≡ None → old.incoming ≡ [])
     → mid ≡ record old { incoming = mid.incoming }
     → (found ≡ Nothing → (e ≡ None) × (new ≡ mid) × (now ≡ group))
     → (found ≡ Filtered → (frame : SocketAddr × List ℕ) × (e ≡ Some frame)
     × (is_filtered_out (filter_of mid.addresses) frame ≡ true) × (new ≡ mid) × (now ≡ group))
-    → (found ≡ Something → ⊥) → Finds tells found (listed e) old new × (now ≡ group)
-finds {R} tells Nothing e group now old mid new comes none others nothing beside apart =
+    → (found ≡ Something → ⊥) → Finds observable found (listed e) old new × (now ≡ group)
+finds {R} observable Nothing e group now old mid new comes none others nothing beside apart =
     let n = nothing refl in (
       record {
         are = ap listed n.0;
@@ -231,7 +231,7 @@ finds {R} tells Nothing e group now old mid new comes none others nothing beside
       },
       n.2,
     )
-finds {R} tells Filtered e group now old mid new comes none others nothing beside apart =
+finds {R} observable Filtered e group now old mid new comes none others nothing beside apart =
     let b = beside refl in
     let is : is_filtered_out (filter_of old.addresses) b.0 ≡ true =
     subst (λ (s : Filter). is_filtered_out s b.0 ≡ true)
@@ -244,7 +244,7 @@ finds {R} tells Filtered e group now old mid new comes none others nothing besid
       },
       b.4,
     )
-finds tells Something e group now old mid new comes none others nothing beside apart = absurd (apart refl)
+finds observable Something e group now old mid new comes none others nothing beside apart = absurd (apart refl)
 
 -- ---- what goes on
 
@@ -333,27 +333,27 @@ module _ {R : Type 0} (G : Gatherings R) where
     pace = t.pace ∙ pace;
   }
 
-  pub socket_more : (tells : Type 0) (xs ys : List (SocketAddr × List ℕ)) (group one now : GroupValue)
+  pub socket_more : (observable : Type 0) (xs ys : List (SocketAddr × List ℕ)) (group one now : GroupValue)
       (old mid new : ServerValue R) → mid.cluster ≡ old.cluster
-      → AddsFromSocket G tells xs group one old mid → AddsFromSocket G tells ys one now mid new
-      → AddsFromSocket G tells (xs ++ ys) group now old new
-  socket_more tells xs ys group one now old mid new cluster a b =
-      let filter = a.takes.network.1 in
+      → AddsFromSocket G observable xs group one old mid → AddsFromSocket G observable ys one now mid new
+      → AddsFromSocket G observable (xs ++ ys) group now old new
+  socket_more observable xs ys group one now old mid new cluster a b =
+      let filter = a.adds.network.1 in
       record {
-        takes = record {
-          takes = subst (λ (ds : List (List ℕ)). AddsAll G ds group now old new)
+        adds = record {
+          adds = subst (λ (ds : List (List ℕ)). AddsAll G ds group now old new)
               (heard_more (filter_of old.addresses) xs ys)
               (takes_more (datagrams_in [] (all_filtered (filter_of old.addresses) xs))
-              (datagrams_in [] (all_filtered (filter_of old.addresses) ys)) group one now old mid new a.takes.takes
+              (datagrams_in [] (all_filtered (filter_of old.addresses) ys)) group one now old mid new a.adds.adds
               (subst (λ (s : Filter). AddsAll G (datagrams_in [] (all_filtered s ys)) one now mid new) filter
-              b.takes.takes));
+              b.adds.adds));
           heard = subst (λ (cs : List (SocketAddr × List ℕ)). RecordsSenders old.cluster cs old.addresses new.addresses)
               (sym (taken_more (filter_of old.addresses) xs ys))
               (hears_more old.cluster (all_filtered (filter_of old.addresses) xs)
-              (all_filtered (filter_of old.addresses) ys) old.addresses mid.addresses new.addresses a.takes.heard
+              (all_filtered (filter_of old.addresses) ys) old.addresses mid.addresses new.addresses a.adds.heard
               (subst₂ (λ (n : ℕ) (s : Filter). RecordsSenders n (all_filtered s ys) mid.addresses new.addresses)
-              cluster filter b.takes.heard));
-          network = same_network old.addresses mid.addresses new.addresses a.takes.network b.takes.network;
+              cluster filter b.adds.heard));
+          network = same_network old.addresses mid.addresses new.addresses a.adds.network b.adds.network;
         };
         comes = λ t. a.comes t ∙ ap (λ (l : List (SocketAddr × List ℕ)). xs ++ l) (b.comes t)
             ∙ sym (append_assoc xs ys new.incoming);
@@ -366,22 +366,22 @@ module _ {R : Type 0} (G : Gatherings R) where
       → new.addresses ≡ mid.addresses → mid.replica ≡ old.replica → mid.received ≡ old.received
       → mid.pace ≡ old.pace → mid.ticks ≡ old.ticks
       → AddsAll G (x.1 ∷ []) group now mid new → AddsHeard G (frame ∷ []) group now old new
-  heard_one frame x group now old mid new is apart hears network book replica received pace time takes = record {
-    takes = subst (λ (cs : List (SocketAddr × List ℕ)). AddsAll G (datagrams_in [] cs) group now old new)
+  heard_one frame x group now old mid new is apart hears network book replica received pace time adds = record {
+    adds = subst (λ (cs : List (SocketAddr × List ℕ)). AddsAll G (datagrams_in [] cs) group now old new)
         (sym (taken_one (filter_of old.addresses) frame x is apart))
-        (takes_from (x.1 ∷ []) group now old mid new replica received pace time takes);
+        (takes_from (x.1 ∷ []) group now old mid new replica received pace time adds);
     heard = subst (λ (cs : List (SocketAddr × List ℕ)). RecordsSenders old.cluster cs old.addresses new.addresses)
         (sym (taken_one (filter_of old.addresses) frame x is apart)) (mid.addresses, hears, book);
     network = subst (λ (b : AddressBook). IsSameFilter old.addresses b) (sym book) network;
   }
 
   -- nothing is taken of a frame that stands beside the protocol
-  pub socket_beside : (tells : Type 0) (e : Option (SocketAddr × List ℕ)) (frame : SocketAddr × List ℕ)
+  pub socket_beside : (observable : Type 0) (e : Option (SocketAddr × List ℕ)) (frame : SocketAddr × List ℕ)
       (group now : GroupValue) (old mid new : ServerValue R) → e ≡ Some frame
-      → (tells → old.incoming ≡ listed e ++ mid.incoming) → mid ≡ record old { incoming = mid.incoming }
+      → (observable → old.incoming ≡ listed e ++ mid.incoming) → mid ≡ record old { incoming = mid.incoming }
       → is_filtered_out (filter_of mid.addresses) frame ≡ true
-      → new ≡ mid → now ≡ group → AddsFromSocket G tells (frame ∷ []) group now old new
-  socket_beside tells e frame group now old mid new is comes others beside same still =
+      → new ≡ mid → now ≡ group → AddsFromSocket G observable (frame ∷ []) group now old new
+  socket_beside observable e frame group now old mid new is comes others beside same still =
       let as_was : new ≡ record old { incoming = mid.incoming } = same ∙ others in
       let aside : is_filtered_out (filter_of old.addresses) frame ≡ true =
       subst (λ (s : Filter). is_filtered_out s frame ≡ true)
@@ -389,8 +389,8 @@ module _ {R : Type 0} (G : Gatherings R) where
       let gone = taken_none (filter_of old.addresses) frame aside in
       let book : new.addresses ≡ old.addresses = ap (λ (s : ServerValue R). s.addresses) as_was in
       record {
-        takes = record {
-          takes =
+        adds = record {
+          adds =
               subst (λ (cs : List (SocketAddr × List ℕ)). AddsAll G (datagrams_in [] cs) group now old new) (sym gone)
               (takes_from [] group now old mid new (ap (λ (s : ServerValue R). s.replica) others)
               (ap (λ (s : ServerValue R). s.received) others) (ap (λ (s : ServerValue R). s.pace) others)
@@ -405,21 +405,21 @@ module _ {R : Type 0} (G : Gatherings R) where
       }
 
   -- it came from the socket
-  pub socket_one : (tells : Type 0) (e : Option (SocketAddr × List ℕ)) (frame : SocketAddr × List ℕ)
+  pub socket_one : (observable : Type 0) (e : Option (SocketAddr × List ℕ)) (frame : SocketAddr × List ℕ)
       (group now : GroupValue) (old mid new : ServerValue R) → e ≡ Some frame
-      → (tells → old.incoming ≡ listed e ++ mid.incoming) → mid ≡ record old { incoming = mid.incoming }
+      → (observable → old.incoming ≡ listed e ++ mid.incoming) → mid ≡ record old { incoming = mid.incoming }
       → new.incoming ≡ mid.incoming
-      → AddsHeard G (frame ∷ []) group now mid new → AddsFromSocket G tells (frame ∷ []) group now old new
-  socket_one tells e frame group now old mid new is comes others incoming heard =
+      → AddsHeard G (frame ∷ []) group now mid new → AddsFromSocket G observable (frame ∷ []) group now old new
+  socket_one observable e frame group now old mid new is comes others incoming heard =
       let h = subst (λ (s : ServerValue R). AddsHeard G (frame ∷ []) group now s new) others heard in
       record {
-        takes = record {
-          takes =
+        adds = record {
+          adds =
               record {
-                gathers = h.takes.gathers;
-                counted = h.takes.counted;
-                ticks = h.takes.ticks;
-                pace = h.takes.pace;
+                gathers = h.adds.gathers;
+                counted = h.adds.counted;
+                ticks = h.adds.ticks;
+                pace = h.adds.pace;
               };
           heard = h.heard;
           network = h.network;
@@ -430,11 +430,12 @@ module _ {R : Type 0} (G : Gatherings R) where
       }
 
   -- no frame
-  pub socket_nothing : (tells : Type 0) (group now : GroupValue) (old new : ServerValue R) → now ≡ group → new ≡ old
-      → AddsFromSocket G tells [] group now old new
-  socket_nothing tells group now old new is same = record {
-    takes = record {
-      takes = takes_nothing group now old new is same;
+  pub socket_nothing : (observable : Type 0) (group now : GroupValue) (old new : ServerValue R) → now ≡ group → new
+      ≡ old
+      → AddsFromSocket G observable [] group now old new
+  socket_nothing observable group now old new is same = record {
+    adds = record {
+      adds = takes_nothing group now old new is same;
       heard = ap (λ (s : ServerValue R). s.addresses) same;
       network =
           (ap (λ (s : ServerValue R). s.addresses.hosts) same, ap (λ (s : ServerValue R). filter_of s.addresses) same);
@@ -443,52 +444,52 @@ module _ {R : Type 0} (G : Gatherings R) where
   }
 
   -- and no further one
-  pub socket_still : (tells : Type 0) (xs : List (SocketAddr × List ℕ)) (group one now : GroupValue)
-      (old mid new : ServerValue R) → AddsFromSocket G tells xs group one old mid → now ≡ one
-      → record new { incoming = mid.incoming } ≡ mid → (tells → new.incoming ≡ mid.incoming)
-      → AddsFromSocket G tells xs group now old new
-  socket_still tells xs group one now old mid new a is same none =
+  pub socket_still : (observable : Type 0) (xs : List (SocketAddr × List ℕ)) (group one now : GroupValue)
+      (old mid new : ServerValue R) → AddsFromSocket G observable xs group one old mid → now ≡ one
+      → record new { incoming = mid.incoming } ≡ mid → (observable → new.incoming ≡ mid.incoming)
+      → AddsFromSocket G observable xs group now old new
+  socket_still observable xs group one now old mid new a is same none =
       let book : new.addresses ≡ mid.addresses = ap (λ (s : ServerValue R). s.addresses) same in
       record {
-        takes = record {
-          takes = record {
+        adds = record {
+          adds = record {
             gathers = subst₂ (λ (x : GroupValue) (r : R). GathersMore G
                 (all_inputs old.pace old.received (datagrams_in [] (all_filtered (filter_of old.addresses) xs))) group
-                x old.replica r) (sym is) (sym (ap (λ (s : ServerValue R). s.replica) same)) a.takes.takes.gathers;
-            counted = ap (λ (s : ServerValue R). s.received) same ∙ a.takes.takes.counted;
-            ticks = ap (λ (s : ServerValue R). s.ticks) same ∙ a.takes.takes.ticks;
-            pace = ap (λ (s : ServerValue R). s.pace) same ∙ a.takes.takes.pace;
+                x old.replica r) (sym is) (sym (ap (λ (s : ServerValue R). s.replica) same)) a.adds.adds.gathers;
+            counted = ap (λ (s : ServerValue R). s.received) same ∙ a.adds.adds.counted;
+            ticks = ap (λ (s : ServerValue R). s.ticks) same ∙ a.adds.adds.ticks;
+            pace = ap (λ (s : ServerValue R). s.pace) same ∙ a.adds.adds.pace;
           };
           heard = subst (λ (b : AddressBook). RecordsSenders old.cluster
-              (all_filtered (filter_of old.addresses) xs) old.addresses b) (sym book) a.takes.heard;
-          network = subst (λ (b : AddressBook). IsSameFilter old.addresses b) (sym book) a.takes.network;
+              (all_filtered (filter_of old.addresses) xs) old.addresses b) (sym book) a.adds.heard;
+          network = subst (λ (b : AddressBook). IsSameFilter old.addresses b) (sym book) a.adds.network;
         };
         comes = λ t. a.comes t ∙ ap (λ (l : List (SocketAddr × List ℕ)). xs ++ l) (sym (none t));
       }
 
   -- all letters that waited were taken
   pub own_stops : (taken : List LetterValue) (group one now : GroupValue) (old mid new : ServerValue R)
-      → old.own_letters ≡ taken ++ mid.own_letters → length taken ≤ 63
+      → old.loopback ≡ taken ++ mid.loopback → length taken ≤ 63
       → AddsAll G (datagrams_in taken []) group one old mid
-      → mid.own_letters ≡ [] → new ≡ mid → now ≡ one → AddsOwnLetters G 63 group now old new
+      → mid.loopback ≡ [] → new ≡ mid → now ≡ one → AddsLoopback G 63 group now old new
   own_stops taken group one now old mid new parts few t none same is =
-      let all = own_all old.own_letters taken mid.own_letters 63 parts none few in
+      let all = own_all old.loopback taken mid.loopback 63 parts none few in
       record {
-        takes = subst (λ (ls : List LetterValue). AddsAll G (datagrams_in ls []) group now old new) (sym all.0)
+        adds = subst (λ (ls : List LetterValue). AddsAll G (datagrams_in ls []) group now old new) (sym all.0)
             (subst₂ (λ (x : GroupValue) (s : ServerValue R). AddsAll G (datagrams_in taken []) group x old s) (sym is)
             (sym same) t);
-        left = ap (λ (s : ServerValue R). s.own_letters) same ∙ sym all.1;
+        left = ap (λ (s : ServerValue R). s.loopback) same ∙ sym all.1;
       }
 
   -- so many were
   pub own_fills : (taken : List LetterValue) (group now : GroupValue) (old new : ServerValue R)
-      → old.own_letters ≡ taken ++ new.own_letters → length taken ≡ 63
+      → old.loopback ≡ taken ++ new.loopback → length taken ≡ 63
       → AddsAll G (datagrams_in taken []) group now old new
-      → AddsOwnLetters G 63 group now old new
+      → AddsLoopback G 63 group now old new
   own_fills taken group now old new parts many t =
-      let all = own_full old.own_letters taken new.own_letters 63 parts many in
+      let all = own_full old.loopback taken new.loopback 63 parts many in
       record {
-        takes = subst (λ (ls : List LetterValue). AddsAll G (datagrams_in ls []) group now old new)
+        adds = subst (λ (ls : List LetterValue). AddsAll G (datagrams_in ls []) group now old new)
             (sym all.0) t;
         left = sym all.1;
       }
@@ -584,12 +585,12 @@ module _ {R : Type 0} (S : Sayings R) (G : Gatherings R) where
     network = subst (λ (b : AddressBook). IsSameFilter old.addresses b) (sym book) network;
   }
 
-  pub ends_socket : (tells : Type 0) (e : Option (SocketAddr × List ℕ)) (frame : SocketAddr × List ℕ)
+  pub ends_socket : (observable : Type 0) (e : Option (SocketAddr × List ℕ)) (frame : SocketAddr × List ℕ)
       (group : GroupValue) (old mid new : ServerValue R) → e ≡ Some frame
-      → (tells → old.incoming ≡ listed e ++ mid.incoming) → mid ≡ record old { incoming = mid.incoming }
+      → (observable → old.incoming ≡ listed e ++ mid.incoming) → mid ≡ record old { incoming = mid.incoming }
       → new.incoming ≡ mid.incoming
-      → EndsHeard S G (frame ∷ []) group mid new → EndsSocket S G tells (frame ∷ []) group old new
-  ends_socket tells e frame group old mid new is comes others incoming ends =
+      → EndsHeard S G (frame ∷ []) group mid new → EndsSocket S G observable (frame ∷ []) group old new
+  ends_socket observable e frame group old mid new is comes others incoming ends =
       let h = subst (λ (s : ServerValue R). EndsHeard S G (frame ∷ []) group s new) others ends in
       record {
         ends = record {
@@ -607,27 +608,27 @@ module _ {R : Type 0} (S : Sayings R) (G : Gatherings R) where
             ∙ ap (λ (l : List (SocketAddr × List ℕ)). frame ∷ l) (sym incoming);
       }
 
-  pub ends_further : (tells : Type 0) (xs ys : List (SocketAddr × List ℕ)) (group one : GroupValue)
+  pub ends_further : (observable : Type 0) (xs ys : List (SocketAddr × List ℕ)) (group one : GroupValue)
       (old mid new : ServerValue R) → mid.cluster ≡ old.cluster
-      → AddsFromSocket G tells xs group one old mid → EndsSocket S G tells ys one mid new
-      → EndsSocket S G tells (xs ++ ys) group old new
-  ends_further tells xs ys group one old mid new cluster a b =
-      let filter = a.takes.network.1 in
+      → AddsFromSocket G observable xs group one old mid → EndsSocket S G observable ys one mid new
+      → EndsSocket S G observable (xs ++ ys) group old new
+  ends_further observable xs ys group one old mid new cluster a b =
+      let filter = a.adds.network.1 in
       record {
         ends = record {
           ends = subst (λ (ds : List (List ℕ)). EndsWithin S G ds group old new)
               (heard_more (filter_of old.addresses) xs ys)
               (ends_more (datagrams_in [] (all_filtered (filter_of old.addresses) xs))
-              (datagrams_in [] (all_filtered (filter_of old.addresses) ys)) group one old mid new a.takes.takes
+              (datagrams_in [] (all_filtered (filter_of old.addresses) ys)) group one old mid new a.adds.adds
               (subst (λ (s : Filter). EndsWithin S G (datagrams_in [] (all_filtered s ys)) one mid new) filter
               b.ends.ends));
           heard = subst (λ (cs : List (SocketAddr × List ℕ)). RecordsSenders old.cluster cs old.addresses new.addresses)
               (sym (taken_more (filter_of old.addresses) xs ys))
               (hears_more old.cluster (all_filtered (filter_of old.addresses) xs)
-              (all_filtered (filter_of old.addresses) ys) old.addresses mid.addresses new.addresses a.takes.heard
+              (all_filtered (filter_of old.addresses) ys) old.addresses mid.addresses new.addresses a.adds.heard
               (subst₂ (λ (n : ℕ) (s : Filter). RecordsSenders n (all_filtered s ys) mid.addresses new.addresses)
               cluster filter b.ends.heard));
-          network = same_network old.addresses mid.addresses new.addresses a.takes.network b.ends.network;
+          network = same_network old.addresses mid.addresses new.addresses a.adds.network b.ends.network;
         };
         comes = λ t. a.comes t ∙ ap (λ (l : List (SocketAddr × List ℕ)). xs ++ l) (b.comes t)
             ∙ sym (append_assoc xs ys new.incoming);
@@ -635,19 +636,19 @@ module _ {R : Type 0} (S : Sayings R) (G : Gatherings R) where
 
   -- a letter has ended it
   pub own_breaks : (taken : List LetterValue) (l : LetterValue) (group one : GroupValue) (old mid new : ServerValue R)
-      → old.own_letters ≡ taken ++ mid.own_letters → length taken + 1 ≤ 63 → mid.own_letters ≡ l ∷ new.own_letters
+      → old.loopback ≡ taken ++ mid.loopback → length taken + 1 ≤ 63 → mid.loopback ≡ l ∷ new.loopback
       → AddsAll G (datagrams_in taken []) group one old mid → EndsWithin S G (l.bytes ∷ []) one mid new
-      → EndsOwnLetters S G 63 group old new
+      → EndsLoopback S G 63 group old new
   own_breaks taken l group one old mid new parts few first a e =
-      let all_parts : old.own_letters ≡ (taken ++ l ∷ []) ++ new.own_letters = parts
+      let all_parts : old.loopback ≡ (taken ++ l ∷ []) ++ new.loopback = parts
       ∙ ap (λ (o : List LetterValue). taken ++ o) first
-      ∙ sym (append_assoc taken (l ∷ []) new.own_letters) in
-      let all = own_full old.own_letters (taken ++ l ∷ []) new.own_letters (length (taken ++ l ∷ [])) all_parts refl in
+      ∙ sym (append_assoc taken (l ∷ []) new.loopback) in
+      let all = own_full old.loopback (taken ++ l ∷ []) new.loopback (length (taken ++ l ∷ [])) all_parts refl in
       record {
         count = length (taken ++ l ∷ []);
         at_most = omega (arith, few, length-append taken (l ∷ []));
         some = λ is. absurd (omega (arith, is, length-append taken (l ∷ [])));
-        waited = some_own old.own_letters taken new.own_letters l all_parts;
+        waited = some_own old.loopback taken new.loopback l all_parts;
         ends = subst (λ (ls : List LetterValue). EndsWithin S G (datagrams_in ls []) group old new) (sym all.0)
             (subst (λ (ds : List (List ℕ)). EndsWithin S G ds group old new) (own_more taken l)
             (ends_more (datagrams_in taken []) (l.bytes ∷ []) group one old mid new a e));

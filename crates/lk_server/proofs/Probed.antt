@@ -44,8 +44,8 @@ pub by_whom_it_names : (s : Seals) (d : SocketAddr × List ℕ) (a : ReceivedPro
 by_whom_it_names s d a some masters kept = elim (is_of_who_it_names s d.1 some masters) [
   | inl told ↦ inl told
   | inr (inl none) ↦ absurd (is_some a.probe (heard s d.1) kept.1.spelled none)
-  | inr (inr own_letters) ↦ inr (subst (λ (n : ℕ). IsSealedByClient s n d.1 (heard s d.1))
-      (names_its_client a.probe (heard s d.1) kept.1.spelled) own_letters)
+  | inr (inr loopback) ↦ inr (subst (λ (n : ℕ). IsSealedByClient s n d.1 (heard s d.1))
+      (names_its_client a.probe (heard s d.1) kept.1.spelled) loopback)
 ]
 
 -- ---- the nodes alone have a key
@@ -59,8 +59,8 @@ only_is frame = elim (either_way (slice_index frame 3 == 9)) [
 opened_or_as_it_is : (keys : List (List ℕ)) (scope : Scope) (frame other : List ℕ) (o : Option (List ℕ))
     → opened_by keys scope frame ≡ o → (other ≡ []) ⊎ (other ≡ frame)
     → IsSealedBy keys scope frame (said_or o other) ⊎ (said_or o other ≡ []) ⊎ (said_or o other ≡ frame)
-opened_or_as_it_is keys scope frame other None e own_letters = inr own_letters
-opened_or_as_it_is keys scope frame other (Some d) e own_letters = inl (opened_by_is keys scope frame d e)
+opened_or_as_it_is keys scope frame other None e loopback = inr loopback
+opened_or_as_it_is keys scope frame other (Some d) e loopback = inl (opened_by_is keys scope frame d e)
 
 heard_as_it_is : (keys : List (List ℕ)) (s : Seals) (frame : List ℕ) → keys ≢ [] → key_list s.clients ≡ []
     → IsSealedBy keys (to_node s s.node) frame (heard_with keys s frame) ⊎ (heard_with keys s frame ≡ [])

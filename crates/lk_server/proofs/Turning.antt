@@ -7,8 +7,8 @@ use Rattle.std.specs.declared.net.socket_addr.SocketAddr.{SocketAddr}
 use Rattle.lk_node_interface.specs.Letters.{LetterValue}
 use Rattle.lk_replica.specs.Groups.{GroupValue}
 use Rattle.lk_transport.specs.Addresses.{AddressBook, Filter, filter_of, IsSameFilter}
-use Rattle.lk_served_replica.specs.Groups.{Sayings, Gatherings, GathersMore, SaysNoMore}
-use Rattle.lk_server.specs.Gatherings.{AreFound, Finds, AddsAll, EndsWithin, AddsOwnLetters, EndsOwnLetters}
+use Rattle.lk_server_replica.specs.Groups.{Sayings, Gatherings, GathersMore, SaysNoMore}
+use Rattle.lk_server.specs.Gatherings.{AreFound, Finds, AddsAll, EndsWithin, AddsLoopback, EndsLoopback}
 use Rattle.lk_server.specs.Gatherings.{AddsFromSocket}
 use Rattle.lk_server.specs.Gatherings.{EndsSocket, AddsWaiting, AddsGroup, EndsGroup, DeliversAllLetters, SaysNothing}
 use Rattle.lk_pacing.specs.Paces.{MayFollow}
@@ -57,20 +57,20 @@ given_none : (pace : Pace) (received : ℕ) (ds : List (List ℕ)) → ds ≡ []
 given_none pace received ds none = subst (λ (l : List (List ℕ)). Given pace received l (None ∷ [])) (sym none) refl
 
 -- what comes after a first one is something
-pub some_datagrams : (s : Filter) (own_letters : List LetterValue) (d : SocketAddr × List ℕ)
-    (more : List (SocketAddr × List ℕ)) → own_letters ≡ [] → is_filtered_out s d ≡ false
-    → datagrams_in own_letters (all_filtered s (d ∷ more)) ≢ []
-some_datagrams s own_letters d more none apart is =
+pub some_datagrams : (s : Filter) (loopback : List LetterValue) (d : SocketAddr × List ℕ)
+    (more : List (SocketAddr × List ℕ)) → loopback ≡ [] → is_filtered_out s d ≡ false
+    → datagrams_in loopback (all_filtered s (d ∷ more)) ≢ []
+some_datagrams s loopback d more none apart is =
     let both : heard s.seals d.1 ∷ map (λ (x : SocketAddr × List ℕ). x.1) (all_filtered s more) ≡ [] =
     sym (ap (λ (o : List LetterValue). datagrams_in o (all_filtered s (d ∷ more))) none
     ∙ ap (λ (cs : List (SocketAddr × List ℕ)). datagrams_in [] cs) (taken_first s d more apart)) ∙ is in
     cc both
 
 -- of no letters none are taken
-take_none : (n : ℕ) (own_letters : List LetterValue) → own_letters ≡ [] → take n own_letters ≡ []
+take_none : (n : ℕ) (loopback : List LetterValue) → loopback ≡ [] → take n loopback ≡ []
 take_none zero [] none = refl
 take_none (suc n) [] none = refl
-take_none n (l ∷ own_letters) none = absurd (cc none)
+take_none n (l ∷ loopback) none = absurd (cc none)
 
 -- it is the same server of which nothing else has changed
 pub same_by : {R : Type 0} (old new : ServerValue R)
@@ -79,7 +79,7 @@ pub same_by : {R : Type 0} (old new : ServerValue R)
       failed = new.failed;
       received = new.received;
       ticks = new.ticks;
-      own_letters = new.own_letters;
+      loopback = new.loopback;
       addresses = new.addresses;
       incoming = new.incoming;
     } → IsSameServer old new
@@ -90,9 +90,10 @@ same_by old new others = record {
 }
 
 -- what is taken of the frames that came is what may be taken
-received_first : {R : Type 0} (tells : Type 0) (frames : List (SocketAddr × List ℕ)) (old new : ServerValue R)
-    → HasReceived tells frames old new → LettersFirst tells (all_filtered (filter_of old.addresses) frames) old
-received_first tells frames old new r = record {
+received_first : {R : Type 0} (observable : Type 0) (frames : List (SocketAddr × List ℕ)) (old new : ServerValue R)
+    → HasReceived observable frames old new → LettersFirst observable (all_filtered
+    (filter_of old.addresses) frames) old
+received_first observable frames old new r = record {
   alone = elim r.alone [
     | inl none ↦ inl none
     | inr none ↦
@@ -107,46 +108,48 @@ received_first tells frames old new r = record {
 }
 
 -- and what is to come is the same behind it
-pub received_on : {R : Type 0} (tells : Type 0) (frames : List (SocketAddr × List ℕ)) (old mid new : ServerValue R)
-    → (tells → new.incoming ≡ mid.incoming) → HasReceived tells frames old mid → HasReceived tells frames old new
-received_on tells frames old mid new still r = record {
+pub received_on : {R : Type 0} (observable : Type 0) (frames : List (SocketAddr × List ℕ)) (old mid new : ServerValue R)
+    → (observable → new.incoming ≡ mid.incoming) → HasReceived observable frames old mid
+    → HasReceived observable frames old new
+received_on observable frames old mid new still r = record {
   alone = r.alone;
   few = r.few;
   comes = λ telling. r.comes telling ∙ ap (λ (l : List (SocketAddr × List ℕ)). frames ++ l) (sym (still telling));
   waited = r.waited;
 }
 
-module _ {R : Type 0} (S : Sayings R) (G : Gatherings R) (tells : Type 0) where
+module _ {R : Type 0} (S : Sayings R) (G : Gatherings R) (observable : Type 0) where
   -- ---- what is taken
 
   -- frames of the socket, where no letter of the node to itself waits
   pub socket_group : (frame : SocketAddr × List ℕ) (frames : List (SocketAddr × List ℕ)) (group now : GroupValue)
-      (old new : ServerValue R) → old.own_letters ≡ [] → new.own_letters ≡ old.own_letters → length frames ≤ 63
+      (old new : ServerValue R) → old.loopback ≡ [] → new.loopback ≡ old.loopback → length frames ≤ 63
       → is_filtered_out (filter_of old.addresses) frame ≡ false
-      → AddsFromSocket G tells (frame ∷ frames) group now old new → AddsWaiting G tells
+      → AddsFromSocket G observable (frame ∷ frames) group now old new → AddsWaiting G observable
       (frame ∷ frames) group now old new
-  socket_group frame frames group now old new none own_letters few apart t = record {
+  socket_group frame frames group now old new none loopback few apart t = record {
     received = record {
       alone = inl none;
       few = omega (arith, few);
       comes = t.comes;
       waited = λ telling empty is. absurd (cc is);
     };
-    takes = subst (λ (o : List LetterValue). AddsAll G
+    adds = subst (λ (o : List LetterValue). AddsAll G
         (datagrams_in (take 64 o) (all_filtered (filter_of old.addresses) (frame ∷ frames))) group now old new)
-        (sym none) t.takes.takes;
-    some = some_datagrams (filter_of old.addresses) (take 64 old.own_letters) frame frames
+        (sym none) t.adds.adds;
+    some = some_datagrams (filter_of old.addresses) (take 64 old.loopback) frame frames
         (ap (λ (o : List LetterValue). take 64 o) none) apart;
-    left = own_letters ∙ none ∙ sym (ap (λ (o : List LetterValue). drop 64 o) none);
-    heard = t.takes.heard;
-    network = t.takes.network;
+    left = loopback ∙ none ∙ sym (ap (λ (o : List LetterValue). drop 64 o) none);
+    heard = t.adds.heard;
+    network = t.adds.network;
   }
 
   pub socket_ends : (frame : SocketAddr × List ℕ) (frames : List (SocketAddr × List ℕ)) (group : GroupValue)
-      (old new : ServerValue R) → old.own_letters ≡ [] → new.own_letters ≡ old.own_letters → length frames ≤ 63
-      → is_filtered_out (filter_of old.addresses) frame ≡ false → EndsSocket S G tells (frame ∷ frames) group old new
-      → EndsGroup S G tells (frame ∷ frames) group old new
-  socket_ends frame frames group old new none own_letters few apart t =
+      (old new : ServerValue R) → old.loopback ≡ [] → new.loopback ≡ old.loopback → length frames ≤ 63
+      → is_filtered_out (filter_of old.addresses) frame ≡ false → EndsSocket S G observable
+      (frame ∷ frames) group old new
+      → EndsGroup S G observable (frame ∷ frames) group old new
+  socket_ends frame frames group old new none loopback few apart t =
       let e = subst (λ (o : List LetterValue). EndsWithin S G
       (datagrams_in (take 0 o) (all_filtered (filter_of old.addresses) (frame ∷ frames))) group old new)
       (sym none) t.ends.ends in
@@ -162,84 +165,84 @@ module _ {R : Type 0} (S : Sayings R) (G : Gatherings R) (tells : Type 0) where
         given = e.given;
         first = record {
           whole = all_inputs old.pace old.received
-              (datagrams_in (take 0 old.own_letters) (all_filtered (filter_of old.addresses) (frame ∷ frames)));
+              (datagrams_in (take 0 old.loopback) (all_filtered (filter_of old.addresses) (frame ∷ frames)));
           may = given_some old.pace old.received
-              (datagrams_in (take 0 old.own_letters) (all_filtered (filter_of old.addresses) (frame ∷ frames)))
-              (some_datagrams (filter_of old.addresses) (take 0 old.own_letters) frame frames
+              (datagrams_in (take 0 old.loopback) (all_filtered (filter_of old.addresses) (frame ∷ frames)))
+              (some_datagrams (filter_of old.addresses) (take 0 old.loopback) frame frames
               (ap (λ (o : List LetterValue). take 0 o) none) apart);
           front = e.front;
         };
         silent = e.silent;
         ticks = e.ticks;
-        left = own_letters ∙ none ∙ sym (ap (λ (o : List LetterValue). drop 0 o) none);
+        left = loopback ∙ none ∙ sym (ap (λ (o : List LetterValue). drop 0 o) none);
         heard = t.ends.heard;
         network = t.ends.network;
       }
 
   -- letters of the node to itself: a first one, and further ones
-  own_received : (l : LetterValue) (rest : List LetterValue) (old new : ServerValue R) → old.own_letters ≡ l ∷ rest
-      → new.incoming ≡ old.incoming → HasReceived tells [] old new
-  own_received l rest old new own_letters still = record {
+  own_received : (l : LetterValue) (rest : List LetterValue) (old new : ServerValue R) → old.loopback ≡ l ∷ rest
+      → new.incoming ≡ old.incoming → HasReceived observable [] old new
+  own_received l rest old new loopback still = record {
     alone = inr refl;
     few = omega arith;
     comes = λ telling. sym still;
-    waited = λ telling empty is. absurd (let both : l ∷ rest ≡ [] = sym own_letters ∙ empty in cc both);
+    waited = λ telling empty is. absurd (let both : l ∷ rest ≡ [] = sym loopback ∙ empty in cc both);
   }
 
-  pub own_group : (l : LetterValue) (group one now : GroupValue) (old mid new : ServerValue R) → old.own_letters
-      ≡ l ∷ mid.own_letters
+  pub own_group : (l : LetterValue) (group one now : GroupValue) (old mid new : ServerValue R) → old.loopback
+      ≡ l ∷ mid.loopback
       → new.addresses ≡ old.addresses → new.incoming ≡ old.incoming
-      → AddsAll G (l.bytes ∷ []) group one old mid → AddsOwnLetters G 63 one now mid new
-      → AddsWaiting G tells [] group now old new
-  own_group l group one now old mid new own_letters book still first further = record {
-    received = own_received l mid.own_letters old new own_letters still;
-    takes = subst (λ (o : List LetterValue). AddsAll G (datagrams_in (take 64 o) []) group now old new)
-        (sym own_letters)
+      → AddsAll G (l.bytes ∷ []) group one old mid → AddsLoopback G 63 one now mid new
+      → AddsWaiting G observable [] group now old new
+  own_group l group one now old mid new loopback book still first further = record {
+    received = own_received l mid.loopback old new loopback still;
+    adds = subst (λ (o : List LetterValue). AddsAll G (datagrams_in (take 64 o) []) group now old new)
+        (sym loopback)
         (takes_more G (l.bytes ∷ []) (datagrams_in
-        (take 63 mid.own_letters) []) group one now old mid new first further.takes);
-    some = λ is. let both : l.bytes ∷ datagrams_in (take 63 mid.own_letters) [] ≡ [] =
-        sym (ap (λ (o : List LetterValue). datagrams_in (take 64 o) []) own_letters) ∙ is in cc both;
-    left = further.left ∙ sym (ap (λ (o : List LetterValue). drop 64 o) own_letters);
+        (take 63 mid.loopback) []) group one now old mid new first further.adds);
+    some = λ is. let both : l.bytes ∷ datagrams_in (take 63 mid.loopback) [] ≡ [] =
+        sym (ap (λ (o : List LetterValue). datagrams_in (take 64 o) []) loopback) ∙ is in cc both;
+    left = further.left ∙ sym (ap (λ (o : List LetterValue). drop 64 o) loopback);
     heard = book;
     network = (ap (λ (b : AddressBook). b.hosts) book, ap (λ (b : AddressBook). filter_of b) book);
   }
 
   -- so many of them have ended it
   own_ends_at : (count : ℕ) (l : LetterValue) (rest : List LetterValue) (group : GroupValue) (old new : ServerValue R)
-      → old.own_letters ≡ l ∷ rest → new.addresses ≡ old.addresses → new.incoming ≡ old.incoming → suc count ≤ 64
+      → old.loopback ≡ l ∷ rest → new.addresses ≡ old.addresses → new.incoming ≡ old.incoming → suc count ≤ 64
       → EndsWithin S G (datagrams_in (take (suc count) (l ∷ rest)) []) group old new
-      → new.own_letters ≡ drop (suc count) (l ∷ rest) → EndsGroup S G tells [] group old new
-  own_ends_at count l rest group old new own_letters book still few ends left =
+      → new.loopback ≡ drop (suc count) (l ∷ rest) → EndsGroup S G observable [] group old new
+  own_ends_at count l rest group old new loopback book still few ends left =
       let e = subst (λ (o : List LetterValue). EndsWithin S G (datagrams_in (take (suc count) o) []) group old new)
-      (sym own_letters) ends in
+      (sym loopback) ends in
       record {
-        received = own_received l rest old new own_letters still;
+        received = own_received l rest old new loopback still;
         count = suc count;
         letters = record { at_most = few; some = λ is. absurd (omega (arith, is)) };
         given = e.given;
         first = record {
-          whole = all_inputs old.pace old.received (datagrams_in (take (suc count) old.own_letters) []);
-          may = given_some old.pace old.received (datagrams_in (take (suc count) old.own_letters) [])
+          whole = all_inputs old.pace old.received (datagrams_in (take (suc count) old.loopback) []);
+          may = given_some old.pace old.received (datagrams_in (take (suc count) old.loopback) [])
               (λ is. let both : l.bytes ∷ datagrams_in (take count rest) [] ≡ [] =
-              sym (ap (λ (o : List LetterValue). datagrams_in (take (suc count) o) []) own_letters) ∙ is in cc both);
+              sym (ap (λ (o : List LetterValue). datagrams_in (take (suc count) o) []) loopback) ∙ is in cc both);
           front = e.front;
         };
         silent = e.silent;
         ticks = e.ticks;
-        left = left ∙ sym (ap (λ (o : List LetterValue). drop (suc count) o) own_letters);
+        left = left ∙ sym (ap (λ (o : List LetterValue). drop (suc count) o) loopback);
         heard = book;
         network = (ap (λ (b : AddressBook). b.hosts) book, ap (λ (b : AddressBook). filter_of b) book);
       }
 
   -- the first has
-  pub own_ends_first : (l : LetterValue) (group : GroupValue) (old new : ServerValue R) → old.own_letters
-      ≡ l ∷ new.own_letters
+  pub own_ends_first : (l : LetterValue) (group : GroupValue) (old new : ServerValue R) → old.loopback
+      ≡ l ∷ new.loopback
       → new.addresses ≡ old.addresses → new.incoming ≡ old.incoming
-      → EndsWithin S G (l.bytes ∷ []) group old new → EndsGroup S G tells [] group old new
-  own_ends_first l group old new own_letters book still ends =
-      own_ends_at 0 l new.own_letters group old new own_letters book still (omega arith)
+      → EndsWithin S G (l.bytes ∷ []) group old new → EndsGroup S G observable [] group old new
+  own_ends_first l group old new loopback book still ends =
+      own_ends_at 0 l new.loopback group old new loopback book still (omega arith)
       (subst (λ (o : List LetterValue). EndsWithin S G (datagrams_in (l ∷ o) []) group old new)
-      (sym (none new.own_letters)) ends) (sym (all new.own_letters))
+      (sym (none new.loopback)) ends) (sym (all new.loopback))
     where
       none : (o : List LetterValue) → take 0 o ≡ []
       none [] = refl
@@ -250,30 +253,30 @@ module _ {R : Type 0} (S : Sayings R) (G : Gatherings R) (tells : Type 0) where
       all (x ∷ o) = refl
 
   -- a further one has
-  pub own_ends : (l : LetterValue) (group one : GroupValue) (old mid new : ServerValue R) → old.own_letters
-      ≡ l ∷ mid.own_letters
+  pub own_ends : (l : LetterValue) (group one : GroupValue) (old mid new : ServerValue R) → old.loopback
+      ≡ l ∷ mid.loopback
       → new.addresses ≡ old.addresses → new.incoming ≡ old.incoming
-      → AddsAll G (l.bytes ∷ []) group one old mid → EndsOwnLetters S G 63 one mid new
-      → EndsGroup S G tells [] group old new
-  own_ends l group one old mid new own_letters book still first further =
-      own_ends_at further.count l mid.own_letters group old new own_letters book still (omega (arith, further.at_most))
+      → AddsAll G (l.bytes ∷ []) group one old mid → EndsLoopback S G 63 one mid new
+      → EndsGroup S G observable [] group old new
+  own_ends l group one old mid new loopback book still first further =
+      own_ends_at further.count l mid.loopback group old new loopback book still (omega (arith, further.at_most))
       (ends_more S G (l.bytes ∷ [])
-      (datagrams_in (take further.count mid.own_letters) []) group one old mid new first further.ends) further.left
+      (datagrams_in (take further.count mid.loopback) []) group one old mid new first further.ends) further.left
 
   -- ---- the tick of a turn
 
   -- none is due: what waits is all
   pub without_tick : (frames : List (SocketAddr × List ℕ)) (group now : GroupValue) (old new : ServerValue R)
-      → AddsWaiting G tells frames group now old new → AddsGroup G tells frames group now old new
+      → AddsWaiting G observable frames group now old new → AddsGroup G observable frames group now old new
   without_tick frames group now old new t =
-      let ds = datagrams_in (take 64 old.own_letters) (all_filtered (filter_of old.addresses) frames) in
+      let ds = datagrams_in (take 64 old.loopback) (all_filtered (filter_of old.addresses) frames) in
       record {
         received = t.received;
         given = all_inputs old.pace old.received ds;
         may = given_some old.pace old.received ds t.some;
-        gathers = t.takes.gathers;
-        counted = t.takes.counted;
-        ticks = t.takes.ticks;
+        gathers = t.adds.gathers;
+        counted = t.adds.counted;
+        ticks = t.adds.ticks;
         left = t.left;
         heard = t.heard;
         network = t.network;
@@ -281,10 +284,10 @@ module _ {R : Type 0} (S : Sayings R) (G : Gatherings R) (tells : Type 0) where
 
   -- one is, behind what waits
   module _ (frames : List (SocketAddr × List ℕ)) (group one : GroupValue) (old mid new : ServerValue R)
-      (clock : old.pace ≡ Clock) (t : AddsWaiting G tells frames group one old mid)
+      (clock : old.pace ≡ Clock) (t : AddsWaiting G observable frames group one old mid)
       (same : new ≡ record mid { replica = new.replica; failed = new.failed; ticks = new.ticks }) where
     abbrev waited : List (List ℕ)
-    waited = datagrams_in (take 64 old.own_letters) (all_filtered (filter_of old.addresses) frames)
+    waited = datagrams_in (take 64 old.loopback) (all_filtered (filter_of old.addresses) frames)
 
     abbrev ticked : List (Option (List ℕ))
     ticked = all_inputs old.pace old.received waited ++ None ∷ []
@@ -292,12 +295,12 @@ module _ {R : Type 0} (S : Sayings R) (G : Gatherings R) (tells : Type 0) where
     may_tick : Given old.pace old.received waited ticked
     may_tick = given_then old.pace old.received waited (None ∷ []) (one_tick old.pace clock) t.some
 
-    tick_received : HasReceived tells frames old new
+    tick_received : HasReceived observable frames old new
     tick_received =
-        received_on tells frames old mid new (λ telling. ap (λ (s : ServerValue R). s.incoming) same) t.received
+        received_on observable frames old mid new (λ telling. ap (λ (s : ServerValue R). s.incoming) same) t.received
 
-    tick_left : new.own_letters ≡ drop 64 old.own_letters
-    tick_left = ap (λ (s : ServerValue R). s.own_letters) same ∙ t.left
+    tick_left : new.loopback ≡ drop 64 old.loopback
+    tick_left = ap (λ (s : ServerValue R). s.loopback) same ∙ t.left
 
     tick_heard : RecordsSenders old.cluster (all_filtered (filter_of old.addresses) frames) old.addresses new.addresses
     tick_heard = subst (λ (b : AddressBook). RecordsSenders old.cluster
@@ -309,11 +312,11 @@ module _ {R : Type 0} (S : Sayings R) (G : Gatherings R) (tells : Type 0) where
         (sym (ap (λ (s : ServerValue R). s.addresses) same)) t.network
 
     tick_counted : new.ticks ≡ one_more_tick mid.ticks → new.ticks ≡ all_ticks old.ticks ticked
-    tick_counted timed = timed ∙ ap (λ (n : ℕ). one_more_tick n) t.takes.ticks
+    tick_counted timed = timed ∙ ap (λ (n : ℕ). one_more_tick n) t.adds.ticks
         ∙ sym (ticks_more old.ticks (all_inputs old.pace old.received waited) (None ∷ []))
 
     pub tick_behind : (now : GroupValue) → new.ticks ≡ one_more_tick mid.ticks
-        → GathersMore G (None ∷ []) one now mid.replica new.replica → AddsGroup G tells frames group now old new
+        → GathersMore G (None ∷ []) one now mid.replica new.replica → AddsGroup G observable frames group now old new
     tick_behind now timed ticks = record {
       received = tick_received;
       given = ticked;
@@ -321,8 +324,8 @@ module _ {R : Type 0} (S : Sayings R) (G : Gatherings R) (tells : Type 0) where
       gathers = λ first given was.
           subst (λ (l : List (Option (List ℕ))). G first l now new.replica)
           (append_assoc given (all_inputs old.pace old.received waited) (None ∷ []))
-          (ticks first (given ++ all_inputs old.pace old.received waited) (t.takes.gathers first given was));
-      counted = ap (λ (s : ServerValue R). s.received) same ∙ t.takes.counted;
+          (ticks first (given ++ all_inputs old.pace old.received waited) (t.adds.gathers first given was));
+      counted = ap (λ (s : ServerValue R). s.received) same ∙ t.adds.counted;
       ticks = tick_counted timed;
       left = tick_left;
       heard = tick_heard;
@@ -331,7 +334,7 @@ module _ {R : Type 0} (S : Sayings R) (G : Gatherings R) (tells : Type 0) where
 
     -- it has ended it
     pub tick_ends_behind : new.ticks ≡ one_more_tick mid.ticks → SaysNoMore S G (None ∷ []) one mid.replica new.replica
-        → EndsGroup S G tells frames group old new
+        → EndsGroup S G observable frames group old new
     tick_ends_behind timed silent = record {
       received = tick_received;
       count = 64;
@@ -341,7 +344,7 @@ module _ {R : Type 0} (S : Sayings R) (G : Gatherings R) (tells : Type 0) where
       silent = λ first given was.
           subst (λ (l : List (Option (List ℕ))). S first l [] new.replica)
           (append_assoc given (all_inputs old.pace old.received waited) (None ∷ []))
-          (silent first (given ++ all_inputs old.pace old.received waited) (t.takes.gathers first given was));
+          (silent first (given ++ all_inputs old.pace old.received waited) (t.adds.gathers first given was));
       ticks = tick_counted timed;
       left = tick_left;
       heard = tick_heard;
@@ -350,7 +353,7 @@ module _ {R : Type 0} (S : Sayings R) (G : Gatherings R) (tells : Type 0) where
 
   -- it is alone: a replica is given nothing of what came in these frames
   module _ (found : TurnInput) (frames : List (SocketAddr × List ℕ)) (group one : GroupValue)
-      (old mid new : ServerValue R) (own_letters : old.own_letters ≡ []) (f : Finds tells found frames old mid)
+      (old mid new : ServerValue R) (loopback : old.loopback ≡ []) (f : Finds observable found frames old mid)
       (begun : one ≡ group)
       (same : new ≡ record mid { replica = new.replica; failed = new.failed; ticks = new.ticks }) where
     none_taken : all_filtered (filter_of old.addresses) frames ≡ []
@@ -359,16 +362,16 @@ module _ {R : Type 0} (S : Sayings R) (G : Gatherings R) (tells : Type 0) where
     mine : mid.replica ≡ old.replica
     mine = ap (λ (s : ServerValue R). s.replica) f.same
 
-    own_is : (n : ℕ) → take n old.own_letters ≡ []
-    own_is n = take_none n old.own_letters own_letters
+    own_is : (n : ℕ) → take n old.loopback ≡ []
+    own_is n = take_none n old.loopback loopback
 
-    no_datagrams : (n : ℕ) → datagrams_in (take n old.own_letters) (all_filtered (filter_of old.addresses) frames) ≡ []
-    no_datagrams n = ap (λ (cs : List (SocketAddr × List ℕ)). datagrams_in (take n old.own_letters) cs) none_taken
+    no_datagrams : (n : ℕ) → datagrams_in (take n old.loopback) (all_filtered (filter_of old.addresses) frames) ≡ []
+    no_datagrams n = ap (λ (cs : List (SocketAddr × List ℕ)). datagrams_in (take n old.loopback) cs) none_taken
         ∙ ap (λ (o : List LetterValue). datagrams_in o []) (own_is n)
 
-    alone_received : HasReceived tells frames old new
+    alone_received : HasReceived observable frames old new
     alone_received = record {
-      alone = inl own_letters;
+      alone = inl loopback;
       few = found_few (filter_of old.addresses) found frames f.are;
       comes = λ telling. f.comes telling
           ∙ ap (λ (l : List (SocketAddr × List ℕ)). frames ++ l) (sym (ap (λ (s : ServerValue R). s.incoming) same));
@@ -385,43 +388,43 @@ module _ {R : Type 0} (S : Sayings R) (G : Gatherings R) (tells : Type 0) where
     alone_outside : IsSameFilter old.addresses new.addresses
     alone_outside = (ap (λ (b : AddressBook). b.hosts) alone_book, ap (λ (b : AddressBook). filter_of b) alone_book)
 
-    alone_own : new.own_letters ≡ []
-    alone_own = ap (λ (s : ServerValue R). s.own_letters) same ∙ ap (λ (s : ServerValue R). s.own_letters) f.same
-        ∙ own_letters
+    alone_own : new.loopback ≡ []
+    alone_own = ap (λ (s : ServerValue R). s.loopback) same ∙ ap (λ (s : ServerValue R). s.loopback) f.same
+        ∙ loopback
 
     alone_counted : new.ticks ≡ one_more_tick mid.ticks → new.ticks ≡ all_ticks old.ticks (None ∷ [])
     alone_counted timed = timed ∙ ap (λ (n : ℕ). one_more_tick n) (ap (λ (s : ServerValue R). s.ticks) f.same)
 
     pub tick_alone : (now : GroupValue) → new.ticks ≡ one_more_tick mid.ticks
-        → GathersMore G (None ∷ []) one now mid.replica new.replica → AddsGroup G tells frames group now old new
+        → GathersMore G (None ∷ []) one now mid.replica new.replica → AddsGroup G observable frames group now old new
     tick_alone now timed ticks = record {
       received = alone_received;
       given = None ∷ [];
       may = given_none old.pace old.received
-          (datagrams_in (take 64 old.own_letters) (all_filtered (filter_of old.addresses) frames)) (no_datagrams 64);
+          (datagrams_in (take 64 old.loopback) (all_filtered (filter_of old.addresses) frames)) (no_datagrams 64);
       gathers = subst₂ (λ (x : GroupValue) (r : R). GathersMore G (None ∷ []) x now r new.replica) begun mine ticks;
       counted = ap (λ (s : ServerValue R). s.received) same ∙ ap (λ (s : ServerValue R). s.received) f.same
           ∙ sym (ap (λ (ds : List (List ℕ)). counted old.received ds) (no_datagrams 64));
       ticks = alone_counted timed;
-      left = alone_own ∙ sym (ap (λ (o : List LetterValue). drop 64 o) own_letters);
+      left = alone_own ∙ sym (ap (λ (o : List LetterValue). drop 64 o) loopback);
       heard = alone_heard;
       network = alone_outside;
     }
 
     pub tick_ends_alone : new.ticks ≡ one_more_tick mid.ticks → SaysNoMore S G (None ∷ []) one mid.replica new.replica
-        → EndsGroup S G tells frames group old new
+        → EndsGroup S G observable frames group old new
     tick_ends_alone timed silent = record {
       received = alone_received;
       count = 64;
       letters = record { at_most = omega arith; some = λ is. absurd (omega (arith, is)) };
       given = None ∷ [];
       first = given_all old.pace old.received
-          (datagrams_in (take 64 old.own_letters) (all_filtered (filter_of old.addresses) frames)) (None ∷ [])
+          (datagrams_in (take 64 old.loopback) (all_filtered (filter_of old.addresses) frames)) (None ∷ [])
           (given_none old.pace old.received
-          (datagrams_in (take 64 old.own_letters) (all_filtered (filter_of old.addresses) frames)) (no_datagrams 64));
+          (datagrams_in (take 64 old.loopback) (all_filtered (filter_of old.addresses) frames)) (no_datagrams 64));
       silent = subst₂ (λ (x : GroupValue) (r : R). SaysNoMore S G (None ∷ []) x r new.replica) begun mine silent;
       ticks = alone_counted timed;
-      left = alone_own ∙ sym (ap (λ (o : List LetterValue). drop 64 o) own_letters);
+      left = alone_own ∙ sym (ap (λ (o : List LetterValue). drop 64 o) loopback);
       heard = alone_heard;
       network = alone_outside;
     }
@@ -446,18 +449,18 @@ module _ {R : Type 0} (S : Sayings R) (G : Gatherings R) (tells : Type 0) where
     -- this was found, and nothing of it was taken
     abbrev pub HasFound : TurnInput → GroupValue → GroupValue → ServerValue R → ServerValue R → Type 0
     HasFound found group one old mid =
-        (old.own_letters ≡ []) × (frames : List (SocketAddr × List ℕ)) × Finds tells found frames old mid
+        (old.loopback ≡ []) × (frames : List (SocketAddr × List ℕ)) × Finds observable found frames old mid
         × (one ≡ group) × Keeps frames
 
     -- this waited, and was taken
     abbrev pub HasWaiting : GroupValue → GroupValue → ServerValue R → ServerValue R → Type 0
     HasWaiting group one old mid =
-        (frames : List (SocketAddr × List ℕ)) × AddsWaiting G tells frames group one old mid × Keeps frames
+        (frames : List (SocketAddr × List ℕ)) × AddsWaiting G observable frames group one old mid × Keeps frames
 
     -- this was taken in a turn
     abbrev pub HasTaken : GroupValue → GroupValue → ServerValue R → ServerValue R → Type 0
     HasTaken group now old new =
-        (frames : List (SocketAddr × List ℕ)) × AddsGroup G tells frames group now old new × Keeps frames
+        (frames : List (SocketAddr × List ℕ)) × AddsGroup G observable frames group now old new × Keeps frames
 
     -- no tick is due
     pub untimely_takes : (group one : GroupValue) (old mid : ServerValue R) → HasWaiting group one old mid
@@ -467,13 +470,13 @@ module _ {R : Type 0} (S : Sayings R) (G : Gatherings R) (tells : Type 0) where
     pub untimely_rests : (found : TurnInput) (due : Bool) (group one : GroupValue) (old mid : ServerValue R)
         → mid.pace ≡ old.pace → due ≡ false → (mid.pace ≡ Datagrams → found ≡ Nothing → due ≡ true)
         → HasFound found group one old mid
-        → (frames : List (SocketAddr × List ℕ)) × HasReceived tells frames old mid
-        × IsIdle tells frames old mid × Keeps frames
+        → (frames : List (SocketAddr × List ℕ)) × HasReceived observable frames old mid
+        × IsIdle observable frames old mid × Keeps frames
     untimely_rests found due group one old mid pace isnt nothing n = (
       n.1,
       alone_received found n.1 group one old mid mid n.0 n.2 n.3 refl,
       record {
-        own_letters = n.0;
+        loopback = n.0;
         none = found_none (filter_of old.addresses) found n.1 n.2.are;
         clock =
             λ empty. sym pace ∙ by_clock (filter_of old.addresses) mid.pace found n.1 due isnt nothing n.2.are empty;
@@ -491,44 +494,44 @@ module _ {R : Type 0} (S : Sayings R) (G : Gatherings R) (tells : Type 0) where
           → ((found ≡ Something → ⊥) → HasFound found group one old mid)
           → (mid.pace ≡ Datagrams → found ≡ Something → due ≡ false)
           → GathersMore G (None ∷ []) one now mid.replica new.replica → HasTaken group now old new
-      tick_turn Something now takes none given ticks =
-          let t = takes refl in (
+      tick_turn Something now adds none given ticks =
+          let t = adds refl in (
             t.0,
             tick_behind t.0 group one old mid new
                 (sym pace ∙ clock_of mid.pace due is_so (λ is. given is refl)) t.1 same now timed ticks,
             t.2,
           )
-      tick_turn Nothing now takes none given ticks = let n = none (λ is. cc is) in
+      tick_turn Nothing now adds none given ticks = let n = none (λ is. cc is) in
           (n.1, tick_alone Nothing n.1 group one old mid new n.0 n.2 n.3 same now timed ticks, n.4)
-      tick_turn Filtered now takes none given ticks = let n = none (λ is. cc is) in
+      tick_turn Filtered now adds none given ticks = let n = none (λ is. cc is) in
           (n.1, tick_alone Filtered n.1 group one old mid new n.0 n.2 n.3 same now timed ticks, n.4)
 
       pub tick_turn_ends : (found : TurnInput) → (found ≡ Something → HasWaiting group one old mid)
           → ((found ≡ Something → ⊥) → HasFound found group one old mid)
           → (mid.pace ≡ Datagrams → found ≡ Something → due ≡ false)
           → SaysNoMore S G (None ∷ []) one mid.replica new.replica
-          → (frames : List (SocketAddr × List ℕ)) × EndsGroup S G tells frames group old new
-      tick_turn_ends Something takes none given silent =
-          let t = takes refl in (
+          → (frames : List (SocketAddr × List ℕ)) × EndsGroup S G observable frames group old new
+      tick_turn_ends Something adds none given silent =
+          let t = adds refl in (
             t.0,
             tick_ends_behind t.0 group one old mid new
                 (sym pace ∙ clock_of mid.pace due is_so (λ is. given is refl)) t.1 same timed silent,
           )
-      tick_turn_ends Nothing takes none given silent = let n = none (λ is. cc is) in
+      tick_turn_ends Nothing adds none given silent = let n = none (λ is. cc is) in
           (n.1, tick_ends_alone Nothing n.1 group one old mid new n.0 n.2 n.3 same timed silent)
-      tick_turn_ends Filtered takes none given silent = let n = none (λ is. cc is) in
+      tick_turn_ends Filtered adds none given silent = let n = none (λ is. cc is) in
           (n.1, tick_ends_alone Filtered n.1 group one old mid new n.0 n.2 n.3 same timed silent)
 
   -- ---- what is handed on
 
   -- a replica that says nothing more
-  abbrev pub hands_none : (given : List (Option (List ℕ))) (own_letters : List LetterValue) (old new : ServerValue R)
-      → DeliversNothing S given own_letters old new → DeliversLetters S tells given own_letters old new
-  hands_none given own_letters old new h = record {
+  abbrev pub hands_none : (given : List (Option (List ℕ))) (loopback : List LetterValue) (old new : ServerValue R)
+      → DeliversNothing S given loopback old new → DeliversLetters S observable given loopback old new
+  hands_none given loopback old new h = record {
     letters = [];
     says = h.says;
-    kept = record { added = []; is = h.own_letters ∙ sym (append-nil own_letters) };
-    carried = λ i. record { own_letters = h.own_letters i; sent = h.sent i; failures = h.failures i };
+    kept = record { added = []; is = h.loopback ∙ sym (append-nil loopback) };
+    carried = λ i. record { loopback = h.loopback i; sent = h.sent i; failures = h.failures i };
   }
 
   -- ---- a turn
@@ -540,17 +543,18 @@ module _ {R : Type 0} (S : Sayings R) (G : Gatherings R) (tells : Type 0) where
       record { cluster = same.cluster ∙ cluster; node = same.node ∙ node; pace = same.pace ∙ pace }
 
   pub turn_of : (frames : List (SocketAddr × List ℕ)) (group now : GroupValue) (old mid new : ServerValue R)
-      → G old.replica [] group old.replica → AddsGroup G tells frames group now old mid
-      → DeliversAllLetters S G tells now mid new
+      → G old.replica [] group old.replica → AddsGroup G observable frames group now old mid
+      → DeliversAllLetters S G observable now mid new
       → mid.sent ≡ old.sent → mid.socket_failures ≡ old.socket_failures → IsSameServer old mid
       → new.addresses ≡ mid.addresses → new.received ≡ mid.received → new.ticks ≡ mid.ticks
       → IsSameServer mid new → new.failed ≡ false
-      → Turn S tells (all_filtered (filter_of old.addresses) frames) old new
+      → Turn S observable (all_filtered (filter_of old.addresses) frames) old new
   turn_of frames group now old mid new begins t hands sent failures first book received untimed then lives = record {
-    takes = received_first tells frames old mid t.received;
+    letters_first = received_first observable frames old mid t.received;
     given = t.given;
     may = t.may;
-    hands_on = subst (λ (own_letters : List LetterValue). DeliversLetters S tells t.given own_letters old new) t.left
+    hands_on = subst (λ (loopback : List LetterValue). DeliversLetters S observable t.given loopback old new)
+        t.left
         (hands old t.given (t.gathers old.replica [] begins) (sym sent) (sym failures));
     counted = received ∙ t.counted;
     ticks = untimed ∙ t.ticks;
@@ -562,20 +566,21 @@ module _ {R : Type 0} (S : Sayings R) (G : Gatherings R) (tells : Type 0) where
 
   -- the end of the group has ended it
   pub last_of : (frames : List (SocketAddr × List ℕ)) (group now : GroupValue) (old mid new : ServerValue R)
-      → G old.replica [] group old.replica → AddsGroup G tells frames group now old mid → SaysNothing S G now mid new
+      → G old.replica [] group old.replica → AddsGroup G observable frames group now old mid
+      → SaysNothing S G now mid new
       → mid.sent ≡ old.sent → mid.socket_failures ≡ old.socket_failures → IsSameServer old mid
       → new.addresses ≡ mid.addresses → new.ticks ≡ mid.ticks → IsSameServer mid new → new.failed ≡ true
-      → LastTurn S tells (all_filtered (filter_of old.addresses) frames) old new
+      → LastTurn S observable (all_filtered (filter_of old.addresses) frames) old new
   last_of frames group now old mid new begins t none sent failures first book untimed then ended = record {
-    takes = received_first tells frames old mid t.received;
+    letters_first = received_first observable frames old mid t.received;
     count = 64;
     letters = record { at_most = omega arith; some = λ is. absurd (omega (arith, is)) };
     given = t.given;
     first = given_all old.pace old.received
-        (datagrams_in (take 64 old.own_letters) (all_filtered (filter_of old.addresses) frames)) t.given t.may;
-    hands_on = hands_none t.given (drop 64 old.own_letters) old new (record {
+        (datagrams_in (take 64 old.loopback) (all_filtered (filter_of old.addresses) frames)) t.given t.may;
+    hands_on = hands_none t.given (drop 64 old.loopback) old new (record {
       says = none.silent old.replica t.given (t.gathers old.replica [] begins);
-      own_letters = none.own_letters ∙ t.left;
+      loopback = none.loopback ∙ t.left;
       sent = none.sent ∙ sent;
       failures = none.failures ∙ failures;
     });
@@ -589,17 +594,17 @@ module _ {R : Type 0} (S : Sayings R) (G : Gatherings R) (tells : Type 0) where
 
   -- one of its inputs has
   pub last_within : (frames : List (SocketAddr × List ℕ)) (group : GroupValue) (old new : ServerValue R)
-      → G old.replica [] group old.replica → EndsGroup S G tells frames group old new
+      → G old.replica [] group old.replica → EndsGroup S G observable frames group old new
       → new.sent ≡ old.sent → new.socket_failures ≡ old.socket_failures → IsSameServer old new → new.failed ≡ true
-      → LastTurn S tells (all_filtered (filter_of old.addresses) frames) old new
+      → LastTurn S observable (all_filtered (filter_of old.addresses) frames) old new
   last_within frames group old new begins e sent failures same ended = record {
-    takes = received_first tells frames old new e.received;
+    letters_first = received_first observable frames old new e.received;
     count = e.count;
     letters = e.letters;
     given = e.given;
     first = e.first;
-    hands_on = hands_none e.given (drop e.count old.own_letters) old new
-        (record { says = e.silent old.replica [] begins; own_letters = e.left; sent = sent; failures = failures });
+    hands_on = hands_none e.given (drop e.count old.loopback) old new
+        (record { says = e.silent old.replica [] begins; loopback = e.left; sent = sent; failures = failures });
     silent = refl;
     ticks = e.ticks;
     heard = e.heard;
@@ -611,22 +616,22 @@ module _ {R : Type 0} (S : Sayings R) (G : Gatherings R) (tells : Type 0) where
 
   pub tick_of : {T E : Type 0} (r : Result T E) (group now : GroupValue) (old mid new : ServerValue R)
       → G old.replica [] group old.replica → GathersMore G (None ∷ []) group now old.replica mid.replica
-      → mid.own_letters ≡ old.own_letters → mid.sent ≡ old.sent → mid.socket_failures ≡ old.socket_failures
-      → OnOk r (DeliversAllLetters S G tells now mid new) → OnOk r (DeliversLetters S tells
-      (None ∷ []) old.own_letters old new)
-  tick_of (Ok x) group now old mid new begins gathers own_letters sent failures hands =
-      subst (λ (o : List LetterValue). DeliversLetters S tells (None ∷ []) o old new) own_letters
+      → mid.loopback ≡ old.loopback → mid.sent ≡ old.sent → mid.socket_failures ≡ old.socket_failures
+      → OnOk r (DeliversAllLetters S G observable now mid new) → OnOk r (DeliversLetters S observable
+      (None ∷ []) old.loopback old new)
+  tick_of (Ok x) group now old mid new begins gathers loopback sent failures hands =
+      subst (λ (o : List LetterValue). DeliversLetters S observable (None ∷ []) o old new) loopback
       (hands old (None ∷ []) (gathers old.replica [] begins) (sym sent) (sym failures))
-  tick_of (Err e) group now old mid new begins gathers own_letters sent failures hands = tt
+  tick_of (Err e) group now old mid new begins gathers loopback sent failures hands = tt
 
   pub tick_ends : {T E : Type 0} (r : Result T E) (group now : GroupValue) (old mid new : ServerValue R)
       → G old.replica [] group old.replica → GathersMore G (None ∷ []) group now old.replica mid.replica
-      → mid.own_letters ≡ old.own_letters → mid.sent ≡ old.sent → mid.socket_failures ≡ old.socket_failures
-      → OnErr r (SaysNothing S G now mid new) → OnErr r (DeliversNothing S (None ∷ []) old.own_letters old new)
-  tick_ends (Ok x) group now old mid new begins gathers own_letters sent failures none = tt
-  tick_ends (Err e) group now old mid new begins gathers own_letters sent failures none = record {
+      → mid.loopback ≡ old.loopback → mid.sent ≡ old.sent → mid.socket_failures ≡ old.socket_failures
+      → OnErr r (SaysNothing S G now mid new) → OnErr r (DeliversNothing S (None ∷ []) old.loopback old new)
+  tick_ends (Ok x) group now old mid new begins gathers loopback sent failures none = tt
+  tick_ends (Err e) group now old mid new begins gathers loopback sent failures none = record {
     says = none.silent old.replica (None ∷ []) (gathers old.replica [] begins);
-    own_letters = none.own_letters ∙ own_letters;
+    loopback = none.loopback ∙ loopback;
     sent = none.sent ∙ sent;
     failures = none.failures ∙ failures;
   }
@@ -634,7 +639,7 @@ module _ {R : Type 0} (S : Sayings R) (G : Gatherings R) (tells : Type 0) where
   -- the tick itself has ended it
   pub tick_silent : (group : GroupValue) (old new : ServerValue R) → G old.replica [] group old.replica
       → SaysNoMore S G (None ∷ []) group old.replica new.replica
-      → new.own_letters ≡ old.own_letters → new.sent ≡ old.sent → new.socket_failures ≡ old.socket_failures
-      → DeliversNothing S (None ∷ []) old.own_letters old new
-  tick_silent group old new begins silent own_letters sent failures =
-      record { says = silent old.replica [] begins; own_letters = own_letters; sent = sent; failures = failures }
+      → new.loopback ≡ old.loopback → new.sent ≡ old.sent → new.socket_failures ≡ old.socket_failures
+      → DeliversNothing S (None ∷ []) old.loopback old new
+  tick_silent group old new begins silent loopback sent failures =
+      record { says = silent old.replica [] begins; loopback = loopback; sent = sent; failures = failures }

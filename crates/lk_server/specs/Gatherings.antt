@@ -2,7 +2,7 @@
 use Rattle.std.specs.Prelude.{◌≡◌, ◌≢◌, ◌≤◌, ℕ, true, List, [], ◌∷◌, ◌++◌, take, drop, Option}
 use Rattle.std.specs.declared.net.socket_addr.SocketAddr.{SocketAddr}
 use Rattle.lk_replica.specs.Groups.{GroupValue}
-use Rattle.lk_served_replica.specs.Groups.{Sayings, Gatherings, GathersMore, SaysNoMore}
+use Rattle.lk_server_replica.specs.Groups.{Sayings, Gatherings, GathersMore, SaysNoMore}
 use Rattle.lk_pacing.specs.declared.turn_input.TurnInput.{TurnInput}
 use Rattle.lk_pacing.specs.declared.turn_input.TurnInput.TheVariants.{Nothing, Filtered, Something}
 use Rattle.lk_transport.specs.Addresses.{Filter, filter_of, IsSameFilter}
@@ -19,11 +19,11 @@ AreFound s Something frames = ⊥
 
 -- these frames were found at the socket, and a replica is given nothing of them; where there is none, nothing was to
 -- come, if the socket tells that; and nothing else is changed
-pub record Finds {R : Type 0} (tells : Type 0) (found : TurnInput) (frames : List (SocketAddr × List ℕ))
+pub record Finds {R : Type 0} (observable : Type 0) (found : TurnInput) (frames : List (SocketAddr × List ℕ))
     (old new : ServerValue R) : Type 0 where
   pub are : AreFound (filter_of old.addresses) found frames
-  pub none : tells → frames ≡ [] → old.incoming ≡ []
-  pub comes : tells → old.incoming ≡ frames ++ new.incoming
+  pub none : observable → frames ≡ [] → old.incoming ≡ []
+  pub comes : observable → old.incoming ≡ frames ++ new.incoming
   pub same : record new { incoming = old.incoming } ≡ old
 
 -- ---- what a part of a turn may change: a datagram that the replica takes, a letter of the node to itself, what comes
@@ -40,7 +40,7 @@ ChangesAtLetter old new =
       failed = new.failed;
       received = new.received;
       ticks = new.ticks;
-      own_letters = new.own_letters;
+      loopback = new.loopback;
     }
 
 abbrev pub ChangesAtFrame : {R : Type 0} → ServerValue R → ServerValue R → Type 0
@@ -71,7 +71,7 @@ ChangesInGroup old new =
       failed = new.failed;
       received = new.received;
       ticks = new.ticks;
-      own_letters = new.own_letters;
+      loopback = new.loopback;
       addresses = new.addresses;
       incoming = new.incoming;
     }
@@ -86,46 +86,46 @@ module _ {R : Type 0} (Gathers : Gatherings R) where
     pub pace : new.pace ≡ old.pace
 
   -- the first letters of the node to itself were taken, at most this many
-  pub record AddsOwnLetters (most : ℕ) (group now : GroupValue) (old new : ServerValue R) : Type 0 where
-    pub takes : AddsAll (datagrams_in (take most old.own_letters) []) group now old new
-    pub left : new.own_letters ≡ drop most old.own_letters
+  pub record AddsLoopback (most : ℕ) (group now : GroupValue) (old new : ServerValue R) : Type 0 where
+    pub adds : AddsAll (datagrams_in (take most old.loopback) []) group now old new
+    pub left : new.loopback ≡ drop most old.loopback
 
   -- the content of these frames was taken, and their senders' addresses were recorded
   pub record AddsHeard (frames : List (SocketAddr × List ℕ)) (group now : GroupValue)
       (old new : ServerValue R) : Type 0 where
-    pub takes : AddsAll (datagrams_in [] (all_filtered (filter_of old.addresses) frames)) group now old new
+    pub adds : AddsAll (datagrams_in [] (all_filtered (filter_of old.addresses) frames)) group now old new
     pub heard : RecordsSenders old.cluster (all_filtered (filter_of old.addresses) frames) old.addresses new.addresses
     pub network : IsSameFilter old.addresses new.addresses
 
   -- their content was taken, and exactly these frames came from the socket, in order
-  pub record AddsFromSocket (tells : Type 0) (frames : List (SocketAddr × List ℕ)) (group now : GroupValue)
+  pub record AddsFromSocket (observable : Type 0) (frames : List (SocketAddr × List ℕ)) (group now : GroupValue)
       (old new : ServerValue R) : Type 0 where
-    pub takes : AddsHeard frames group now old new
-    pub comes : tells → old.incoming ≡ frames ++ new.incoming
+    pub adds : AddsHeard frames group now old new
+    pub comes : observable → old.incoming ≡ frames ++ new.incoming
 
   -- what waits is taken: letters of the node to itself, or these frames of the socket
-  pub record AddsWaiting (tells : Type 0) (frames : List (SocketAddr × List ℕ)) (group now : GroupValue)
+  pub record AddsWaiting (observable : Type 0) (frames : List (SocketAddr × List ℕ)) (group now : GroupValue)
       (old new : ServerValue R) : Type 0 where
-    pub received : HasReceived tells frames old new
-    pub takes : AddsAll (datagrams_in (take 64 old.own_letters) (all_filtered (filter_of old.addresses) frames))
+    pub received : HasReceived observable frames old new
+    pub adds : AddsAll (datagrams_in (take 64 old.loopback) (all_filtered (filter_of old.addresses) frames))
         group now old new
-    pub some : datagrams_in (take 64 old.own_letters) (all_filtered (filter_of old.addresses) frames) ≢ []
-    pub left : new.own_letters ≡ drop 64 old.own_letters
+    pub some : datagrams_in (take 64 old.loopback) (all_filtered (filter_of old.addresses) frames) ≢ []
+    pub left : new.loopback ≡ drop 64 old.loopback
     pub heard : RecordsSenders old.cluster (all_filtered (filter_of old.addresses) frames) old.addresses new.addresses
     pub network : IsSameFilter old.addresses new.addresses
 
   -- what is taken in a turn: what waits, and a tick where one is due
-  pub record AddsGroup (tells : Type 0) (frames : List (SocketAddr × List ℕ)) (group now : GroupValue)
+  pub record AddsGroup (observable : Type 0) (frames : List (SocketAddr × List ℕ)) (group now : GroupValue)
       (old new : ServerValue R) : Type 0 where
-    pub received : HasReceived tells frames old new
+    pub received : HasReceived observable frames old new
     pub given : List (Option (List ℕ))
     pub may : Given old.pace old.received
-        (datagrams_in (take 64 old.own_letters) (all_filtered (filter_of old.addresses) frames)) given
+        (datagrams_in (take 64 old.loopback) (all_filtered (filter_of old.addresses) frames)) given
     pub gathers : GathersMore Gathers given group now old.replica new.replica
     pub counted : new.received
-        ≡ counted old.received (datagrams_in (take 64 old.own_letters) (all_filtered (filter_of old.addresses) frames))
+        ≡ counted old.received (datagrams_in (take 64 old.loopback) (all_filtered (filter_of old.addresses) frames))
     pub ticks : new.ticks ≡ all_ticks old.ticks given
-    pub left : new.own_letters ≡ drop 64 old.own_letters
+    pub left : new.loopback ≡ drop 64 old.loopback
     pub heard : RecordsSenders old.cluster (all_filtered (filter_of old.addresses) frames) old.addresses new.addresses
     pub network : IsSameFilter old.addresses new.addresses
 
@@ -138,13 +138,13 @@ module _ {R : Type 0} (Says : Sayings R) (Gathers : Gatherings R) where
     pub ticks : new.ticks ≡ all_ticks old.ticks given
 
   -- the replica ended at the first letters of the node to itself, of which it took this many
-  pub record EndsOwnLetters (most : ℕ) (group : GroupValue) (old new : ServerValue R) : Type 0 where
+  pub record EndsLoopback (most : ℕ) (group : GroupValue) (old new : ServerValue R) : Type 0 where
     pub count : ℕ
     pub at_most : count ≤ most
     pub some : count ≢ 0
-    pub waited : old.own_letters ≢ []
-    pub ends : EndsWithin (datagrams_in (take count old.own_letters) []) group old new
-    pub left : new.own_letters ≡ drop count old.own_letters
+    pub waited : old.loopback ≢ []
+    pub ends : EndsWithin (datagrams_in (take count old.loopback) []) group old new
+    pub left : new.loopback ≡ drop count old.loopback
 
   -- the replica ended at the content of these frames
   pub record EndsHeard (frames : List (SocketAddr × List ℕ)) (group : GroupValue)
@@ -154,23 +154,23 @@ module _ {R : Type 0} (Says : Sayings R) (Gathers : Gatherings R) where
     pub network : IsSameFilter old.addresses new.addresses
 
   -- the replica ended at their content, and exactly these frames came from the socket, in order
-  pub record EndsSocket (tells : Type 0) (frames : List (SocketAddr × List ℕ)) (group : GroupValue)
+  pub record EndsSocket (observable : Type 0) (frames : List (SocketAddr × List ℕ)) (group : GroupValue)
       (old new : ServerValue R) : Type 0 where
     pub ends : EndsHeard frames group old new
-    pub comes : tells → old.incoming ≡ frames ++ new.incoming
+    pub comes : observable → old.incoming ≡ frames ++ new.incoming
 
   -- the replica ended at the input of a turn
-  pub record EndsGroup (tells : Type 0) (frames : List (SocketAddr × List ℕ)) (group : GroupValue)
+  pub record EndsGroup (observable : Type 0) (frames : List (SocketAddr × List ℕ)) (group : GroupValue)
       (old new : ServerValue R) : Type 0 where
-    pub received : HasReceived tells frames old new
+    pub received : HasReceived observable frames old new
     pub count : ℕ
-    pub letters : TakesLetters count old.own_letters
+    pub letters : TakesLetters count old.loopback
     pub given : List (Option (List ℕ))
     pub first : GivenPrefix old.pace old.received
-        (datagrams_in (take count old.own_letters) (all_filtered (filter_of old.addresses) frames)) given
+        (datagrams_in (take count old.loopback) (all_filtered (filter_of old.addresses) frames)) given
     pub silent : SaysNoMore Says Gathers given group old.replica new.replica
     pub ticks : new.ticks ≡ all_ticks old.ticks given
-    pub left : new.own_letters ≡ drop count old.own_letters
+    pub left : new.loopback ≡ drop count old.loopback
     pub heard : RecordsSenders old.cluster (all_filtered (filter_of old.addresses) frames) old.addresses new.addresses
     pub network : IsSameFilter old.addresses new.addresses
 
@@ -180,14 +180,14 @@ module _ {R : Type 0} (Says : Sayings R) (Gathers : Gatherings R) where
   pub record SaysNothing (group : GroupValue) (old new : ServerValue R) : Type 0 where
     pub silent : (start : R) (given : List (Option (List ℕ))) → Gathers start given group old.replica
         → Says start given [] new.replica
-    pub own_letters : new.own_letters ≡ old.own_letters
+    pub loopback : new.loopback ≡ old.loopback
     pub sent : new.sent ≡ old.sent
     pub failures : new.socket_failures ≡ old.socket_failures
 
   -- whatever input the group had since the server was in this state, with nothing of it sent, the server has handed on
   -- the replica's letters
   abbrev pub DeliversAllLetters : Type 0 → GroupValue → ServerValue R → ServerValue R → Type 0
-  DeliversAllLetters tells group old new =
+  DeliversAllLetters observable group old new =
       (start : ServerValue R) (given : List (Option (List ℕ))) → Gathers start.replica given group old.replica
       → start.sent ≡ old.sent → start.socket_failures ≡ old.socket_failures
-      → DeliversLetters Says tells given old.own_letters start new
+      → DeliversLetters Says observable given old.loopback start new

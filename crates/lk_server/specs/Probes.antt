@@ -6,7 +6,7 @@ use Rattle.lk_probe.specs.declared.probe.Report.{Report}
 use Rattle.lk_probe.specs.declared.status.Status.{Status}
 use Rattle.lk_server.specs.Servers.{ServerValue, send_state_at}
 use Rattle.lk_transport.specs.declared.received_probe.ReceivedProbe.{ReceivedProbe}
-use Rattle.lk_served_replica.specs.declared.probed_state.ProbedState.{ProbedState}
+use Rattle.lk_server_replica.specs.declared.probed_state.ProbedState.{ProbedState}
 use Rattle.lk_transport.specs.Askers.{Replies}
 
 -- ---- what a node tells
@@ -36,19 +36,19 @@ pub record IsReportTo (node : ℕ) (genesis : List ℕ) (count : ℕ) (shown : P
 
 -- the probe was answered, by the server's own count of ticks, and nothing else is sent or changed; nor is what is to
 -- come, if the socket tells that. `Shows` is what a replica shows
-pub record RepliesToProbe {R : Type 0} (Shows : R → ProbedState → Type 0) (tells : Type 0) (a : ReceivedProbe)
+pub record RepliesToProbe {R : Type 0} (Shows : R → ProbedState → Type 0) (observable : Type 0) (a : ReceivedProbe)
     (old new : ServerValue R) : Type 0 where
   pub shown : ProbedState
   pub shows : Shows old.replica shown
   pub bytes : List ℕ
   pub reports : IsReportTo old.node old.addresses.seals.genesis old.ticks shown a.probe bytes
-  pub replies : Replies tells old.addresses.seals a bytes (send_state_at old.own_letters old)
-      (send_state_at new.own_letters new)
-  pub still : tells → new.incoming ≡ old.incoming
+  pub replies : Replies observable old.addresses.seals a bytes (send_state_at old.loopback old)
+      (send_state_at new.loopback new)
+  pub still : observable → new.incoming ≡ old.incoming
   pub same : new ≡ record old { sent = new.sent; socket_failures = new.socket_failures; incoming = new.incoming }
 
 -- the probe that is kept was answered, if one is; else nothing is sent or changed
 abbrev pub RepliesToKept : {R : Type 0} → (R → ProbedState → Type 0) → Type 0 → Option ReceivedProbe
     → ServerValue R → ServerValue R → Type 0
-RepliesToKept Shows tells None old new = new ≡ old
-RepliesToKept Shows tells (Some a) old new = RepliesToProbe Shows tells a old new
+RepliesToKept Shows observable None old new = new ≡ old
+RepliesToKept Shows observable (Some a) old new = RepliesToProbe Shows observable a old new

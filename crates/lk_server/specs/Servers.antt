@@ -20,7 +20,7 @@ pub record ServerValue (R : Type 0) : Type 0 where
   pub pace : Pace
   pub replica : R
   -- the letters of the node to itself that it has not taken yet
-  pub own_letters : List LetterValue
+  pub loopback : List LetterValue
   -- from where others wrote, the hosts, the keys, and which genesis is known at which address
   pub addresses : AddressBook
   -- how many datagrams came, and how many ticks its replica was given
@@ -44,7 +44,7 @@ pub record IsConfiguredAs {R : Type 0} (c n : ℕ) (p : Pace) (known : Network) 
 
 -- nobody has written to it yet, not even itself, and it has counted no tick
 pub record HasHeardNobody {R : Type 0} (s : ServerValue R) : Type 0 where
-  pub own_letters : s.own_letters ≡ []
+  pub loopback : s.loopback ≡ []
   pub received : s.received ≡ 0
   pub ticks : s.ticks ≡ 0
   pub clients : (c : ℕ) → IsClient c → client_at s.addresses c ≡ None
@@ -105,8 +105,8 @@ Given pace received (bytes ∷ more) given =
 
 -- the datagrams that a turn takes: letters of the node to itself, and what came from the socket
 abbrev pub datagrams_in : List LetterValue → List (SocketAddr × List ℕ) → List (List ℕ)
-datagrams_in own_letters came =
-    map (λ (l : LetterValue). l.bytes) own_letters ++ map (λ (c : SocketAddr × List ℕ). c.1) came
+datagrams_in loopback came =
+    map (λ (l : LetterValue). l.bytes) loopback ++ map (λ (c : SocketAddr × List ℕ). c.1) came
 
 -- it is a prefix of the other list
 abbrev pub IsPrefix : {X : Type 0} → List X → List X → Type 0
@@ -128,26 +128,26 @@ pub record Grows (old new : List LetterValue) : Type 0 where
 
 -- what the letters may change, given the kept letters of the node to itself
 abbrev pub send_state_at : {R : Type 0} → List LetterValue → ServerValue R → SendState
-send_state_at own_letters s = record { own_letters = own_letters; sent = s.sent; failures = s.socket_failures }
+send_state_at loopback s = record { loopback = loopback; sent = s.sent; failures = s.socket_failures }
 
 -- the replica took exactly this input as one group and produced these letters; each was kept, sent to its destination,
 -- or lost by a failed send, in order, and nothing else was sent or kept. `own_letters` are the earlier ones to the node
 -- itself, without those that were taken
 pub record DeliversLetters {R : Type 0}
-    (Says : R → List (Option (List ℕ)) → List LetterValue → R → Type 0) (tells : Type 0)
-    (given : List (Option (List ℕ))) (own_letters : List LetterValue) (old new : ServerValue R) : Type 0 where
+    (Says : R → List (Option (List ℕ)) → List LetterValue → R → Type 0) (observable : Type 0)
+    (given : List (Option (List ℕ))) (loopback : List LetterValue) (old new : ServerValue R) : Type 0 where
   pub letters : List LetterValue
   pub says : Says old.replica given letters new.replica
-  pub kept : Grows own_letters new.own_letters
-  pub carried : CarriesAll (Becomes tells new.node new.addresses) (send_state_at own_letters old) letters
-      (send_state_at new.own_letters new)
+  pub kept : Grows loopback new.loopback
+  pub carried : CarriesAll (Becomes observable new.node new.addresses) (send_state_at loopback old) letters
+      (send_state_at new.loopback new)
 
 -- the replica took exactly this input and produced nothing: no letter was kept or sent. `stood` are the earlier
 -- letters of the node to itself
 pub record DeliversNothing {R : Type 0} (Says : R → List (Option (List ℕ)) → List LetterValue → R → Type 0)
     (given : List (Option (List ℕ))) (stood : List LetterValue) (old new : ServerValue R) : Type 0 where
   pub says : Says old.replica given [] new.replica
-  pub own_letters : new.own_letters ≡ stood
+  pub loopback : new.loopback ≡ stood
   pub sent : new.sent ≡ old.sent
   pub failures : new.socket_failures ≡ old.socket_failures
 
@@ -157,25 +157,25 @@ pub record DeliversNothing {R : Type 0} (Says : R → List (Option (List ℕ)) �
 -- these frames came: none where letters of the node to itself wait, and at most 64. They are the first of those that
 -- were to come, the others are still to come, and where the server looked at the socket and none came, none was to
 -- come, if the socket tells that
-pub record HasReceived {R : Type 0} (tells : Type 0) (frames : List (SocketAddr × List ℕ))
+pub record HasReceived {R : Type 0} (observable : Type 0) (frames : List (SocketAddr × List ℕ))
     (old new : ServerValue R) : Type 0 where
-  pub alone : (old.own_letters ≡ []) ⊎ (frames ≡ [])
+  pub alone : (old.loopback ≡ []) ⊎ (frames ≡ [])
   pub few : length frames ≤ 64
-  pub comes : tells → old.incoming ≡ frames ++ new.incoming
-  pub waited : tells → old.own_letters ≡ [] → frames ≡ [] → old.incoming ≡ []
+  pub comes : observable → old.incoming ≡ frames ++ new.incoming
+  pub waited : observable → old.loopback ≡ [] → frames ≡ [] → old.incoming ≡ []
 
 -- what may be taken of the socket: nothing where letters of the node to itself wait, at most 64 datagrams, and the
 -- first of what is to come if the socket tells that
-pub record LettersFirst {R : Type 0} (tells : Type 0) (came : List (SocketAddr × List ℕ))
+pub record LettersFirst {R : Type 0} (observable : Type 0) (came : List (SocketAddr × List ℕ))
     (old : ServerValue R) : Type 0 where
-  pub alone : (old.own_letters ≡ []) ⊎ (came ≡ [])
+  pub alone : (old.loopback ≡ []) ⊎ (came ≡ [])
   pub few : length came ≤ 64
-  pub comes : tells → old.own_letters ≡ [] → IsPrefix came (all_filtered (filter_of old.addresses) old.incoming)
+  pub comes : observable → old.loopback ≡ [] → IsPrefix came (all_filtered (filter_of old.addresses) old.incoming)
 
 -- so many letters of the node to itself are taken: at most 64, and at least one where some wait
-pub record TakesLetters (count : ℕ) (own_letters : List LetterValue) : Type 0 where
+pub record TakesLetters (count : ℕ) (loopback : List LetterValue) : Type 0 where
   pub at_most : count ≤ 64
-  pub some : count ≡ 0 → own_letters ≡ []
+  pub some : count ≡ 0 → loopback ≡ []
 
 -- it is the server of the same node, and its ticks go by the same
 pub record IsSameServer {R : Type 0} (old new : ServerValue R) : Type 0 where
@@ -186,13 +186,13 @@ pub record IsSameServer {R : Type 0} (old new : ServerValue R) : Type 0 where
 -- Where letters of the node to itself wait, it takes the first 64 of them, in order, and nothing of the socket; else
 -- what came. Its replica was given just that as one group, and a tick where one was due, and each tick was counted;
 -- whoever sent what came was heard, and it goes on
-pub record Turn {R : Type 0} (Says : R → List (Option (List ℕ)) → List LetterValue → R → Type 0) (tells : Type 0)
+pub record Turn {R : Type 0} (Says : R → List (Option (List ℕ)) → List LetterValue → R → Type 0) (observable : Type 0)
     (came : List (SocketAddr × List ℕ)) (old new : ServerValue R) : Type 0 where
-  pub takes : LettersFirst tells came old
+  pub letters_first : LettersFirst observable came old
   pub given : List (Option (List ℕ))
-  pub may : Given old.pace old.received (datagrams_in (take 64 old.own_letters) came) given
-  pub hands_on : DeliversLetters Says tells given (drop 64 old.own_letters) old new
-  pub counted : new.received ≡ counted old.received (datagrams_in (take 64 old.own_letters) came)
+  pub may : Given old.pace old.received (datagrams_in (take 64 old.loopback) came) given
+  pub hands_on : DeliversLetters Says observable given (drop 64 old.loopback) old new
+  pub counted : new.received ≡ counted old.received (datagrams_in (take 64 old.loopback) came)
   pub ticks : new.ticks ≡ all_ticks old.ticks given
   pub heard : RecordsSenders old.cluster came old.addresses new.addresses
   pub same : IsSameServer old new
@@ -200,14 +200,15 @@ pub record Turn {R : Type 0} (Says : R → List (Option (List ℕ)) → List Let
 
 -- A turn has ended the replica, after a prefix of its input or at the sync after all of it: this many letters of the
 -- node to itself were taken, and the last datagram that arrived has ended it; nothing of the group is sent
-pub record LastTurn {R : Type 0} (Says : R → List (Option (List ℕ)) → List LetterValue → R → Type 0) (tells : Type 0)
+pub record LastTurn {R : Type 0} (Says : R → List (Option (List ℕ)) → List LetterValue → R
+    → Type 0) (observable : Type 0)
     (came : List (SocketAddr × List ℕ)) (old new : ServerValue R) : Type 0 where
-  pub takes : LettersFirst tells came old
+  pub letters_first : LettersFirst observable came old
   pub count : ℕ
-  pub letters : TakesLetters count old.own_letters
+  pub letters : TakesLetters count old.loopback
   pub given : List (Option (List ℕ))
-  pub first : GivenPrefix old.pace old.received (datagrams_in (take count old.own_letters) came) given
-  pub hands_on : DeliversLetters Says tells given (drop count old.own_letters) old new
+  pub first : GivenPrefix old.pace old.received (datagrams_in (take count old.loopback) came) given
+  pub hands_on : DeliversLetters Says observable given (drop count old.loopback) old new
   pub silent : hands_on.letters ≡ []
   pub ticks : new.ticks ≡ all_ticks old.ticks given
   pub heard : RecordsSenders old.cluster came old.addresses new.addresses
@@ -217,17 +218,17 @@ pub record LastTurn {R : Type 0} (Says : R → List (Option (List ℕ)) → List
 -- An idle turn: no letter of the node to itself waited, these frames came, and none of them says anything to the
 -- replica. It was given nothing, nothing was sent, and nothing is changed but what is to come: that is now what follows
 -- these frames. By datagrams a turn in which no frame comes is never idle: it is a tick
-pub record IsIdle {R : Type 0} (tells : Type 0) (frames : List (SocketAddr × List ℕ))
+pub record IsIdle {R : Type 0} (observable : Type 0) (frames : List (SocketAddr × List ℕ))
     (old new : ServerValue R) : Type 0 where
-  pub own_letters : old.own_letters ≡ []
+  pub loopback : old.loopback ≡ []
   pub none : all_filtered (filter_of old.addresses) frames ≡ []
   pub clock : frames ≡ [] → old.pace ≡ Clock
-  pub comes : tells → old.incoming ≡ frames ++ new.incoming
+  pub comes : observable → old.incoming ≡ frames ++ new.incoming
   pub same : record new { incoming = old.incoming } ≡ old
 
 -- a turn in which these frames came: its replica was given what was taken of them, or what waited, or a tick; or the
 -- turn is idle
-abbrev pub TakesTurn : {R : Type 0} (Says : R → List (Option (List ℕ)) → List LetterValue → R → Type 0)
-    (tells : Type 0) → List (SocketAddr × List ℕ) → ServerValue R → ServerValue R → Type 0
-TakesTurn Says tells frames old new =
-    Turn Says tells (all_filtered (filter_of old.addresses) frames) old new ⊎ IsIdle tells frames old new
+abbrev pub TurnOrIdle : {R : Type 0} (Says : R → List (Option (List ℕ)) → List LetterValue → R → Type 0)
+    (observable : Type 0) → List (SocketAddr × List ℕ) → ServerValue R → ServerValue R → Type 0
+TurnOrIdle Says observable frames old new =
+    Turn Says observable (all_filtered (filter_of old.addresses) frames) old new ⊎ IsIdle observable frames old new

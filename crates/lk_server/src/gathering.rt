@@ -8,8 +8,8 @@ ghost use Rattle.std.specs.Prelude.{◌≡◌, ℕ, List, ◌∷◌, [], Some, N
 ghost use Rattle.std.specs.declared.net.socket_addr.SocketAddr.{SocketAddr as Address};
 ghost use Rattle.lk_node_interface.specs.Letters.{LetterValue};
 ghost use Rattle.lk_node.specs.Calls.{heard_by};
-ghost use Rattle.lk_served_replica.specs.Groups.{GathersMore, SaysNoMore};
-ghost use Rattle.lk_server.specs.Gatherings.{Finds, AddsAll, EndsWithin, AddsOwnLetters, EndsOwnLetters, AddsWaiting};
+ghost use Rattle.lk_server_replica.specs.Groups.{GathersMore, SaysNoMore};
+ghost use Rattle.lk_server.specs.Gatherings.{Finds, AddsAll, EndsWithin, AddsLoopback, EndsLoopback, AddsWaiting};
 ghost use Rattle.lk_server.specs.Gatherings.{AddsGroup};
 ghost use Rattle.lk_server.specs.Gatherings.{EndsGroup, ChangesAtDatagram, ChangesAtLetter, ChangesInGroup};
 ghost use Rattle.lk_transport.specs.Kept.{KeepsOf};
@@ -22,7 +22,7 @@ use lk_node_interface::{Input, Letter};
 use lk_pacing::tick_timer::TickTimer;
 use lk_pacing::turn_input::TurnInput;
 use lk_replica::Group;
-use lk_served_replica::ServedReplica;
+use lk_server_replica::ServerReplica;
 use lk_transport::arrival::Arrival;
 use lk_transport::receive_buffer::ReceiveBuffer;
 use lk_transport::socket::DatagramSocket;
@@ -33,14 +33,14 @@ use std::time::{Clock, Duration};
 // A group has at most this many datagrams after its first.
 pub(crate) const FURTHER: u64 = 63;
 
-impl<R: ServedReplica, S: DatagramSocket + Drop> Server<R, S> {
+impl<R: ServerReplica, S: DatagramSocket + Drop> Server<R, S> {
     // Removes the first letter of the node to itself.
     fn next_letter(&mut self) -> Option<Letter>
-        ensures some { IfSome result (λ l. self.old.own_letters ≡ l ∷ self.new.own_letters) }
-        ensures none { IsNone result → (self.old.own_letters ≡ []) × (self.new ≡ self.old) }
-        ensures others { self.new ≡ record self.old { own_letters = self.new.own_letters } }
+        ensures some { IfSome result (λ l. self.old.loopback ≡ l ∷ self.new.loopback) }
+        ensures none { IsNone result → (self.old.loopback ≡ []) × (self.new ≡ self.old) }
+        ensures others { self.new ≡ record self.old { loopback = self.new.loopback } }
     {
-        self.post.next_own_letter()
+        self.post.next_loopback()
     }
 
     // Limits how long a receive waits for the next datagram; it may take up to 10 ms longer.
@@ -104,7 +104,7 @@ impl<R: ServedReplica, S: DatagramSocket + Drop> Server<R, S> {
         group: &mut Group,
         log: &L,
     ) -> Result<(), GroupFault>
-        ensures takes { OnOk result (AddsAll R.Gathers (datagram.entry ∷ []) group.old group.new self.old self.new) }
+        ensures adds { OnOk result (AddsAll R.Gathers (datagram.entry ∷ []) group.old group.new self.old self.new) }
         ensures ends { OnErr result (EndsWithin R.Says R.Gathers (datagram.entry ∷ []) group.old self.old self.new) }
         ensures others { ChangesAtDatagram self.old self.new }
         ensures broken { OnErr result (self.new.failed ≡ true) }
@@ -118,14 +118,14 @@ impl<R: ServedReplica, S: DatagramSocket + Drop> Server<R, S> {
     }
 
     // Adds the first letter of the node to itself to the group. Returns whether one was waiting.
-    fn add_own_letter<L: Log>(&mut self, group: &mut Group, log: &L) -> Result<bool, GroupFault>
-        ensures takes { IfOk result
-            (λ some. some ≡ true → (l : LetterValue) × (self.old.own_letters ≡ l ∷ self.new.own_letters)
+    fn add_loopback<L: Log>(&mut self, group: &mut Group, log: &L) -> Result<bool, GroupFault>
+        ensures adds { IfOk result
+            (λ some. some ≡ true → (l : LetterValue) × (self.old.loopback ≡ l ∷ self.new.loopback)
             × AddsAll R.Gathers (l.bytes ∷ []) group.old group.new self.old self.new) }
         ensures none { IfOk result
-            (λ some. some ≡ false → (self.old.own_letters ≡ []) × (self.new ≡ self.old) × (group.new ≡ group.old)) }
+            (λ some. some ≡ false → (self.old.loopback ≡ []) × (self.new ≡ self.old) × (group.new ≡ group.old)) }
         ensures ends { OnErr result
-            ((l : LetterValue) × (self.old.own_letters ≡ l ∷ self.new.own_letters)
+            ((l : LetterValue) × (self.old.loopback ≡ l ∷ self.new.loopback)
             × EndsWithin R.Says R.Gathers (l.bytes ∷ []) group.old self.old self.new) }
         ensures others { ChangesAtLetter self.old self.new }
         ensures broken { OnErr result (self.new.failed ≡ true) }
@@ -140,14 +140,14 @@ impl<R: ServedReplica, S: DatagramSocket + Drop> Server<R, S> {
     }
 
     // Adds further letters of the node to itself to the group, in order, at most 63.
-    fn add_own_letters<L: Log>(&mut self, group: &mut Group, log: &L) -> Result<(), GroupFault>
-        ensures takes { OnOk result (AddsOwnLetters R.Gathers 63 group.old group.new self.old self.new) }
-        ensures ends { OnErr result (EndsOwnLetters R.Says R.Gathers 63 group.old self.old self.new) }
+    fn add_loopbacks<L: Log>(&mut self, group: &mut Group, log: &L) -> Result<(), GroupFault>
+        ensures adds { OnOk result (AddsLoopback R.Gathers 63 group.old group.new self.old self.new) }
+        ensures ends { OnErr result (EndsLoopback R.Says R.Gathers 63 group.old self.old self.new) }
         ensures others { ChangesAtLetter self.old self.new }
         ensures broken { OnErr result (self.new.failed ≡ true) }
     {
         'letters: for _ in 0..FURTHER {
-            if !self.add_own_letter(group, log)? {
+            if !self.add_loopback(group, log)? {
                 return Ok(());
             }
         }
@@ -164,14 +164,14 @@ impl<R: ServedReplica, S: DatagramSocket + Drop> Server<R, S> {
         group: &mut Group,
         log: &L,
     ) -> Result<TurnInput, GroupFault>
-        ensures takes { IfOk result
+        ensures adds { IfOk result
             (λ found. found ≡ TurnInput.Something
             → (frames : List (Address × List ℕ))
             × AddsWaiting R.Gathers S.is_observable frames group.old group.new self.old self.new
             × KeepsOf self.old.node self.old.addresses.seals frames buffer.old buffer.new) }
         ensures none { IfOk result
             (λ found. (found ≡ TurnInput.Something → ⊥)
-            → (self.old.own_letters ≡ []) × (frames : List (Address × List ℕ))
+            → (self.old.loopback ≡ []) × (frames : List (Address × List ℕ))
             × Finds S.is_observable found frames self.old self.new × (group.new ≡ group.old)
             × KeepsOf self.old.node self.old.addresses.seals frames buffer.old buffer.new) }
         ensures ends { OnErr result
@@ -180,10 +180,10 @@ impl<R: ServedReplica, S: DatagramSocket + Drop> Server<R, S> {
         ensures others { ChangesInGroup self.old self.new }
         ensures broken { OnErr result (self.new.failed ≡ true) }
     {
-        if !self.add_own_letter(group, log)? {
+        if !self.add_loopback(group, log)? {
             return self.add_from_socket(buffer, tick_timer, group, log);
         }
-        self.add_own_letters(group, log)?;
+        self.add_loopbacks(group, log)?;
         Ok(TurnInput::Something)
     }
 
@@ -196,7 +196,7 @@ impl<R: ServedReplica, S: DatagramSocket + Drop> Server<R, S> {
         group: &mut Group,
         log: &L,
     ) -> Result<bool, GroupFault>
-        ensures takes { IfOk result
+        ensures adds { IfOk result
             (λ some. some ≡ true → (frames : List (Address × List ℕ))
             × AddsGroup R.Gathers S.is_observable frames group.old group.new self.old self.new
             × KeepsOf self.old.node self.old.addresses.seals frames buffer.old buffer.new) }

@@ -2,11 +2,11 @@
 
 ghost use Rattle.std.specs.Prelude.{◌≡◌};
 ghost use Rattle.lk_transport.specs.Faults.{replica_fault};
-ghost use Rattle.lk_server.specs.GroupFaults.{service_fault};
-ghost use Rattle.lk_served_replica.specs.Refusals.{IsOfGroups};
+ghost use Rattle.lk_server.specs.GroupFaults.{program_fault};
+ghost use Rattle.lk_server_replica.specs.Refusals.{IsOfGroups};
 
 use lk_node_interface::ReplicaFault;
-use lk_transport::fault::ServiceFault;
+use lk_transport::fault::ProgramFault;
 
 /// Why a group ended a replica. Nothing of it is sent.
 #[derive(Clone, Copy, Debug)]
@@ -26,7 +26,7 @@ impl GroupFault {
     /// of another node, and a failed send ends no group.
     pub fn of(fault: &ReplicaFault) -> GroupFault
         requires { IsOfGroups fault.now }
-        ensures { service_fault result ≡ replica_fault fault.now }
+        ensures { program_fault result ≡ replica_fault fault.now }
     {
         match fault {
             ReplicaFault::Device => GroupFault::Device,
@@ -39,17 +39,17 @@ impl GroupFault {
     }
 }
 
-impl From<GroupFault> for ServiceFault {
-    ghost use Rattle.lk_server.specs.GroupFaults.{service_fault as told_as};
+impl From<GroupFault> for ProgramFault {
+    ghost use Rattle.lk_server.specs.GroupFaults.{program_fault as told_as};
 
     ghost from_gives = { λ f e. e ≡ told_as f };
 
-    fn from(fault: GroupFault) -> ServiceFault {
+    fn from(fault: GroupFault) -> ProgramFault {
         match fault {
-            GroupFault::Device => ServiceFault::Device,
-            GroupFault::NoMemory => ServiceFault::NoMemory,
-            GroupFault::Failed => ServiceFault::Failed,
-            GroupFault::Halted => ServiceFault::Halted,
+            GroupFault::Device => ProgramFault::Device,
+            GroupFault::NoMemory => ProgramFault::NoMemory,
+            GroupFault::Failed => ProgramFault::Failed,
+            GroupFault::Halted => ProgramFault::Halted,
         }
     }
 }

@@ -24,7 +24,7 @@ pub fn is_told_or_asked()
 {}
 
 /// If nodes and clients have keys, a frame that nobody sealed with one of them gives a replica the empty datagram. That
-/// is no message of any cluster, so a node handles nothing (`TakesBytes`): its step only proposes what was open.
+/// is no message of any cluster, so a node handles nothing (`HandlesBytes`): its step only proposes what was open.
 pub fn unsealed_frames_are_ignored()
     ensures opens { (s : Seals) (frame : List ℕ) → key_list s.nodes ≢ [] → key_list s.clients ≢ [] → IsUnsealed s frame
         → heard s frame ≡ [] }

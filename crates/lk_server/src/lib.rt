@@ -1,4 +1,4 @@
-//! A node that serves on a socket: the server, its turns, and the probes that it answers. Folders and files belong to
+//! A node that runs on a socket: the server, its turns, and its replies to probes. Folders and files belong to
 //! the crates above.
 #![tactic(auto)]
 

@@ -1,4 +1,4 @@
-//! How a server handles probes after a turn: it answers one, and finds out which genesis each node that writes to it
+//! How a server handles probes after a turn: it replies to one, and finds out which genesis each node that writes to it
 //! was started with.
 
 ghost use Rattle.std.specs.Prelude.{◌≡◌, None};
@@ -11,7 +11,7 @@ ghost use Rattle.lk_server.specs.Servers.{send_state_at};
 use crate::server::Server;
 use crate::watching::log_stranger;
 use lk_probe::neighbours::{Neighbour, Origin};
-use lk_served_replica::ServedReplica;
+use lk_server_replica::ServerReplica;
 use lk_transport::receive_buffer::ReceiveBuffer;
 use lk_transport::received_probe::ReceivedProbe;
 use lk_transport::socket::DatagramSocket;
@@ -21,7 +21,7 @@ use log::Log;
 // A minute in ticks of 100 ms. Where ticks go by datagrams they may be faster.
 const MINUTE: u64 = 600;
 
-impl<R: ServedReplica, S: DatagramSocket + Drop> Server<R, S> {
+impl<R: ServerReplica, S: DatagramSocket + Drop> Server<R, S> {
     /// Returns the node's number and the digest of its genesis.
     pub fn origin(&self) -> Origin
         ensures { result ≡ record { node = self.now.node; genesis = self.now.addresses.seals.genesis } }
@@ -77,7 +77,7 @@ impl<R: ServedReplica, S: DatagramSocket + Drop> Server<R, S> {
         ensures network { IsSameNetwork self.old.addresses self.new.addresses }
         ensures others { self.new ≡ record self.old { addresses = self.new.addresses } }
     {
-        let Some(reported) = buffer.take_reported() else {
+        let Some(reported) = buffer.pop_reported() else {
             return;
         };
         let learned = self.post.learn(&reported);
@@ -87,7 +87,7 @@ impl<R: ServedReplica, S: DatagramSocket + Drop> Server<R, S> {
     // Probes one address for the genesis of its node, if that is due at this count of ticks. A failed send is counted.
     pub(crate) fn probe_next(&mut self, now: u64)
         ensures asks { AsksOne S.is_observable now self.old.node self.old.addresses self.new.addresses
-            (send_state_at self.old.own_letters self.old) (send_state_at self.new.own_letters self.new) }
+            (send_state_at self.old.loopback self.old) (send_state_at self.new.loopback self.new) }
         ensures network { IsSameNetwork self.old.addresses self.new.addresses }
         ensures still { S.is_observable → self.new.incoming ≡ self.old.incoming }
         ensures others { self.new
@@ -118,8 +118,8 @@ impl<R: ServedReplica, S: DatagramSocket + Drop> Server<R, S> {
         self.post.followed_stranger()
     }
 
-    /// Handles probes after the letters of a turn. It answers the probe that the buffer keeps; if the node that sent it
-    /// has this genesis, that node's datagrams are taken again. It learns from the report that the buffer keeps, and
+    /// Handles probes after the letters of a turn. It replies to the probe that the buffer keeps; if the node that sent
+    /// it has this genesis, that node's datagrams are taken again. It learns from the report that the buffer keeps, and
     /// probes one node if that is due. Returns the first node of another genesis that this one has followed, if there
     /// is one; the caller then ends the node.
     pub fn handle_probes<L: Log>(&mut self, buffer: &mut ReceiveBuffer, log: &L) -> Option<Origin>
@@ -127,7 +127,7 @@ impl<R: ServedReplica, S: DatagramSocket + Drop> Server<R, S> {
         ensures kept { buffer.new ≡ record buffer.old { asked = None; reported = None } }
         ensures bound { result ≡ bound_in self.new.addresses.neighbours }
     {
-        let asked = buffer.take_probe();
+        let asked = buffer.pop_probe();
         self.report_to(&asked);
         self.readmit(&asked);
         self.learn(buffer, log);

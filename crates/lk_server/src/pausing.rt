@@ -8,7 +8,7 @@ use crate::server::Server;
 use lk_pacing::sync_pause::SyncPause;
 use lk_pacing::tick_timer::TickTimer;
 use lk_replica::Group;
-use lk_served_replica::ServedReplica;
+use lk_server_replica::ServerReplica;
 use lk_transport::post::SocketPost;
 use lk_transport::receive_buffer::ReceiveBuffer;
 use lk_transport::socket::DatagramSocket;
@@ -79,7 +79,7 @@ pub(crate) fn receive_or_pause<S: DatagramSocket + Drop, C: Clock>(
     receive_after_pause(post, pause, buffer, tick_timer, group);
 }
 
-impl<R: ServedReplica, S: DatagramSocket + Drop> Server<R, S> {
+impl<R: ServerReplica, S: DatagramSocket + Drop> Server<R, S> {
     // Records how long the end of this group took since `began`, and how many letters it had, if it needed a sync.
     // Later pauses depend on both. Contracts do not see pauses, so none sees a change here.
     pub(crate) fn note_sync<C: Clock>(

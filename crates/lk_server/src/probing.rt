@@ -1,16 +1,16 @@
-//! Composes a node's report, and answers a probe with it.
+//! Composes a node's report, and replies to a probe with it.
 
 ghost use Rattle.std.specs.Prelude.{◌≡◌};
 ghost use Rattle.lk_server.specs.Probes.{RepliesToKept, IsReportTo, ReportsStatus};
-ghost use Rattle.lk_served_replica.specs.declared.probed_state.ProbedState.{ProbedState as ProbedStateValue};
+ghost use Rattle.lk_server_replica.specs.declared.probed_state.ProbedState.{ProbedState as ProbedStateValue};
 
 use crate::server::Server;
 use lk_probe::{Identity, LENGTH, PROGRAM, Status, Traffic};
-use lk_served_replica::{ServedReplica, TableVersion};
+use lk_server_replica::{ServerReplica, TableVersion};
 use lk_transport::received_probe::ReceivedProbe;
 use lk_transport::socket::DatagramSocket;
 
-impl<R: ServedReplica, S: DatagramSocket + Drop> Server<R, S> {
+impl<R: ServerReplica, S: DatagramSocket + Drop> Server<R, S> {
     /// Returns what it reports of its node: what the replica shows, the digest of the genesis, its count of ticks and
     /// what else it has counted itself, and the version of the lock table, as it was last read.
     pub fn status(&self) -> Status
@@ -45,7 +45,7 @@ impl<R: ServedReplica, S: DatagramSocket + Drop> Server<R, S> {
         }
     }
 
-    // Returns the bytes of the report that answers a probe: the server's status, with what its replica shows now.
+    // Returns the bytes of the report that replies to a probe: the server's status, with what its replica shows now.
     fn report(&self, asked: &ReceivedProbe) -> [u8; LENGTH]
         ensures { (shown : ProbedStateValue) × R.Shows self.now.replica shown
             × IsReportTo self.now.node self.now.addresses.seals.genesis self.now.ticks shown asked.now.probe result }
@@ -56,7 +56,7 @@ impl<R: ServedReplica, S: DatagramSocket + Drop> Server<R, S> {
             .datagram()
     }
 
-    /// Sends the report that answers a probe to where the probe came from, if there is one. Reads the lock table's
+    /// Sends the report that replies to a probe to where the probe came from, if there is one. Reads the lock table's
     /// version first if that is unknown. A failed send is counted.
     pub fn report_to(&mut self, asked: &Option<ReceivedProbe>)
         ensures replies { RepliesToKept R.Shows S.is_observable asked.now self.old self.new }

@@ -1,4 +1,4 @@
-//! A node that serves on a socket.
+//! A node that runs on a socket.
 
 ghost use Rattle.std.specs.Prelude.{◌≡◌, ℕ, List, ◌∷◌, [], None, true, false, OnOk, OnErr, IfOk, IfErr};
 ghost use Rattle.std.specs.declared.net.socket_addr.SocketAddr.{SocketAddr as Address};
@@ -6,10 +6,10 @@ ghost use Rattle.lk_transport.specs.Addresses.{filter_of, IsSameNetwork};
 ghost use Rattle.lk_server.specs.Gatherings.{Finds, DeliversAllLetters, SaysNothing};
 ghost use Rattle.lk_transport.specs.Posts.{all_filtered};
 ghost use Rattle.lk_transport.specs.Kept.{KeepsOf};
-ghost use Rattle.lk_served_replica.specs.Refusals.{IsOfGroups};
+ghost use Rattle.lk_server_replica.specs.Refusals.{IsOfGroups};
 ghost use Rattle.lk_server.specs.Servers.{DeliversLetters, DeliversNothing, HasHeardNobody, HasReceived, IsSameServer};
 ghost use Rattle.lk_server.specs.Servers.{LastTurn};
-ghost use Rattle.lk_server.specs.Servers.{Runs, IsConfiguredAs, HasSocket, TakesTurn, Turn, one_more_tick};
+ghost use Rattle.lk_server.specs.Servers.{Runs, IsConfiguredAs, HasSocket, TurnOrIdle, Turn, one_more_tick};
 
 use crate::group_fault::GroupFault;
 use crate::ignored::IgnoredCounts;
@@ -22,7 +22,7 @@ use lk_pacing::sync_pause::SyncPause;
 use lk_pacing::tick_timer::{FrozenClock, TickTimer};
 use lk_pacing::turn_input::TurnInput;
 use lk_replica::Group;
-use lk_served_replica::{ServedReplica, TableVersion};
+use lk_server_replica::{ServerReplica, TableVersion};
 use lk_transport::network::Network;
 use lk_transport::post::SocketPost;
 use lk_transport::receive_buffer::ReceiveBuffer;
@@ -33,9 +33,9 @@ use std::alloc::Global;
 use std::marker::Model;
 use std::time::Clock;
 
-/// A replica, and the post with the socket on which it serves.
+/// A replica, and the post with the socket on which it runs.
 #[derive(Drop)]
-pub struct Server<R: ServedReplica, S: DatagramSocket + Drop> {
+pub struct Server<R: ServerReplica, S: DatagramSocket + Drop> {
     pub(crate) alloc: Global,
     pub(crate) cluster: u64,
     pub(crate) pace: Pace,
@@ -46,7 +46,7 @@ pub struct Server<R: ServedReplica, S: DatagramSocket + Drop> {
     pub(crate) received: u64,
     // how many of them did not parse, and how many were of another cluster
     pub(crate) ignored: IgnoredCounts,
-    // what has happened since the last `take_events`
+    // what has happened since the last `drain_events`
     pub(crate) events: TurnEvents,
     // the ticks that its replica was given, and the sends that failed, since its start
     pub(crate) ticks: u64,
@@ -59,7 +59,7 @@ pub struct Server<R: ServedReplica, S: DatagramSocket + Drop> {
     pub(crate) stranger_warned: Option<u64>,
 }
 
-impl<R: ServedReplica, S: DatagramSocket + Drop> Model for Server<R, S> {
+impl<R: ServerReplica, S: DatagramSocket + Drop> Model for Server<R, S> {
     ghost use Rattle.lk_server.specs.Servers.{ServerValue};
 
     ghost Value = { ServerValue R };
@@ -69,7 +69,7 @@ impl<R: ServedReplica, S: DatagramSocket + Drop> Model for Server<R, S> {
       node = s.post.node;
       pace = s.pace;
       replica = s.replica;
-      own_letters = s.post.own_letters;
+      loopback = s.post.loopback;
       addresses = s.post.addresses;
       received = s.received;
       ticks = s.ticks;
@@ -80,7 +80,7 @@ impl<R: ServedReplica, S: DatagramSocket + Drop> Model for Server<R, S> {
     } };
 }
 
-impl<R: ServedReplica, S: DatagramSocket + Drop> Server<R, S> {
+impl<R: ServerReplica, S: DatagramSocket + Drop> Server<R, S> {
     /// Makes the server of a replica of this cluster. It has received nothing yet.
     pub fn new(
         alloc: Global,
@@ -123,13 +123,13 @@ impl<R: ServedReplica, S: DatagramSocket + Drop> Server<R, S> {
         &self.replica
     }
 
-    /// Returns the socket on which it serves, for tests that carry its datagrams.
+    /// Returns the socket on which it runs, for tests that carry its datagrams.
     pub fn socket_mut(&mut self) -> &mut S {
         self.post.socket_mut()
     }
 
     /// Returns the events since the last call, and forgets them.
-    pub fn take_events(&mut self) -> TurnEvents
+    pub fn drain_events(&mut self) -> TurnEvents
         ensures { self.new ≡ self.old }
     {
         let events = self.events;
@@ -160,10 +160,10 @@ impl<R: ServedReplica, S: DatagramSocket + Drop> Server<R, S> {
     }
 
     // Begins a group.
-    fn begin_group(&self) -> Group
+    fn new_group(&self) -> Group
         ensures { R.Gathers self.now.replica [] result self.now.replica }
     {
-        self.replica.begin_group(self.alloc)
+        self.replica.new_group(self.alloc)
     }
 
     // Releases a group: after its sync each letter is sent, or kept if it is to the node itself. Logs their fate, and
@@ -180,7 +180,7 @@ impl<R: ServedReplica, S: DatagramSocket + Drop> Server<R, S> {
         ensures broken { OnErr result (self.new.failed ≡ true) }
         ensures told { IfErr result IsOfGroups }
     {
-        self.post.begin_group();
+        self.post.start_group();
         let released = self.replica.release(group, &mut self.post);
         self.events.sends = self.post.send_summary();
         self.unsent = self.unsent.saturating_add(self.events.sends.lost);
@@ -218,8 +218,8 @@ impl<R: ServedReplica, S: DatagramSocket + Drop> Server<R, S> {
         // The replica took a tick and nothing else. Each of its letters was sent, kept, lost by a failed send, or
         // dropped since no address is known for it, and nothing else was sent.
         ensures hands_on { OnOk result (DeliversLetters R.Says S.is_observable
-            (None ∷ []) self.old.own_letters self.old self.new) }
-        ensures ends { OnErr result (DeliversNothing R.Says (None ∷ []) self.old.own_letters self.old self.new) }
+            (None ∷ []) self.old.loopback self.old self.new) }
+        ensures ends { OnErr result (DeliversNothing R.Says (None ∷ []) self.old.loopback self.old self.new) }
         ensures addresses { self.new.addresses ≡ self.old.addresses }
         ensures same { IsSameServer self.old self.new }
         ensures received { self.new.received ≡ self.old.received }
@@ -227,7 +227,7 @@ impl<R: ServedReplica, S: DatagramSocket + Drop> Server<R, S> {
         ensures alive { OnOk result (self.new.failed ≡ false) }
         ensures broken { OnErr result (self.new.failed ≡ true) }
     {
-        let mut group = self.begin_group();
+        let mut group = self.new_group();
         self.add_tick(&mut group, log)?;
         self.end_group(&group, log)
     }
@@ -235,7 +235,7 @@ impl<R: ServedReplica, S: DatagramSocket + Drop> Server<R, S> {
     /// Takes what is waiting as one group: the first letters of the node to itself, or else what arrives at the socket.
     /// Returns whether its replica was given anything. Unlike `node_turn` it reads no clock, and adds no tick for time
     /// that has passed.
-    pub fn take_waiting<L: Log>(
+    pub fn untimed_turn<L: Log>(
         &mut self,
         buffer: &mut ReceiveBuffer,
         log: &L,
@@ -249,14 +249,14 @@ impl<R: ServedReplica, S: DatagramSocket + Drop> Server<R, S> {
             ((frames : List (Address × List ℕ)) × HasReceived S.is_observable frames self.old self.new
             × LastTurn R.Says S.is_observable (all_filtered (filter_of self.old.addresses) frames) self.old self.new) }
         ensures none { IfOk result
-            (λ came. came ≡ false → (self.old.own_letters ≡ [])
+            (λ came. came ≡ false → (self.old.loopback ≡ [])
             × (found : TurnInput) × (frames : List (Address × List ℕ))
             × Finds S.is_observable found frames self.old self.new
             × KeepsOf self.old.node self.old.addresses.seals frames buffer.old buffer.new) }
         // Where nodes live and the keys do not change.
         ensures network { IsSameNetwork self.old.addresses self.new.addresses }
     {
-        let mut group = self.begin_group();
+        let mut group = self.new_group();
         let tick_timer = TickTimer::new(FrozenClock);
         let found = self.add_pending(buffer, &tick_timer, &mut group, log)?;
         if !found.is_something() {
@@ -267,9 +267,9 @@ impl<R: ServedReplica, S: DatagramSocket + Drop> Server<R, S> {
     }
 }
 
-/// Takes one turn of a server: takes a group of what waits or comes before the next tick, with a tick if one is due,
+/// Does one turn of a server: takes a group of what waits or comes before the next tick, with a tick if one is due,
 /// and then syncs and sends.
-pub fn node_turn<R: ServedReplica, S: DatagramSocket + Drop, C: Clock, L: Log>(
+pub fn node_turn<R: ServerReplica, S: DatagramSocket + Drop, C: Clock, L: Log>(
     server: &mut Server<R, S>,
     buffer: &mut ReceiveBuffer,
     tick_timer: &mut TickTimer<C>,
@@ -283,7 +283,7 @@ pub fn node_turn<R: ServedReplica, S: DatagramSocket + Drop, C: Clock, L: Log>(
     // idle. Of the probes in these frames the first is kept, unless one was kept before.
     ensures turn { OnOk result
         ((frames : List (Address × List ℕ)) × HasReceived S.is_observable frames server.old server.new
-        × TakesTurn R.Says S.is_observable frames server.old server.new
+        × TurnOrIdle R.Says S.is_observable frames server.old server.new
         × KeepsOf server.old.node server.old.addresses.seals frames buffer.old buffer.new) }
     // After an error nothing of the group is sent.
     ensures ends { OnErr result
@@ -293,7 +293,7 @@ pub fn node_turn<R: ServedReplica, S: DatagramSocket + Drop, C: Clock, L: Log>(
     // Where nodes live and the keys do not change.
     ensures network { IsSameNetwork server.old.addresses server.new.addresses }
 {
-    let mut group = server.begin_group();
+    let mut group = server.new_group();
     if !server.fill_group(buffer, tick_timer, &mut group, log)? {
         return Ok(());
     }

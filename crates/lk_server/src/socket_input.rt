@@ -20,7 +20,7 @@ use crate::server::Server;
 use lk_pacing::tick_timer::TickTimer;
 use lk_pacing::turn_input::TurnInput;
 use lk_replica::Group;
-use lk_served_replica::ServedReplica;
+use lk_server_replica::ServerReplica;
 use lk_transport::arrival::Arrival;
 use lk_transport::receive_buffer::ReceiveBuffer;
 use lk_transport::received_probe::is_probe_or_report;
@@ -30,7 +30,7 @@ use log::Log;
 use std::net::SocketAddr;
 use std::time::Clock;
 
-impl<R: ServedReplica, S: DatagramSocket + Drop> Server<R, S> {
+impl<R: ServerReplica, S: DatagramSocket + Drop> Server<R, S> {
     // Receives the next datagram of the socket into the buffer, if one arrives before the timeout.
     pub(crate) fn receive(&mut self, buffer: &mut ReceiveBuffer)
         ensures comes { S.is_observable → self.old.incoming ≡ listed buffer.new.last ++ self.new.incoming }
@@ -94,7 +94,7 @@ impl<R: ServedReplica, S: DatagramSocket + Drop> Server<R, S> {
         group: &mut Group,
         log: &L,
     ) -> Result<TurnInput, GroupFault>
-        ensures takes { IfOk result
+        ensures adds { IfOk result
             (λ found. found ≡ TurnInput.Something
             → (frame : Address × List ℕ) × (buffer.old.last ≡ Some frame)
             × (is_filtered_out (filter_of self.old.addresses) frame ≡ false)
@@ -147,7 +147,7 @@ impl<R: ServedReplica, S: DatagramSocket + Drop> Server<R, S> {
         group: &mut Group,
         log: &L,
     ) -> Result<TurnInput, GroupFault>
-        ensures takes { IfOk result
+        ensures adds { IfOk result
             (λ found. found ≡ TurnInput.Something
             → (frame : Address × List ℕ) × (is_filtered_out (filter_of self.old.addresses) frame ≡ false)
             × AddsFromSocket R.Gathers S.is_observable (frame ∷ []) group.old group.new self.old self.new
@@ -175,7 +175,7 @@ impl<R: ServedReplica, S: DatagramSocket + Drop> Server<R, S> {
         group: &mut Group,
         log: &L,
     ) -> Result<bool, GroupFault>
-        ensures takes { IfOk result
+        ensures adds { IfOk result
             (λ came. came ≡ true → (frame : Address × List ℕ)
             × AddsFromSocket R.Gathers S.is_observable (frame ∷ []) group.old group.new self.old self.new
             × KeepsOf self.old.node self.old.addresses.seals (frame ∷ []) buffer.old buffer.new) }
@@ -209,7 +209,7 @@ impl<R: ServedReplica, S: DatagramSocket + Drop> Server<R, S> {
         group: &mut Group,
         log: &L,
     ) -> Result<(), GroupFault>
-        ensures takes { OnOk result
+        ensures adds { OnOk result
             ((frames : List (Address × List ℕ)) × (length frames ≤ 63)
             × AddsFromSocket R.Gathers S.is_observable frames group.old group.new self.old self.new
             × KeepsOf self.old.node self.old.addresses.seals frames buffer.old buffer.new) }
@@ -235,15 +235,15 @@ impl<R: ServedReplica, S: DatagramSocket + Drop> Server<R, S> {
         group: &mut Group,
         log: &L,
     ) -> Result<TurnInput, GroupFault>
-        requires { self.old.own_letters ≡ [] }
-        ensures takes { IfOk result
+        requires { self.old.loopback ≡ [] }
+        ensures adds { IfOk result
             (λ found. found ≡ TurnInput.Something
             → (frames : List (Address × List ℕ))
             × AddsWaiting R.Gathers S.is_observable frames group.old group.new self.old self.new
             × KeepsOf self.old.node self.old.addresses.seals frames buffer.old buffer.new) }
         ensures none { IfOk result
             (λ found. (found ≡ TurnInput.Something → ⊥)
-            → (self.old.own_letters ≡ []) × (frames : List (Address × List ℕ))
+            → (self.old.loopback ≡ []) × (frames : List (Address × List ℕ))
             × Finds S.is_observable found frames self.old self.new × (group.new ≡ group.old)
             × KeepsOf self.old.node self.old.addresses.seals frames buffer.old buffer.new) }
         ensures ends { OnErr result

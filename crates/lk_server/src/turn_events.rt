@@ -3,7 +3,7 @@
 ghost use Rattle.std.specs.Prelude.{◌≡◌, ◌≤◌, ◌<◌, ℕ, Some, None};
 ghost use Rattle.lk_transport.specs.Arrivals.{sender};
 
-use lk_served_replica::replica_status::ReplicaStatus;
+use lk_server_replica::replica_status::ReplicaStatus;
 use lk_transport::arrival::Arrival;
 use lk_transport::post::SendSummary;
 use lk_types::{Executed, NodeNo};

@@ -1,7 +1,7 @@
 //! Logs what changes in a server and its replica besides the notes, one fact a line: at level debug, and at level warn
 //! that it hears a node of another genesis. A line that cannot be written is dropped.
 
-use lk_served_replica::replica_status::ReplicaStatus;
+use lk_server_replica::replica_status::ReplicaStatus;
 use lk_transport::arrival::Arrival;
 use lk_transport::post::SendSummary;
 use lk_types::{NodeNo, Port, RealBallot};

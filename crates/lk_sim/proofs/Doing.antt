@@ -16,13 +16,13 @@ use Rattle.lk_sim.specs.Traces.{asked_in, happened, asked_note}
 use Rattle.lk_sim.specs.Scenes.{Scene}
 use Rattle.lk_sim_nodes.specs.Seats.{At, SeatFits, SeatGoes, stopped_on, fallen_on, rested_on, device_in}
 use Rattle.lk_replica.specs.Behaviours.{Behaviour, TrapsAlone, disks_by}
-use Rattle.lk_sim_nodes.specs.Ends.{Breaks, StaysDown, FailsToCompact, IsToldEnd, end_by, end_at}
+use Rattle.lk_sim_nodes.specs.Ends.{Breaks, StaysDown, FailsToCompact, IsEndByCalls, end_by, end_at}
 use Rattle.lk_sim_nodes.specs.Sends.{stop_among, after_sends}
 use Rattle.lk_sim.specs.Events.{AreOfNodes, Adds, EndsByFault, Comes, IsGiven, IsBack, ComesUp, GoesOnCompacted}
 use Rattle.lk_sim.specs.Events.{IsCompacted}
 use Rattle.lk_sim.specs.Events.{IsHalted, LeftBy, LeftByRevival}
 use Rattle.lk_sim_nodes.specs.Outcomes.{HasEndedByFault, HasTaken, HasRevived, HasCompacted, HasStoppedOutOfMemory}
-use Rattle.lk_sim_nodes.specs.Outcomes.{Rests}
+use Rattle.lk_sim_nodes.specs.Outcomes.{StopsIfArmed}
 use Rattle.lk_sim.specs.Concluded.{HasAdded, HasConcluded, HasGivenUp}
 use Rattle.lk_sim.specs.Worlds.{WorldInvariant}
 use Rattle.lk_sim_nodes.specs.declared.end.End.{End}
@@ -51,7 +51,8 @@ module _ {R : Type 0} (b : Behaviour R) (old new : Scene R) where
   pub falls : (Ends : ℕ → Memory → Type 0) (t next : Seat R) (asked mine told : List Note) (batch : List Datagram)
       (how : Option End) (stop : Option ℕ) → Adds old new ((asked ++ mine) ++ told) batch
       → NotesReplies batch told → new.ended ≡ how
-      → next.number ≡ t.number → Rests b stop t next → IsToldEnd how → HasEndedByFault Ends t mine batch how stop
+      → next.number ≡ t.number → StopsIfArmed b stop t next → IsEndByCalls how
+      → HasEndedByFault Ends t mine batch how stop
       → EndsByFault Ends old new next asked
   falls Ends t next asked mine told batch how stop a tells ended number rests tellable f = record {
     number = f.number;
@@ -76,7 +77,7 @@ module _ {R : Type 0} (b : Behaviour R) (old new : Scene R) where
       (how : Option End) (stop : Option ℕ) → (k : HasTaken b r o t mine batch how stop) → AreOfNodes mine
       → Adds old new ((asked ++ mine) ++ told) batch → NotesReplies batch told → new.ended ≡ how
       → next.number ≡ t.number
-      → Rests b stop t next → Comes b old new r next o asked
+      → StopsIfArmed b stop t next → Comes b old new r next o asked
   went r t next o asked mine told batch how None k of_nodes adds tells ended number rests = inl (record {
     replica = k.replica;
     notes = mine;
@@ -117,7 +118,7 @@ module _ {R : Type 0} (b : Behaviour R) (old new : Scene R) where
       → At old.seats i s → s.number ≡ n → s.life ≡ Up r → t.number ≡ s.number
       → ((q : R) → t.life ≡ Up q → AreOfNodes mine)
       → HasConcluded Shows b m (record old { seats = set old.seats i t }) i new asked mine batch how stop
-      → IsToldEnd how
+      → IsEndByCalls how
       → HasTaken b r o t mine batch how stop ⊎ HasEndedByFault (Breaks b r o) t mine batch how stop
       → IsGiven b old new n o asked
   given Shows m i n s t r o asked mine batch how stop at is up number of_nodes k tellable cases = record {
@@ -141,22 +142,22 @@ module _ {R : Type 0} (b : Behaviour R) (old new : Scene R) where
       on : k.next.number ≡ t.number
       on = k.number ∙ ap (λ (z : Seat R). z.number) same
 
-      rests : Rests b stop t k.next
-      rests = subst (λ z. Rests b stop z k.next) same k.rests
+      rests : StopsIfArmed b stop t k.next
+      rests = subst (λ z. StopsIfArmed b stop z k.next) same k.rests
 
       adds : Adds old new ((asked ++ mine) ++ k.told) batch
       adds = record { genesis = k.adds.genesis; sent = k.adds.sent; trace = k.adds.trace }
 
   pub comes : (t next : Seat R) (d : Memory) (n : ℕ) (mine told : List Note) (batch : List Datagram)
       (how : Option End) (stop : Option ℕ)
-      → t.number ≡ n → next.number ≡ t.number → Rests b stop t next → ((q : R) → t.life ≡ Up q → AreOfNodes mine)
-      → Adds old new (([] ++ mine) ++ told) batch → NotesReplies batch told → new.ended ≡ how → IsToldEnd how
+      → t.number ≡ n → next.number ≡ t.number → StopsIfArmed b stop t next → ((q : R) → t.life ≡ Up q → AreOfNodes mine)
+      → Adds old new (([] ++ mine) ++ told) batch → NotesReplies batch told → new.ended ≡ how → IsEndByCalls how
       → HasRevived b d (header_of old.genesis n) t mine batch how stop
       ⊎ HasEndedByFault (StaysDown b d (header_of old.genesis n)) t mine batch how stop → ComesUp b old new next d
   comes t next d n mine told batch how stop number on rests of_nodes a tells ended tellable cases = elim cases [
     | inl k ↦ inl (record {
       replica = k.replica;
-      up = ap (λ (z : Seat R). z.life) (subst (λ z. Rests b z t next) k.no_stop rests) ∙ k.up;
+      up = ap (λ (z : Seat R). z.life) (subst (λ z. StopsIfArmed b z t next) k.no_stop rests) ∙ k.up;
       notes = mine;
       revives = subst (λ z. b.Revives d (header_of old.genesis z) (Ok (k.replica, mine))) (sym (on ∙ number)) k.revives;
       calls = k.calls;
@@ -180,7 +181,8 @@ module _ {R : Type 0} (b : Behaviour R) (old new : Scene R) where
       (mine : List Note) (batch : List Datagram) (how : Option End) (stop : Option ℕ)
       → At old.seats i s → s.number ≡ n → s.life ≡ Down d → t.number ≡ s.number
       → ((q : R) → t.life ≡ Up q → AreOfNodes mine)
-      → HasConcluded Shows b m (record old { seats = set old.seats i t }) i new [] mine batch how stop → IsToldEnd how
+      → HasConcluded Shows b m (record old { seats = set old.seats i t }) i new [] mine batch how stop
+      → IsEndByCalls how
       → HasRevived b d (header_of old.genesis s.number) t mine batch how stop
       ⊎ HasEndedByFault (StaysDown b d (header_of old.genesis s.number)) t mine batch how stop → IsBack b old new n
   back Shows m i n s t d mine batch how stop at is down number of_nodes k tellable cases =
@@ -200,15 +202,15 @@ module _ {R : Type 0} (b : Behaviour R) (old new : Scene R) where
               ∙ set_twice old.seats i t k.next;
         };
         comes = comes t k.next d s.number mine k.told batch how stop number on
-            (subst (λ z. Rests b stop z k.next) same k.rests) of_nodes
+            (subst (λ z. StopsIfArmed b stop z k.next) same k.rests) of_nodes
             (record { genesis = k.adds.genesis; sent = k.adds.sent; trace = k.adds.trace })
             k.tells k.ended tellable cases;
       }
 
   packs : (t next : Seat R) (r : R) (mine told : List Note) (batch : List Datagram) (how : Option End) (stop : Option ℕ)
-      → next.number ≡ t.number → Rests b stop t next → Adds old new (([] ++ mine) ++ told) batch
+      → next.number ≡ t.number → StopsIfArmed b stop t next → Adds old new (([] ++ mine) ++ told) batch
       → NotesReplies batch told
-      → new.ended ≡ how → IsToldEnd how
+      → new.ended ≡ how → IsEndByCalls how
       → HasCompacted b r t mine batch how stop ⊎ HasEndedByFault (FailsToCompact b r) t mine batch how stop
       → GoesOnCompacted b old new r next ⊎ EndsByFault (FailsToCompact b r) old new next []
   packs t next r mine told batch how stop on rests a tells ended tellable cases = elim cases [
@@ -216,7 +218,7 @@ module _ {R : Type 0} (b : Behaviour R) (old new : Scene R) where
       replica = k.replica;
       compacts = k.compacts;
       calls_succeed = k.calls_succeed;
-      up = ap (λ (z : Seat R). z.life) (subst (λ z. Rests b z t next) k.no_stop rests) ∙ k.up;
+      up = ap (λ (z : Seat R). z.life) (subst (λ z. StopsIfArmed b z t next) k.no_stop rests) ∙ k.up;
       adds = record {
         genesis = a.genesis;
         sent = a.sent ∙ ap (λ l. old.sent ++ l) k.no_batch;
@@ -232,7 +234,8 @@ module _ {R : Type 0} (b : Behaviour R) (old new : Scene R) where
   pub compacted : (Shows : R → Genesis → ℕ → Holding → Type 0) (m : Meaning) (i n : ℕ) (s t : Seat R) (r : R)
       (mine : List Note) (batch : List Datagram) (how : Option End) (stop : Option ℕ)
       → At old.seats i s → s.number ≡ n → s.life ≡ Up r → t.number ≡ s.number
-      → HasConcluded Shows b m (record old { seats = set old.seats i t }) i new [] mine batch how stop → IsToldEnd how
+      → HasConcluded Shows b m (record old { seats = set old.seats i t }) i new [] mine batch how stop
+      → IsEndByCalls how
       → HasCompacted b r t mine batch how stop ⊎ HasEndedByFault (FailsToCompact b r) t mine batch how stop
       → IsCompacted b old new n
   compacted Shows m i n s t r mine batch how stop at is up number k tellable cases =
@@ -251,7 +254,8 @@ module _ {R : Type 0} (b : Behaviour R) (old new : Scene R) where
           seats = k.seats
               ∙ set_twice old.seats i t k.next;
         };
-        comes_to = packs t k.next r mine k.told batch how stop on (subst (λ z. Rests b stop z k.next) same k.rests)
+        comes_to = packs t k.next r mine k.told batch how stop on (subst
+            (λ z. StopsIfArmed b stop z k.next) same k.rests)
             (record { genesis = k.adds.genesis; sent = k.adds.sent; trace = k.adds.trace })
             k.tells k.ended tellable cases;
       }

@@ -12,7 +12,7 @@ use Rattle.lk_agreement_laws.specs.Chosen.{command_at, Chosen, ChosenAt, IsPrefi
 use Rattle.lk_agreement_laws.specs.Snapshots.{IsSlice}
 use Rattle.lk_agreement_laws.specs.Soundness.{Sound}
 use Rattle.lk_agreement_laws.proofs.Histories.{entry_chosen, one_chosen, chosen_agree, chosen_was_accepted}
-use Rattle.lk_agreement_laws.proofs.Histories.{beginning_slice}
+use Rattle.lk_agreement_laws.proofs.Histories.{prefix_slice}
 use Rattle.lk_agreement_laws.proofs.Histories.{only, contains_more}
 use Rattle.lk_node_interface.specs.declared.note.Note.{Note}
 use Rattle.lk_node_interface.specs.declared.note.Note.TheVariants as note
@@ -58,7 +58,7 @@ module _ {R : Type 0} (Shows : R → Genesis → ℕ → Holding → Type 0) (di
     parts = λ n p s.
         let b = w.messages n (kinds.Part p) s in
         subst (λ (total : ℕ). IsSlice genesis sent (text m genesis) p.position total p.offset p.bytes) b.total
-        (beginning_slice genesis sent (text m genesis) w.list p.position p.offset p.bytes w.chosen b.reaches b.slice);
+        (prefix_slice genesis sent (text m genesis) w.list p.position p.offset p.bytes w.chosen b.reaches b.slice);
   }
 
   pub agree : (L K : List Command) → Chosen genesis sent L → Chosen genesis sent K → IsPrefix L K ⊎ IsPrefix K L

@@ -19,11 +19,11 @@ use Rattle.lk_node.specs.Leavings.{DisksFit}
 use Rattle.lk_replica.specs.Behaviours.{Behaviour, TrapsAlone, disks_by}
 use Rattle.lk_replica.specs.Together.{Said, sent_of, parts_of, EachLeavesFit}
 use Rattle.lk_replica.specs.declared.taken.Step.{Step}
-use Rattle.lk_sim_nodes.specs.Ends.{BreaksTogether, IsToldEnd, end_at}
+use Rattle.lk_sim_nodes.specs.Ends.{BreaksTogether, IsEndByCalls, end_at}
 use Rattle.lk_sim_nodes.specs.Sends.{after_sends, stop_among}
 use Rattle.lk_sim.specs.Events.{Adds, AreAllOfNodes, EndsByFault, ComesTogether, IsGivenTogether, LeftByGroup}
 use Rattle.lk_sim.specs.Groups.{WasSentTo, WereSentTo, AreNotesOf, given_by}
-use Rattle.lk_sim_nodes.specs.Outcomes.{HasTakenTogether, HasFallenTogether, Rests}
+use Rattle.lk_sim_nodes.specs.Outcomes.{HasTakenTogether, HasFallenTogether, StopsIfArmed}
 use Rattle.lk_sim.specs.Concluded.{HasConcludedSteps, HasGivenUp}
 use Rattle.lk_sim.specs.Refusals.{AreFor, IsFor}
 use Rattle.lk_sim_nodes.specs.Rooms.{AreShort}
@@ -92,7 +92,7 @@ module _ {R : Type 0} (b : Behaviour R) (old new : Scene R) where
       (batch : List Datagram) (how : Option End) (stop : Option ℕ)
       → (k : HasTakenTogether b r given t steps batch how stop)
       → AreAllOfNodes (parts_of steps k.all) → AreNotesOf (parts_of steps batch) notes → Adds old new notes batch
-      → new.ended ≡ how → next.number ≡ t.number → Rests b stop t next → ComesTogether b old new r next given
+      → new.ended ≡ how → next.number ≡ t.number → StopsIfArmed b stop t next → ComesTogether b old new r next given
   went_together r t next given steps notes batch how None k of_nodes tells adds ended number rests =
       let whole : batch ≡ sent_of (parts_of steps k.all) = k.sends.2 ∙ k.whole in
       inl (record {
@@ -139,7 +139,7 @@ module _ {R : Type 0} (b : Behaviour R) (old new : Scene R) where
   fell_together : (Ends : ℕ → Memory → Type 0) (t next : Seat R) (steps : List Step) (notes : List Note)
       (batch : List Datagram) (how : Option End) (stop : Option ℕ) → HasFallenTogether Ends t steps batch how stop
       → AreNotesOf (parts_of steps batch) notes → Adds old new notes batch → new.ended ≡ how → next.number ≡ t.number
-      → Rests b stop t next → IsToldEnd how → EndsByFault Ends old new next []
+      → StopsIfArmed b stop t next → IsEndByCalls how → EndsByFault Ends old new next []
   fell_together Ends t next steps notes batch how stop f tells adds ended number rests tellable =
       falls b old new Ends t next [] [] [] batch how stop
       (subst (λ (l : List Note). Adds old new l batch) (no_notes steps batch notes f.no_steps tells) adds)
@@ -154,7 +154,7 @@ module _ {R : Type 0} (b : Behaviour R) (old new : Scene R) where
       → At old.seats i s → s.number ≡ n → s.life ≡ Up r → t.number ≡ s.number
       → ((k : HasTakenTogether b r given t steps batch how stop) → AreAllOfNodes (parts_of steps k.all))
       → HasConcludedSteps Shows b m (record old { seats = set old.seats i t }) i new steps batch how stop
-      → IsToldEnd how
+      → IsEndByCalls how
       → HasTakenTogether b r given t steps batch how stop
       ⊎ HasFallenTogether (BreaksTogether b r given) t steps batch how stop → IsGivenTogether b old new n given
   given_together Shows m i n s t r given steps batch how stop at is up number of_nodes k tellable cases = record {
@@ -177,8 +177,8 @@ module _ {R : Type 0} (b : Behaviour R) (old new : Scene R) where
       on : k.next.number ≡ t.number
       on = k.number ∙ ap (λ (z : Seat R). z.number) same
 
-      rests : Rests b stop t k.next
-      rests = subst (λ z. Rests b stop z k.next) same k.rests
+      rests : StopsIfArmed b stop t k.next
+      rests = subst (λ z. StopsIfArmed b stop z k.next) same k.rests
 
       adds : Adds old new k.notes batch
       adds = record { genesis = k.adds.genesis; sent = k.adds.sent; trace = k.adds.trace }

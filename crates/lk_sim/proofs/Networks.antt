@@ -15,7 +15,8 @@ use Rattle.lk_node.specs.Holdings.{Holding}
 use Rattle.lk_node.specs.Leavings.{DisksFit}
 use Rattle.lk_sim_nodes.specs.Rooms.{AreShort}
 use Rattle.lk_sim.specs.Events.{Adds}
-use Rattle.lk_sim.specs.Networks.{MayCome, IsRequestIn, AreAsking, MayHear, RecordsReplies, Appears, Restarts, Rests}
+use Rattle.lk_sim.specs.Networks.{MayCome, IsRequestIn, AreAsking, MayHear, RecordsReplies, Appears, Restarts}
+use Rattle.lk_sim.specs.Networks.{IsStillDown}
 use Rattle.lk_sim.specs.Networks.{GoesOn}
 use Rattle.lk_sim.specs.Networks.{Ends, Stops, Steps, StepsAll, nothing}
 use Rattle.lk_sim.specs.Scenes.{Scene}
@@ -126,7 +127,7 @@ module _ {R : Type 0} (Shows : R → Genesis → ℕ → Holding → Type 0) (di
   holds_down c w index s at d down =
       (lawful Shows disks m c.genesis c.seats c.sent c.trace w, (w.seated index s at).down d down)
 
-  rests : (old new : Scene R) → HoldsOf old → Rests m old new → HoldsOf new
+  rests : (old new : Scene R) → HoldsOf old → IsStillDown m old new → HoldsOf new
   rests old new w a =
       let h = happened old.genesis old.sent old.trace in
       let f = w.seated a.replaces.index a.seat a.replaces.at in
@@ -257,6 +258,6 @@ promises_of Shows b whole m sums w h = record {
   kept = λ L i v chosen. kept Shows (disks_by b) m w.genesis w.seats w.sent w.trace h L chosen i v;
   order = ordered Shows (disks_by b) m w.genesis w.seats w.sent w.trace h;
   told_in_time = told_in_time Shows (disks_by b) m w.genesis w.seats w.sent w.trace h;
-  ballots = record { own = h.world.sound.owned; once = h.world.sound.one_value };
+  ballots = record { own = h.world.sound.own; once = h.world.sound.one_value };
   room = room Shows (disks_by b) m w.genesis w.seats w.sent w.trace h;
 }

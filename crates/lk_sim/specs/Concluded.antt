@@ -8,7 +8,7 @@ use Rattle.lk_node.specs.Holdings.{Holding}
 use Rattle.lk_replica.specs.Behaviours.{Behaviour, disks_by}
 use Rattle.lk_replica.specs.Together.{parts_of}
 use Rattle.lk_replica.specs.declared.taken.Step.{Step}
-use Rattle.lk_sim_nodes.specs.Outcomes.{Rests}
+use Rattle.lk_sim_nodes.specs.Outcomes.{StopsIfArmed}
 use Rattle.lk_sim_nodes.specs.Seats.{SeatFits, At, stopped_on, device_in}
 use Rattle.lk_sim_nodes.specs.Told.{NotesReplies}
 use Rattle.lk_sim_nodes.specs.declared.end.End.{End}
@@ -38,7 +38,7 @@ pub record HasConcluded {R : Type 0} (Shows : R → Genesis → ℕ → Holding 
   pub at : At old.seats i seat
   pub number : next.number ≡ seat.number
   pub seats : new.seats ≡ set old.seats i next
-  pub rests : Rests b stop seat next
+  pub rests : StopsIfArmed b stop seat next
   pub fits : (h : History) (w : PaxosState) → SeatFits Shows (disks_by b) m h w seat
       → SeatFits Shows (disks_by b) m h w next
   pub adds : Adds old new ((asked ++ mine) ++ told) batch
@@ -64,7 +64,7 @@ pub record HasConcludedSteps {R : Type 0} (Shows : R → Genesis → ℕ → Hol
   pub at : At old.seats i seat
   pub number : next.number ≡ seat.number
   pub seats : new.seats ≡ set old.seats i next
-  pub rests : Rests b stop seat next
+  pub rests : StopsIfArmed b stop seat next
   pub fits : (h : History) (w : PaxosState) → SeatFits Shows (disks_by b) m h w seat
       → SeatFits Shows (disks_by b) m h w next
   pub adds : Adds old new notes batch

@@ -20,7 +20,7 @@ use Rattle.lk_node.specs.BorneOut.{IsOfNode}
 use Rattle.lk_replica.specs.Behaviours.{Behaviour}
 use Rattle.lk_replica.specs.Together.{Said, sent_of}
 use Rattle.lk_sim_nodes.specs.Ends.{Breaks, BreaksTogether, StaysDown, FailsToCompact, IsOtherFault, IsOutOfMemory}
-use Rattle.lk_sim_nodes.specs.Ends.{IsToldEnd}
+use Rattle.lk_sim_nodes.specs.Ends.{IsEndByCalls}
 use Rattle.lk_sim_nodes.specs.Ends.{end_by}
 use Rattle.lk_sim_nodes.specs.Seats.{At, stopped_on, rested_on, IsTrapped}
 use Rattle.lk_sim_nodes.specs.Sends.{stop_among, after_sends, cut_short}
@@ -67,12 +67,12 @@ pub record EndsByFault {R : Type 0} (Ends : ℕ → Memory → Type 0) (old new 
   pub no_want : IsOtherFault number left
   pub down : t.life ≡ Down (rested_on (stopping left.meter) left)
   pub ended : new.ended ≡ Some (end_by (stopping left.meter) t.number number)
-  pub told : IsToldEnd new.ended
+  pub told : IsEndByCalls new.ended
   pub adds : Adds old new asked []
 
 -- ---- a node takes an input
 
--- it goes on: all calls of its device have passed, no armed stop happened at a send, what its replica noted and sent
+-- it goes on: all calls of its device have succeeded, no armed stop happened at a send, what its replica noted and sent
 -- was added, after a request that was just asked, with its answers and passes noted as they were sent
 pub record GoesOn {R : Type 0} (b : Behaviour R) (old new : Scene R) (r : R) (t : Seat R) (o : Option (List ℕ))
     (asked : List Note) : Type 0 where
@@ -139,8 +139,8 @@ pub record IsDelivered {R : Type 0} (b : Behaviour R) (old new : Scene R) (k : �
 abbrev pub AreAllOfNodes : List Said → Type 0
 AreAllOfNodes said = AllByRecursion (λ (x : Said). AreOfNodes x.0) said
 
--- it goes on: all calls of its device have passed, no armed stop happened at a send, and what the steps noted and sent
--- was added, step by step, with the answers and passes noted as they were sent
+-- it goes on: all calls of its device have succeeded, no armed stop happened at a send, and what the steps noted and
+-- sent was added, step by step, with the answers and passes noted as they were sent
 pub record GoesOnTogether {R : Type 0} (b : Behaviour R) (old new : Scene R) (r : R) (t : Seat R)
     (given : List (Option (List ℕ))) : Type 0 where
   pub replica : R
@@ -246,7 +246,7 @@ pub record IsBack {R : Type 0} (b : Behaviour R) (old new : Scene R) (n : ℕ) :
 
 -- ---- a node compacts
 
--- it goes on, with a snapshot of everything executed: all calls of its device have passed, and nothing was noted or
+-- it goes on, with a snapshot of everything executed: all calls of its device have succeeded, and nothing was noted or
 -- sent
 pub record GoesOnCompacted {R : Type 0} (b : Behaviour R) (old new : Scene R) (r : R) (t : Seat R) : Type 0 where
   pub replica : R

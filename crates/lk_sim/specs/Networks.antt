@@ -113,7 +113,7 @@ pub record Restarts {R : Type 0} (Shows : R → Genesis → ℕ → Holding → 
   pub adds : Adds old new notes []
 
 -- a node that was down has stayed down
-pub record Rests {R : Type 0} (m : Meaning) (old new : Scene R) : Type 0 where
+pub record IsStillDown {R : Type 0} (m : Meaning) (old new : Scene R) : Type 0 where
   pub seat : Seat R
   pub next : Seat R
   pub replaces : ReplacesSeat old.seats new.seats seat next
@@ -177,7 +177,7 @@ pub record Stops {R : Type 0} (disks : R → Side → Disk) (old new : Scene R) 
 abbrev pub Steps : {R : Type 0} → (R → Genesis → ℕ → Holding → Type 0) → (R → Side → Disk) → Meaning
     → Scene R → Scene R → Type 0
 Steps Shows disks m old new =
-    Appears old new ⊎ Restarts Shows disks m old new ⊎ Rests m old new ⊎ GoesOn Shows disks m old new
+    Appears old new ⊎ Restarts Shows disks m old new ⊎ IsStillDown m old new ⊎ GoesOn Shows disks m old new
     ⊎ Ends Shows disks m old new ⊎ Stops disks old new
 
 -- these steps were taken one after another, and the last of them led to this

@@ -119,7 +119,7 @@ fn request_in(viewed: &Datagram<'_>) -> Result<Option<Request>, Refused>
 }
 
 // Reserves room for the note of a request. Without a request it takes no memory.
-fn make_room(trace: &mut Vec<Note>, asked: &Option<Request>) -> Result<(), NoMemory>
+fn reserve_notes(trace: &mut Vec<Note>, asked: &Option<Request>) -> Result<(), NoMemory>
     ensures same { trace.new.items ≡ trace.old.items }
     ensures room { OnOk result (HasNoteRoom asked.now trace.new) }
     ensures memory { OnErr result ((r : RequestValue) × (asked.now ≡ Some r)) }
@@ -151,7 +151,7 @@ pub fn inject<R: MemoryReplica>(
     if !has_room(&parts.sent) {
         return Err(Refused::WorldFull);
     }
-    make_room(&mut parts.trace, &asked)?;
+    reserve_notes(&mut parts.trace, &asked)?;
     give(parts, i, Input::Datagram(viewed), asked)?;
     Ok(())
 }

@@ -21,7 +21,10 @@ use lk_types::{NoMemory, NodeNo};
 const MAX_NODES: usize = 16;
 
 // Starts a node of a new number with empty disks, and appends it to the world. On an error the world is unchanged.
-fn begin_node<R: MemoryReplica>(parts: &mut WorldParts<R>, number: NodeNo) -> Result<(), NoMemory>
+fn start_new_node<R: MemoryReplica>(
+    parts: &mut WorldParts<R>,
+    number: NodeNo,
+) -> Result<(), NoMemory>
     requires unused { HasNo parts.old.seats.items number }
     requires holds { PartsKeepInvariant R.Shows (disks_by R.behaves) R.meaning parts.old }
     ensures holds { PartsKeepInvariant R.Shows (disks_by R.behaves) R.meaning parts.new }
@@ -58,7 +61,7 @@ pub fn start<R: MemoryReplica>(parts: &mut WorldParts<R>, number: NodeNo) -> Res
     if parts.seats.len() >= MAX_NODES {
         return Err(Refused::WorldFull);
     }
-    begin_node(parts, number)?;
+    start_new_node(parts, number)?;
     Ok(())
 }
 

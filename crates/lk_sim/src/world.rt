@@ -18,7 +18,7 @@ pub struct World<R: MemoryReplica> {
 
 impl<R: MemoryReplica> Model for World<R> {
     ghost use Rattle.lk_replica.specs.Behaviours.{disks_by};
-    ghost use Rattle.lk_sim_nodes.specs.Ends.{IsToldEnd};
+    ghost use Rattle.lk_sim_nodes.specs.Ends.{IsEndByCalls};
     ghost use Rattle.lk_sim.specs.Scenes.{Scene};
     ghost use Rattle.lk_sim.specs.Worlds.{PartsKeepInvariant, scene_of};
 
@@ -27,13 +27,13 @@ impl<R: MemoryReplica> Model for World<R> {
     ghost view = { λ w. scene_of w.parts };
 
     ghost invariant = { λ w. PartsKeepInvariant R.Shows (disks_by R.behaves) R.meaning w.parts
-        × IsToldEnd w.parts.ended };
+        × IsEndByCalls w.parts.ended };
 }
 
 impl<R: MemoryReplica> World<R> {
     ghost use Rattle.std.specs.Prelude.{◌≡◌, ℕ, [], length, map, None, IfSome, IfOk, OnOk, IfErr};
     ghost use Rattle.lk_replica.specs.Behaviours.{disks_by};
-    ghost use Rattle.lk_sim_nodes.specs.Ends.{IsToldEnd};
+    ghost use Rattle.lk_sim_nodes.specs.Ends.{IsEndByCalls};
     ghost use Rattle.lk_sim.specs.Events.{IsExecuted, IsRefused, Grows};
     ghost use Rattle.lk_disk.specs.Disk.{contents};
     ghost use Rattle.lk_disk.specs.declared.device.Side.TheVariants.{A, B};
@@ -108,7 +108,7 @@ impl<R: MemoryReplica> World<R> {
     /// or 11.
     pub fn last_end(&self) -> Option<End>
         ensures is { result ≡ self.now.ended }
-        ensures told { IsToldEnd result }
+        ensures told { IsEndByCalls result }
     {
         self.parts.ended
     }

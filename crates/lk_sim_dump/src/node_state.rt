@@ -16,7 +16,7 @@ use lk_script::mode::Mode;
 use lk_script::script::run_script;
 use lk_script_lines::fault::ScriptFault;
 use lk_sim::{LeftNode, World};
-use lk_transport::fault::ServiceFault;
+use lk_transport::fault::ProgramFault;
 use lk_types::{NoMemory, NodeNo};
 use std::alloc::Global;
 use std::io;
@@ -30,7 +30,7 @@ pub struct NodeState {
     pub is_up: bool,
     pub written: (usize, usize),
     pub synced: (usize, usize),
-    pub found: Result<Option<Inspection>, ServiceFault>,
+    pub found: Result<Option<Inspection>, ProgramFault>,
 }
 
 // Inspects the store of a node, and measures its disks.
@@ -79,7 +79,7 @@ pub fn states_of<M: MemoryReplica>(
 
 // Writes what a store holds, or the text of the fault with which its inspection failed.
 fn write_store<W: Write>(
-    found: &Result<Option<Inspection>, ServiceFault>,
+    found: &Result<Option<Inspection>, ProgramFault>,
     out: &mut W,
 ) -> io::Result<()> {
     match found {

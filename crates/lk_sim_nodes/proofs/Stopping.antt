@@ -19,7 +19,7 @@ use Rattle.lk_node.specs.Leavings.{DisksFit}
 use Rattle.lk_node.specs.Calls.{LeavesFit}
 use Rattle.lk_replica.specs.Behaviours.{Behaviour, TrapsAlone, disks_by}
 use Rattle.lk_sim_nodes.specs.Sends.{SentUpTo, counting}
-use Rattle.lk_sim_nodes.specs.Outcomes.{Rests}
+use Rattle.lk_sim_nodes.specs.Outcomes.{StopsIfArmed}
 use Rattle.lk_sim_nodes.specs.Rooms.{AreShort}
 use Rattle.lk_sim_nodes.specs.Seats.{UpFits, stopped_on, fallen_on, rested_on, device_in}
 use Rattle.lk_sim_nodes.specs.declared.seat.Seat.{Seat}
@@ -149,6 +149,6 @@ module _ {R : Type 0} (b : Behaviour R) (alone : TrapsAlone b) where
 
 -- the device of a node that has come to rest
 pub rested : {R : Type 0} (b : Behaviour R) (stop : Option ℕ) (t next : Seat R) (left : Memory)
-    → t.life ≡ Down (fallen_on left) → Rests b stop t next → next.life ≡ Down (rested_on stop left)
+    → t.life ≡ Down (fallen_on left) → StopsIfArmed b stop t next → next.life ≡ Down (rested_on stop left)
 rested b None t next left down r = ap (λ (z : Seat _). z.life) r ∙ down
 rested b (Some bytes) t next left down r = r ∙ ap (λ (z : Life _). Down (stopped_on bytes bytes (device_in b z))) down

@@ -44,18 +44,18 @@ abbrev pub IsOutOfMemory : ℕ → Memory → Type 0
 IsOutOfMemory number left = (number ≡ 8) ⊎ (number ≡ 14) ⊎ (number ≡ 15) ⊎ (left.meter.starved ≡ true)
 
 -- the fault is neither that of a damaged store nor that of another's
-abbrev pub IsSound : ℕ → Type 0
-IsSound number = (number ≡ 9 → ⊥) × (number ≡ 10 → ⊥)
+abbrev pub IsNoStoreMismatch : ℕ → Type 0
+IsNoStoreMismatch number = (number ≡ 9 → ⊥) × (number ≡ 10 → ⊥)
 
 -- only such a fault ends a node: the device has failed, or the store failed earlier or has no generation left
 abbrev pub IsNumberOfEnd : ℕ → Type 0
 IsNumberOfEnd number = (number ≡ 7) ⊎ (number ≡ 11)
 
 -- the same of an end that reports a fault
-abbrev pub IsToldEnd : Option End → Type 0
-IsToldEnd None = Unit {0}
-IsToldEnd (Some (Fault n number)) = IsNumberOfEnd number
-IsToldEnd (Some (Stopped n)) = Unit {0}
+abbrev pub IsEndByCalls : Option End → Type 0
+IsEndByCalls None = Unit {0}
+IsEndByCalls (Some (Fault n number)) = IsNumberOfEnd number
+IsEndByCalls (Some (Stopped n)) = Unit {0}
 
 -- ---- how it ended
 

@@ -44,9 +44,9 @@ pub record HasStoppedOutOfMemory {R : Type 0} (Ends : ℕ → Memory → Type 0)
   pub down : s.life ≡ Down (stopped_on 0 0 left)
 
 -- a node that has reached an armed stop, for this many bytes, was stopped; any other is unchanged
-abbrev pub Rests : {R : Type 0} → Behaviour R → Option ℕ → Seat R → Seat R → Type 0
-Rests b None s t = t ≡ s
-Rests b (Some bytes) s t = t.life ≡ Down (stopped_on bytes bytes (device_in b s.life))
+abbrev pub StopsIfArmed : {R : Type 0} → Behaviour R → Option ℕ → Seat R → Seat R → Type 0
+StopsIfArmed b None s t = t ≡ s
+StopsIfArmed b (Some bytes) s t = t.life ≡ Down (stopped_on bytes bytes (device_in b s.life))
 
 -- its replica took a tick or these bytes; it may have reached an armed stop at a send
 pub record HasTaken {R : Type 0} (b : Behaviour R) (r : R) (o : Option (List ℕ)) (s : Seat R) (mine : List Note)

@@ -6,14 +6,14 @@ ghost use Rattle.lk_node.specs.Calls.{heard_by, InputFits};
 ghost use Rattle.lk_node.specs.Histories.{History, IsLawful};
 ghost use Rattle.lk_node.specs.Leavings.{header_of};
 ghost use Rattle.lk_replica.specs.Behaviours.{disks_by};
-ghost use Rattle.lk_sim_nodes.specs.Ends.{Breaks, FailsToCompact, IsToldEnd, StaysDown};
+ghost use Rattle.lk_sim_nodes.specs.Ends.{Breaks, FailsToCompact, IsEndByCalls, StaysDown};
 ghost use Rattle.lk_sim_nodes.specs.Outcomes.{HasEndedByFault, HasCompacted, HasRevived, HasTaken};
 ghost use Rattle.lk_sim_nodes.specs.Outcomes.{HasStoppedOutOfMemory};
 ghost use Rattle.lk_sim_nodes.specs.Seats.{SeatFits, SeatGoes};
 ghost use Rattle.lk_sim_nodes.specs.declared.seat.Life.TheVariants.{Up, Down};
 
 use crate::outcome::{Outcome, count_sends, ended_at, stop_node};
-use crate::seat::{Life, Seat, take_device};
+use crate::seat::{Life, Seat, remove_device};
 use lk_node_interface::Input;
 use lk_replica::{MemoryReplica, Taken};
 use lk_store_format::Header;
@@ -41,7 +41,7 @@ pub fn step<R: MemoryReplica>(
         (heard_by input.entry) seat.new o.notes.items o.sent.items o.ended o.stop
         ⊎ HasEndedByFault (Breaks R.behaves r
         (heard_by input.entry)) seat.new o.notes.items o.sent.items o.ended o.stop) }
-    ensures told { IfOk result (λ o. IsToldEnd o.ended) }
+    ensures told { IfOk result (λ o. IsEndByCalls o.ended) }
     ensures wants { (r : R) → seat.old.life ≡ Up r
         → OnErr result (HasStoppedOutOfMemory (Breaks R.behaves r (heard_by input.entry)) seat.new) }
 {
@@ -61,7 +61,7 @@ pub fn step<R: MemoryReplica>(
             })
         }
         Err(fault) => {
-            let device = take_device(alloc, seat);
+            let device = remove_device(alloc, seat);
             stop_node(alloc, seat, device, fault)
         }
     }
@@ -84,7 +84,7 @@ pub fn compact_node<R: MemoryReplica>(
     ensures exact { (r : R) → seat.old.life ≡ Up r
         → IfOk result (λ o. HasCompacted R.behaves r seat.new o.notes.items o.sent.items o.ended o.stop
         ⊎ HasEndedByFault (FailsToCompact R.behaves r) seat.new o.notes.items o.sent.items o.ended o.stop) }
-    ensures told { IfOk result (λ o. IsToldEnd o.ended) }
+    ensures told { IfOk result (λ o. IsEndByCalls o.ended) }
     ensures wants { (r : R) → seat.old.life ≡ Up r
         → OnErr result (HasStoppedOutOfMemory (FailsToCompact R.behaves r) seat.new) }
 {
@@ -99,7 +99,7 @@ pub fn compact_node<R: MemoryReplica>(
             stop: None,
         }),
         Err(fault) => {
-            let device = take_device(alloc, seat);
+            let device = remove_device(alloc, seat);
             stop_node(alloc, seat, device, fault)
         }
     }
@@ -125,12 +125,12 @@ pub fn revive<R: MemoryReplica>(
         ⊎ HasEndedByFault (StaysDown R.behaves d (header_of genesis.now seat.old.number)) seat.new o.notes.items
         o.sent.items o.ended o.stop) }
     ensures told { (h : History) (w : PaxosState) → h.genesis ≡ genesis.now → IsLawful R.meaning h
-        → SeatFits R.Shows (disks_by R.behaves) R.meaning h w seat.old → IfOk result (λ o. IsToldEnd o.ended) }
+        → SeatFits R.Shows (disks_by R.behaves) R.meaning h w seat.old → IfOk result (λ o. IsEndByCalls o.ended) }
     ensures wants { (d : Memory) → seat.old.life ≡ Down d
         → OnErr result (HasStoppedOutOfMemory (StaysDown R.behaves d
         (header_of genesis.now seat.old.number)) seat.new) }
 {
-    let device = take_device(alloc, seat);
+    let device = remove_device(alloc, seat);
     match R::revive(alloc, device, &Header::new(seat.number, genesis.copy())) {
         Ok(revived) => {
             seat.life = Life::Up(revived.replica);

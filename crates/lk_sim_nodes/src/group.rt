@@ -9,7 +9,7 @@ ghost use Rattle.lk_node.specs.Holdings.{Holding};
 ghost use Rattle.lk_node.specs.Leavings.{DisksFit};
 ghost use Rattle.lk_replica.specs.Behaviours.{disks_by};
 ghost use Rattle.lk_replica.specs.Together.{EachLeavesFit, parts_of};
-ghost use Rattle.lk_sim_nodes.specs.Ends.{BreaksTogether, IsToldEnd};
+ghost use Rattle.lk_sim_nodes.specs.Ends.{BreaksTogether, IsEndByCalls};
 ghost use Rattle.lk_sim_nodes.specs.Outcomes.{HasFallenTogether, HasTakenTogether, HasStoppedOutOfMemory};
 ghost use Rattle.lk_sim_nodes.specs.Rooms.{AreShort};
 ghost use Rattle.lk_sim_nodes.specs.Seats.{SeatFits, device_in};
@@ -17,7 +17,7 @@ ghost use Rattle.lk_sim_nodes.specs.declared.seat.Life.TheVariants.{Up};
 
 use crate::end::End;
 use crate::outcome::{Outcome, count_sends, ended_at, stop_node};
-use crate::seat::{Life, Seat, take_device};
+use crate::seat::{Life, Seat, remove_device};
 use lk_node_interface::Input;
 use lk_replica::{Datagram, MemoryReplica, Step, TakenAll};
 use lk_types::NoMemory;
@@ -72,7 +72,7 @@ pub fn step_all<R: MemoryReplica>(
         (map heard_by inputs.entry.items) seat.new o.steps.items o.sent.items o.ended o.stop
         ⊎ HasFallenTogether (BreaksTogether R.behaves r (map heard_by inputs.entry.items)) seat.new o.steps.items
         o.sent.items o.ended o.stop) }
-    ensures told { IfOk result (λ o. IsToldEnd o.ended) }
+    ensures told { IfOk result (λ o. IsEndByCalls o.ended) }
     ensures wants { (r : R) → seat.old.life ≡ Up r
         → OnErr result (HasStoppedOutOfMemory (BreaksTogether R.behaves r (map heard_by inputs.entry.items)) seat.new) }
 {
@@ -92,7 +92,7 @@ pub fn step_all<R: MemoryReplica>(
             })
         }
         Err(fault) => {
-            let device = take_device(alloc, seat);
+            let device = remove_device(alloc, seat);
             let outcome = stop_node(alloc, seat, device, fault)?;
             Ok(fallen(alloc, outcome))
         }

@@ -6,8 +6,8 @@ ghost use Rattle.lk_node.specs.Histories.{History};
 ghost use Rattle.lk_node.specs.Leavings.{DisksFit};
 ghost use Rattle.lk_node_interface.specs.Faults.{fault_number};
 ghost use Rattle.lk_replica.specs.Behaviours.{disks_by};
-ghost use Rattle.lk_sim_nodes.specs.Ends.{IsOtherFault, IsSound, IsToldEnd, IsOutOfMemory, end_by, end_at};
-ghost use Rattle.lk_sim_nodes.specs.Outcomes.{HasEndedByFault, IsThis, Rests};
+ghost use Rattle.lk_sim_nodes.specs.Ends.{IsOtherFault, IsNoStoreMismatch, IsEndByCalls, IsOutOfMemory, end_by, end_at};
+ghost use Rattle.lk_sim_nodes.specs.Outcomes.{HasEndedByFault, IsThis, StopsIfArmed};
 ghost use Rattle.lk_sim_nodes.specs.Rooms.{AreShort};
 ghost use Rattle.lk_sim_nodes.specs.Seats.{SeatFits, stopped_on};
 ghost use Rattle.lk_sim_nodes.specs.Sends.{SentUpTo};
@@ -37,7 +37,7 @@ pub fn carry_out_stop<R: MemoryReplica>(alloc: Global, seat: &mut Seat<R>, at: O
     ensures number { seat.new.number ≡ seat.old.number }
     ensures fits { (h : History) (w : PaxosState) → SeatFits R.Shows (disks_by R.behaves) R.meaning h w seat.old
         → SeatFits R.Shows (disks_by R.behaves) R.meaning h w seat.new }
-    ensures rests { Rests R.behaves at seat.old seat.new }
+    ensures rests { StopsIfArmed R.behaves at seat.old seat.new }
 {
     if let Some(bytes) = at {
         stop(alloc, seat, bytes, bytes);
@@ -70,7 +70,7 @@ pub fn stop_node<R: MemoryReplica>(
         → AreShort (disk_of device) → SeatFits R.Shows (disks_by R.behaves) R.meaning h w seat.new }
     ensures fallen { IfOk result
         (λ o. HasEndedByFault (IsThis (fault_number fault) device) seat.new o.notes.items o.sent.items o.ended o.stop) }
-    ensures told { IsSound (fault_number fault) → IfOk result (λ o. IsToldEnd o.ended) }
+    ensures told { IsNoStoreMismatch (fault_number fault) → IfOk result (λ o. IsEndByCalls o.ended) }
     ensures halted { OnErr result (seat.new.life ≡ Down (stopped_on 0 0 device)) }
     ensures want { OnErr result (IsOutOfMemory (fault_number fault) device) }
 {

@@ -41,7 +41,7 @@ fn vacate<R: Drop>(alloc: Global, seat: &mut Seat<R>) -> Life<R>
 }
 
 /// Takes the device out of the node, up or down, and leaves it down with empty disks.
-pub fn take_device<R: MemoryReplica>(alloc: Global, seat: &mut Seat<R>) -> MemoryDisk
+pub fn remove_device<R: MemoryReplica>(alloc: Global, seat: &mut Seat<R>) -> MemoryDisk
     ensures number { seat.new.number ≡ seat.old.number }
     ensures is { result ≡ device_in R.behaves seat.old.life }
     ensures fits { (h : History) (w : PaxosState) → SeatFits R.Shows (disks_by R.behaves) R.meaning h w seat.old
@@ -63,7 +63,7 @@ pub fn stop<R: MemoryReplica>(alloc: Global, seat: &mut Seat<R>, x: usize, y: us
         → SeatFits R.Shows (disks_by R.behaves) R.meaning h w seat.new }
     ensures stopped { seat.new.life ≡ Down (stopped_on x y (device_in R.behaves seat.old.life)) }
 {
-    let mut device = take_device(alloc, seat);
+    let mut device = remove_device(alloc, seat);
     device.stop(x, y);
     device.trap(Trap::Off);
     seat.life = Life::Down(device);

@@ -65,8 +65,8 @@ fn put_sessions(out: &mut BytesMut, sessions: &[Session]) -> Result<(), AllocErr
 }
 
 impl<M: Machine> Whole<M> {
-    /// Brings into a proof that each part is in its range, and that the packed text has 1 to 42,087 bytes. Does nothing
-    /// at run time.
+    /// Shows the prover that each part is in its range, and that the packed text has 1 to 42,087 bytes. Does nothing at
+    /// run time.
     pub fn facts(&self)
         ensures fits { IsWhole M.IsText self.now }
         ensures some { 1 ≤ length (packed self.now) }

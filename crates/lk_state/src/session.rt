@@ -29,7 +29,7 @@ impl Session {
         }
     }
 
-    /// Brings into a proof that each part is in its range. Does nothing at run time.
+    /// Shows the prover that each part is in its range. Does nothing at run time.
     pub fn facts(self)
         ensures { IsSession self }
     {}
@@ -118,7 +118,7 @@ impl Sessions {
     }
 }
 
-// Brings into a proof that each part of the sessions is in its range. Does nothing at run time.
+// Shows the prover that each part of the sessions is in its range. Does nothing at run time.
 fn facts_of(sessions: &[Session])
     ensures { AllByRecursion IsSession sessions.now }
 {

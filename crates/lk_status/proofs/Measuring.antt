@@ -12,7 +12,7 @@ use Rattle.lk_types.specs.Ballots.{is_below}
 use Rattle.lk_probe.specs.declared.probe.Report.{Report}
 use Rattle.lk_status.specs.Verdicts.{IsAmong}
 use Rattle.lk_status.specs.Measures.{has_genesis, those_of, count_naming, outweighs, more_named, IsMostNamed}
-use Rattle.lk_status.specs.Measures.{IsMostToldOf}
+use Rattle.lk_status.specs.Measures.{IsMostNamedOf}
 use Rattle.lk_status.specs.Measures.{IsFurthest, IsFurthestOf, executed_of, further, IsMeasureOf}
 
 among_front : (rs : List Report) (r o : Report) → IsAmong r rs → IsAmong r (rs ++ o ∷ [])
@@ -112,7 +112,7 @@ one_told all front None r none =
 one_told all front (Some best) r holds = outweighing all front best r (outweighs all r best) refl holds
 
 pub of_all : (all front : List Report) (best : Option Report) → front ≡ all
-    → HoldsInOf all front best → IsMostToldOf all best
+    → HoldsInOf all front best → IsMostNamedOf all best
 of_all all front None e none = sym e ∙ none
 of_all all front (Some r) e holds = record {
   is_there = subst (λ (l : List Report). IsAmong r l) e holds.is_there;
@@ -204,11 +204,17 @@ has_some (x ∷ rs) r (inr there) none =
     more_of (has_genesis (genesis r) x) x (those_of (genesis r) rs) (has_some rs r there) none
 
 pub by_leader : (rs : List Report) (r : Report) → IsMostNamed rs r → leads r ≡ true → IsMeasureOf rs (Some r)
-by_leader rs r told led =
-    record { told = r; most_told = told; leader = λ _. refl; furthest = λ it. absurd (false≢true (sym it ∙ led)) }
+by_leader rs r named led =
+    record { named = r; most_named = named; leader = λ _. refl; furthest = λ it. absurd (false≢true (sym it ∙ led)) }
 
 pub by_furthest : (rs : List Report) (r : Report) (found : Option Report) → IsMostNamed rs r → leads r ≡ false
     → IsFurthestOf (those_of (genesis r) rs) found → IsMeasureOf rs found
-by_furthest rs r None told unled none = absurd (has_some rs r told.is_there none)
-by_furthest rs r (Some found) told unled furthest =
-    record { told = r; most_told = told; leader = λ it. absurd (false≢true (sym unled ∙ it)); furthest = λ _. furthest }
+by_furthest rs r None named unled none = absurd (has_some rs r named.is_there none)
+by_furthest rs r (Some found) named unled furthest =
+    record {
+      named = r;
+      most_named = named;
+      leader = λ it. absurd (false≢true (sym unled
+          ∙ it));
+      furthest = λ _. furthest;
+    }

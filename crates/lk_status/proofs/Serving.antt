@@ -7,7 +7,7 @@ use Rattle.std.specs.List.{AllByRecursion}
 use Rattle.std.proofs.lemmas.Bool.{ltb-true, lt-ltb}
 use lib.Pointwise.{bytes_decides}
 use Rattle.lk_probe.specs.declared.probe.Report.{Report}
-use Rattle.lk_status.specs.Verdicts.{IsAmong, has_majority, IsServed, some_leads, tells, one_genesis, is_served}
+use Rattle.lk_status.specs.Verdicts.{IsAmong, has_majority, IsServed, some_leads, all_name, one_genesis, is_served}
 
 both_true : (a b : Bool) → (a && b) ≡ true → (a ≡ true) × (b ≡ true)
 both_true true b e = (refl, e)
@@ -53,15 +53,15 @@ leads_from (other ∷ leaders) rs r (inr there) leads majority =
 abbrev genesis_of : Report → List ℕ
 genesis_of r = r.status.identity.genesis
 
-tells_to : (genesis : List ℕ) (rs : List Report) → tells genesis rs ≡ true
+tells_to : (genesis : List ℕ) (rs : List Report) → all_name genesis rs ≡ true
     → AllByRecursion (λ (r : Report). genesis_of r ≡ genesis) rs
 tells_to genesis [] e = tt
 tells_to genesis (r ∷ rs) e =
-    let both = both_true (pointwise nat_eq (genesis_of r) genesis) (tells genesis rs) e in
+    let both = both_true (pointwise nat_eq (genesis_of r) genesis) (all_name genesis rs) e in
     ((bytes_decides (genesis_of r) genesis).0 both.0, tells_to genesis rs both.1)
 
 tells_from : (genesis : List ℕ) (rs : List Report) → AllByRecursion (λ (r : Report). genesis_of r ≡ genesis) rs
-    → tells genesis rs ≡ true
+    → all_name genesis rs ≡ true
 tells_from genesis [] all = refl
 tells_from genesis (r ∷ rs) all = rw ((bytes_decides (genesis_of r) genesis).1 all.0, tells_from genesis rs all.1) refl
 

@@ -23,13 +23,13 @@ is_named_by genesis node [] = false
 is_named_by genesis node (r ∷ rs) = r.node == node && has_genesis genesis r || is_named_by genesis node rs
 
 -- it names that genesis, and no report of its node among these, which follow it, does
-abbrev pub is_last_to_tell : List ℕ → Report → List Report → Bool
-is_last_to_tell genesis r rs = has_genesis genesis r && not (is_named_by genesis r.node rs)
+abbrev pub is_last_to_name : List ℕ → Report → List Report → Bool
+is_last_to_name genesis r rs = has_genesis genesis r && not (is_named_by genesis r.node rs)
 
 -- how many nodes name it
 abbrev pub count_naming : List ℕ → List Report → ℕ
 count_naming genesis [] = 0
-count_naming genesis (r ∷ rs) = if is_last_to_tell genesis r rs then suc
+count_naming genesis (r ∷ rs) = if is_last_to_name genesis r rs then suc
     (count_naming genesis rs) else count_naming genesis rs
 
 -- the first leads and the other does not, or leads in a smaller ballot; or nobody of both leads, and the other is the
@@ -55,9 +55,9 @@ pub record IsMostNamed (rs : List Report) (r : Report) : Type 0 where
   pub most : AllByRecursion (λ (o : Report). outweighs rs o r ≡ false) rs
 
 -- one of them, if there is any
-abbrev pub IsMostToldOf : List Report → Option Report → Type 0
-IsMostToldOf rs None = rs ≡ []
-IsMostToldOf rs (Some r) = IsMostNamed rs r
+abbrev pub IsMostNamedOf : List Report → Option Report → Type 0
+IsMostNamedOf rs None = rs ≡ []
+IsMostNamedOf rs (Some r) = IsMostNamed rs r
 
 -- ---- the measure
 
@@ -74,10 +74,10 @@ IsFurthestOf rs (Some r) = IsFurthest rs r
 -- of the reports whose genesis most nodes name, it is that of the leader, or of one that has executed most if none
 -- leads
 pub record IsMeasure (rs : List Report) (r : Report) : Type 0 where
-  pub told : Report
-  pub most_told : IsMostNamed rs told
-  pub leader : told.status.leadership.leads ≡ true → r ≡ told
-  pub furthest : told.status.leadership.leads ≡ false → IsFurthest (those_of told.status.identity.genesis rs) r
+  pub named : Report
+  pub most_named : IsMostNamed rs named
+  pub leader : named.status.leadership.leads ≡ true → r ≡ named
+  pub furthest : named.status.leadership.leads ≡ false → IsFurthest (those_of named.status.identity.genesis rs) r
 
 -- the measure, if there is any report
 abbrev pub IsMeasureOf : List Report → Option Report → Type 0
@@ -87,13 +87,13 @@ IsMeasureOf rs (Some r) = IsMeasure rs r
 -- ---- of two reports
 
 -- the first outweighs the other, if there is one
-abbrev pub is_more_told : List Report → Report → Option Report → Bool
-is_more_told rs r None = true
-is_more_told rs r (Some o) = outweighs rs r o
+abbrev pub is_named_more : List Report → Report → Option Report → Bool
+is_named_more rs r None = true
+is_named_more rs r (Some o) = outweighs rs r o
 
 -- the report, if it outweighs the best so far, else that one
 abbrev pub more_named : List Report → Option Report → Report → Option Report
-more_named rs best r = if is_more_told rs r best then Some r else best
+more_named rs best r = if is_named_more rs r best then Some r else best
 
 abbrev pub executed_of : Option Report → ℕ
 executed_of None = 0

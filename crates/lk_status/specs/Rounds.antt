@@ -45,7 +45,7 @@ IsReport i bytes r =
 -- it answers a probe of the round that none of these has answered
 pub record IsAwaited (i : Inquiry) (first : ℕ) (rs : List Report) (r : Report) : Type 0 where
   pub of_round : IsOfRound i first r
-  pub unanswered : has_token r.token rs ≡ false
+  pub unreported : has_token r.token rs ≡ false
 
 -- this report is added if the datagram is one that is awaited, and nothing otherwise
 abbrev pub Adds : Inquiry → ℕ → List ℕ → List Report → List Report → Type 0
@@ -142,6 +142,6 @@ module _ {S : Type 0} (sent incoming : S → List (SocketAddr × List ℕ)) (fai
           (record { socket = new; reports = reports; silences = silences })
 
     -- they are the reports of a round up to this socket, if it tells what it sends and what comes
-    pub record AreHeard (tells : Type 0) (reports : List Report) (ended : S) : Type 0 where
+    pub record AreHeard (observable : Type 0) (reports : List Report) (ended : S) : Type 0 where
       pub of_round : AreOfRound i first reports
-      pub heard : tells → (begun : S) × IsRound reports begun ended
+      pub heard : observable → (begun : S) × IsRound reports begun ended

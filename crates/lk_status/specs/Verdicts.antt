@@ -46,13 +46,13 @@ some_leads [] rs = false
 some_leads (r ∷ leaders) rs = r.status.leadership.leads && has_majority r rs || some_leads leaders rs
 
 -- all name that genesis
-abbrev pub tells : List ℕ → List Report → Bool
-tells genesis [] = true
-tells genesis (r ∷ rs) = pointwise nat_eq r.status.identity.genesis genesis && tells genesis rs
+abbrev pub all_name : List ℕ → List Report → Bool
+all_name genesis [] = true
+all_name genesis (r ∷ rs) = pointwise nat_eq r.status.identity.genesis genesis && all_name genesis rs
 
 abbrev pub one_genesis : List Report → Bool
 one_genesis [] = true
-one_genesis (r ∷ rs) = tells r.status.identity.genesis (r ∷ rs)
+one_genesis (r ∷ rs) = all_name r.status.identity.genesis (r ∷ rs)
 
 abbrev pub is_served : List Report → Bool
 is_served rs = some_leads rs rs && one_genesis rs

@@ -10,7 +10,7 @@ ghost use Rattle.lk_status.specs.Rounds.{IsRound};
 
 use crate::target::{Inquiry, Target, is_reported};
 use lk_probe::Report;
-use lk_transport::fault::ServiceFault;
+use lk_transport::fault::ProgramFault;
 use lk_transport::receive_buffer::ReceiveBuffer;
 use lk_transport::socket::DatagramSocket;
 use std::alloc::Global;
@@ -25,7 +25,7 @@ fn send_probe<S: DatagramSocket>(
     target: &Target,
     token: u64,
     frame: &mut Vec<u8>,
-) -> Result<(), ServiceFault>
+) -> Result<(), ProgramFault>
     ensures { OnOk result (S.is_observable
         → Probes S.sent S.incoming S.failures inquiry.now token target.now socket.old socket.new) }
 {
@@ -44,7 +44,7 @@ fn probe_target<S: DatagramSocket>(
     token: u64,
     reports: &[Report],
     frame: &mut Vec<u8>,
-) -> Result<(), ServiceFault>
+) -> Result<(), ProgramFault>
     ensures { OnOk result (S.is_observable
         → ProbesUnless S.sent S.incoming S.failures inquiry.now
         (has_token token reports.now) token target.now socket.old socket.new) }
@@ -63,7 +63,7 @@ fn send_probes<S: DatagramSocket>(
     inquiry: &Inquiry,
     first: u64,
     reports: &[Report],
-) -> Result<(), ServiceFault>
+) -> Result<(), ProgramFault>
     ensures { OnOk result (S.is_observable
         → ProbesEach S.sent S.incoming S.failures inquiry.now first inquiry.now.targets.items
         reports.now socket.old socket.new) }
@@ -126,7 +126,7 @@ fn add(
     first: u64,
     reports: &mut Vec<Report>,
     bytes: &[u8],
-) -> Result<(), ServiceFault>
+) -> Result<(), ProgramFault>
     ensures adds { OnOk result (Adds inquiry.now first bytes.now reports.old.items reports.new.items) }
     ensures of_round { OnOk result
         (AreOfRound inquiry.now first reports.old.items → AreOfRound inquiry.now first reports.new.items) }
@@ -155,7 +155,7 @@ fn receive_report<S: DatagramSocket>(
     inquiry: &Inquiry,
     first: u64,
     reports: &mut Vec<Report>,
-) -> Result<bool, ServiceFault>
+) -> Result<bool, ProgramFault>
     ensures receives { S.is_observable → Receives S.sent S.incoming S.failures socket.old socket.new }
     ensures came { IfOk result (λ is. S.is_observable → is_some (next_of S.incoming socket.old) ≡ is) }
     ensures hears { OnOk result
@@ -182,7 +182,7 @@ fn receive_or_probe<S: DatagramSocket>(
     first: u64,
     reports: &mut Vec<Report>,
     silences: &mut u32,
-) -> Result<(), ServiceFault>
+) -> Result<(), ProgramFault>
     requires { silences.old < 4294967295 }
     ensures hears { OnOk result (S.is_observable → HearsOne S.sent S.incoming S.failures inquiry.now first
         (record { socket = socket.old; reports = reports.old.items; silences = silences.old })
@@ -215,7 +215,7 @@ fn collect_reports<S: DatagramSocket>(
     first: u64,
     reports: &mut Vec<Report>,
     silences: &mut u32,
-) -> Result<(), ServiceFault>
+) -> Result<(), ProgramFault>
     ensures hears { OnOk result (S.is_observable → HearsOut S.sent S.incoming S.failures inquiry.now first
         (record { socket = socket.old; reports = reports.old.items; silences = silences.old })
         (record { socket = socket.new; reports = reports.new.items; silences = silences.new })) }
@@ -250,7 +250,7 @@ pub fn probe_all<S: DatagramSocket>(
     inquiry: &Inquiry,
     first: u64,
     idle: &mut u32,
-) -> Result<Vec<Report>, ServiceFault>
+) -> Result<Vec<Report>, ProgramFault>
     ensures round { IfOk result
         (λ rs. S.is_observable
         → IsRound S.sent S.incoming S.failures inquiry.now first rs.items socket.old socket.new) }

@@ -2,9 +2,9 @@
 
 ghost use Rattle.std.specs.Prelude.{◌≡◌, ◌≤◌, length};
 ghost use Rattle.std.specs.Option.{option_copied};
-ghost use Rattle.lk_status.specs.Measures.{has_genesis, is_named_by, is_last_to_tell, count_naming, wins_tie};
+ghost use Rattle.lk_status.specs.Measures.{has_genesis, is_named_by, is_last_to_name, count_naming, wins_tie};
 ghost use Rattle.lk_status.specs.Measures.{outweighs};
-ghost use Rattle.lk_status.specs.Measures.{is_more_told, more_named, IsMostToldOf, further, those_of};
+ghost use Rattle.lk_status.specs.Measures.{is_named_more, more_named, IsMostNamedOf, further, those_of};
 ghost use Rattle.lk_status.specs.Measures.{IsFurthestOf};
 ghost use Rattle.lk_status.specs.Measures.{IsMeasureOf, executed_of};
 
@@ -32,8 +32,8 @@ fn is_named_by(genesis: &[u8; DIGEST], node: NodeNo, reports: &[Report]) -> bool
 
 // Whether a report names that genesis, and none of its node in `others`, the reports after it, does: so a node that
 // reports at two ports counts once.
-fn is_last_to_tell(genesis: &[u8; DIGEST], report: &Report, others: &[Report]) -> bool
-    ensures { result ≡ is_last_to_tell genesis.now report.now others.now }
+fn is_last_to_name(genesis: &[u8; DIGEST], report: &Report, others: &[Report]) -> bool
+    ensures { result ≡ is_last_to_name genesis.now report.now others.now }
 {
     has_genesis(genesis, report) && !is_named_by(genesis, report.node, others)
 }
@@ -45,7 +45,7 @@ fn count_naming(genesis: &[u8; DIGEST], reports: &[Report]) -> usize
 {
     let mut count = 0;
     'all: for (index, report) in reports.iter().enumerate() {
-        if is_last_to_tell(genesis, report, &reports[index + 1..]) {
+        if is_last_to_name(genesis, report, &reports[index + 1..]) {
             count += 1;
         }
     }
@@ -75,8 +75,8 @@ fn outweighs(report: &Report, other: &Report, reports: &[Report]) -> bool
 }
 
 // Whether `report` outweighs `other`, true if there is no other.
-fn is_more_told(report: &Report, other: Option<&Report>, reports: &[Report]) -> bool
-    ensures { result ≡ is_more_told reports.now report.now (option_copied other.entry) }
+fn is_named_more(report: &Report, other: Option<&Report>, reports: &[Report]) -> bool
+    ensures { result ≡ is_named_more reports.now report.now (option_copied other.entry) }
 {
     match other {
         Some(other) => outweighs(report, other, reports),
@@ -92,7 +92,7 @@ fn more_named<'a>(
 ) -> Option<&'a Report>
     ensures { option_copied result ≡ more_named reports.now (option_copied best.entry) report.now }
 {
-    if is_more_told(report, best, reports) {
+    if is_named_more(report, best, reports) {
         Some(report)
     } else {
         best
@@ -101,7 +101,7 @@ fn more_named<'a>(
 
 // Returns the report that no other outweighs: its genesis is the one that most nodes name. `None` without reports.
 fn most_named_in<'a>(reports: &'a [Report]) -> Option<&'a Report>
-    ensures { IsMostToldOf reports.now (option_copied result) }
+    ensures { IsMostNamedOf reports.now (option_copied result) }
 {
     let mut best: Option<&Report> = None;
     'all: for report in reports {
@@ -145,13 +145,13 @@ fn furthest_in<'a>(genesis: &[u8; DIGEST], reports: &'a [Report]) -> Option<&'a 
 pub fn reference_report<'a>(reports: &'a [Report]) -> Option<&'a Report>
     ensures { IsMeasureOf reports.now (option_copied result) }
 {
-    let Some(told) = most_named_in(reports) else {
+    let Some(named) = most_named_in(reports) else {
         return None;
     };
-    if told.status.leadership.leads {
-        return Some(told);
+    if named.status.leadership.leads {
+        return Some(named);
     }
-    furthest_in(&told.status.identity.genesis, reports)
+    furthest_in(&named.status.identity.genesis, reports)
 }
 
 /// How many positions the node of a report has executed; 0 without a report, so that every report is at least as far.

@@ -9,7 +9,7 @@ ghost use Rattle.lk_status.specs.Targets.{SpellsTarget, SpellTargets, target_add
 
 use lk_client::destination::Destination;
 use lk_probe::{Probe, Report};
-use lk_transport::fault::ServiceFault;
+use lk_transport::fault::ProgramFault;
 use lk_types::{ClientNo, NodeNo, Port};
 use lk_word_parsers::member::member_of;
 use lk_word_parsers::operation::port_of;
@@ -53,7 +53,7 @@ fn target_in(word: &[u8]) -> Option<(Option<NodeNo>, Port)>
 
 /// Reads each word as a target, `PORT` or `NODE:PORT`. `None` if a word is neither, or there are more than
 /// `MAX_TARGETS`. Fails if it is out of memory.
-pub fn targets_of(alloc: Global, words: &[&str]) -> Result<Option<Vec<Target>>, ServiceFault>
+pub fn targets_of(alloc: Global, words: &[&str]) -> Result<Option<Vec<Target>>, ProgramFault>
     ensures { IfOk result (λ targets. IfSome targets (λ ts. SpellTargets (map (λ word. word.now) words.now) ts.items)) }
 {
     if words.len() > MAX_TARGETS {

@@ -2,7 +2,7 @@
 
 ghost use Rattle.std.specs.Prelude.{◌≡◌, ◌↔◌, ◌≤◌, IsTrue, length};
 ghost use Rattle.lk_status.specs.Verdicts.{IsServed, seeks_votes, has_reported, count_reporting, has_majority};
-ghost use Rattle.lk_status.specs.Verdicts.{some_leads, tells, one_genesis, is_served, all_have, is_ready};
+ghost use Rattle.lk_status.specs.Verdicts.{some_leads, all_name, one_genesis, is_served, all_have, is_ready};
 
 use lk_probe::{DIGEST, Report};
 use lk_types::{Member, NodeNo};
@@ -63,8 +63,8 @@ fn some_leads(leaders: &[Report], reports: &[Report]) -> bool
 }
 
 // Whether all of these name that genesis.
-fn tells(genesis: &[u8; DIGEST], reports: &[Report]) -> bool
-    ensures { result ≡ tells genesis.now reports.now }
+fn all_name(genesis: &[u8; DIGEST], reports: &[Report]) -> bool
+    ensures { result ≡ all_name genesis.now reports.now }
 {
     for report in reports {
         if report.status.identity.genesis != *genesis {
@@ -79,13 +79,13 @@ pub fn has_one_genesis(reports: &[Report]) -> bool
     ensures { result ≡ one_genesis reports.now }
 {
     match reports.first() {
-        Some(first) => tells(&first.status.identity.genesis, reports),
+        Some(first) => all_name(&first.status.identity.genesis, reports),
         None => true,
     }
 }
 
 // Whether one leads with a majority, and all name one genesis: the test of `is_served`.
-fn has_one_leader(reports: &[Report]) -> bool
+fn is_quorate(reports: &[Report]) -> bool
     ensures { result ≡ is_served reports.now }
 {
     some_leads(reports, reports) && has_one_genesis(reports)
@@ -96,7 +96,7 @@ pub fn is_served(reports: &[Report]) -> bool
     ensures value { result ≡ is_served reports.now }
     ensures served { IsTrue result ↔ IsServed reports.now }
 {
-    has_one_leader(reports)
+    is_quorate(reports)
 }
 
 // Whether each has executed at least this many positions.

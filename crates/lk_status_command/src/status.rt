@@ -17,7 +17,7 @@ use lk_status::asking::probe_all;
 use lk_status::measure::reference_report;
 use lk_status::target::Inquiry;
 use lk_status::verdict::{is_ready, is_served};
-use lk_transport::fault::ServiceFault;
+use lk_transport::fault::ProgramFault;
 use lk_transport::receive_buffer::ReceiveBuffer;
 use lk_transport::socket::DatagramSocket;
 use std::alloc::Global;
@@ -155,7 +155,7 @@ fn wait_until_ready<S: DatagramSocket>(
     socket: &mut S,
     inquiry: &Inquiry,
     most: u32,
-) -> Result<Round, ServiceFault>
+) -> Result<Round, ProgramFault>
     ensures ready { IfOk result (λ r. IsTrue r.is_ready → IsReady inquiry.now r.reports.items) }
     ensures heard { IfOk result
         (λ r. AreHeard S.sent S.incoming S.failures inquiry.now r.first S.is_observable r.reports.items socket.new) }
@@ -181,7 +181,7 @@ fn ask_once<S: DatagramSocket>(
     inquiry: &Inquiry,
     first: u64,
     idle: &mut u32,
-) -> Result<Round, ServiceFault>
+) -> Result<Round, ProgramFault>
     ensures fresh { IfOk result (λ r. r.is_ready ≡ false) }
     ensures heard { IfOk result
         (λ r. AreHeard S.sent S.incoming S.failures inquiry.now r.first S.is_observable r.reports.items socket.new) }
@@ -198,7 +198,7 @@ fn round_of<S: DatagramSocket>(
     alloc: Global,
     socket: &mut S,
     plan: &Plan,
-) -> Result<Round, ServiceFault>
+) -> Result<Round, ProgramFault>
     ensures heard { IfOk result
         (λ r. AreHeard S.sent S.incoming S.failures plan.now.inquiry r.first S.is_observable r.reports.items
         socket.new) }
@@ -228,13 +228,13 @@ fn ask_and_print<S: DatagramSocket, W: Write>(
     socket: &mut S,
     plan: &Plan,
     out: &mut W,
-) -> Result<bool, ServiceFault>
+) -> Result<bool, ProgramFault>
     ensures { IfOk result (λ is. Shows S.sent S.incoming S.failures S.is_observable plan.now is socket.new) }
 {
     let round = round_of(alloc, socket, plan)?;
     match print(plan, round.first, &round.reports, out) {
         Ok(is_served) => Ok(are_both(is_served, round.is_ready)),
-        Err(_) => Err(ServiceFault::Write),
+        Err(_) => Err(ProgramFault::Write),
     }
 }
 

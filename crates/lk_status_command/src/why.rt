@@ -217,7 +217,7 @@ fn write_leaders<W: Write>(
 
 // Writes what the reports show about majority and leader, then about single nodes, by the members of the measure.
 #[tactic(auto, using(crate::proofs::Writing::appends_more))]
-fn write_members<W: Write>(measure: &Report, reports: &[Report], out: &mut W) -> io::Result<()>
+fn write_reasons<W: Write>(measure: &Report, reports: &[Report], out: &mut W) -> io::Result<()>
     ensures { OnOk result (Appends (W.contents out.old) (W.contents out.new) (members_reason measure.now reports.now)) }
 {
     let majority = has_majority(measure, reports);
@@ -239,7 +239,7 @@ pub fn write_why<W: Write>(
     match measure {
         Some(measure) => {
             write_geneses(reports, out)?;
-            write_members(measure, reports, out)?;
+            write_reasons(measure, reports, out)?;
         }
         None => write_nobody(out)?,
     }

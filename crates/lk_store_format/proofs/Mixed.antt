@@ -4,7 +4,7 @@ use Rattle.std.proofs.Common.{length, take, refl, subst, arith}
 use Rattle.std.specs.List.{list_any}
 use Rattle.std.proofs.Math.Seq.{take-append-add}
 use Rattle.std.proofs.lemmas.Bool.{ne_eqb}
-use Rattle.lk_store_format.specs.Formats.{format, tells_raise, is_mixed}
+use Rattle.lk_store_format.specs.Formats.{format, has_raise, is_mixed}
 use Rattle.lk_store_format.specs.Bases.{generation}
 use Rattle.lk_store_format.specs.declared.stored.Stored.{Stored}
 use Rattle.lk_store_format.specs.declared.stored.Stored.TheVariants.{Base, Plain}
@@ -30,17 +30,17 @@ less_so false a b e then_so = refl
 
 -- ---- some of the entries
 
-any_take : (n : ℕ) (es : List Stored) → list_any tells_raise es ≡ false → list_any tells_raise (take n es) ≡ false
+any_take : (n : ℕ) (es : List Stored) → list_any has_raise es ≡ false → list_any has_raise (take n es) ≡ false
 any_take zero es e = refl
 any_take (suc n) [] e = refl
-any_take (suc n) (x ∷ es) e = let p = neither (tells_raise x) (list_any tells_raise es) e in
-    both_false (tells_raise x) (list_any tells_raise (take n es)) p.0 (any_take n es p.1)
+any_take (suc n) (x ∷ es) e = let p = neither (has_raise x) (list_any has_raise es) e in
+    both_false (has_raise x) (list_any has_raise (take n es)) p.0 (any_take n es p.1)
 
 pub mixed-take : (n : ℕ) (es : List Stored) → is_mixed es ≡ false → is_mixed (take n es) ≡ false
 mixed-take zero es e = refl
 mixed-take (suc n) [] e = refl
 mixed-take (suc n) (Base b ∷ es) e =
-    less_so (eqb b.format 1) (list_any tells_raise (Base b ∷ es)) (list_any tells_raise (Base b ∷ take n es)) e
+    less_so (eqb b.format 1) (list_any has_raise (Base b ∷ es)) (list_any has_raise (Base b ∷ take n es)) e
     (any_take (suc n) (Base b ∷ es))
 mixed-take (suc n) (Plain x ∷ es) e = refl
 

@@ -31,14 +31,14 @@ is_raise Noop = false
 is_raise (Request r) = asks_raise r.op
 
 -- the entry has a Raise, in a vote or as a decided command
-abbrev pub tells_raise : Stored → Bool
-tells_raise (Base b) =
+abbrev pub has_raise : Stored → Bool
+has_raise (Base b) =
     list_any (λ v. is_raise v.command) b.standing.votes || list_any (λ p. is_raise p.1) b.standing.pairs
-tells_raise (Plain (Promise b)) = false
-tells_raise (Plain (Vote v)) = is_raise v.command
-tells_raise (Plain (Decided position c)) = is_raise c
+has_raise (Plain (Promise b)) = false
+has_raise (Plain (Vote v)) = is_raise v.command
+has_raise (Plain (Decided position c)) = is_raise c
 
 -- The Base at the start has format 1, and some entry has a command that raises the machine, which no file of format 1
 -- holds.
 abbrev pub is_mixed : List Stored → Bool
-is_mixed es = format es == 1 && list_any tells_raise es
+is_mixed es = format es == 1 && list_any has_raise es

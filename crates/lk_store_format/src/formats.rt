@@ -1,7 +1,7 @@
 // The format of a file, and whether its entries mix the two formats.
 ghost use Rattle.std.specs.Prelude.{◌≡◌};
 ghost use Rattle.std.specs.List.{list_any};
-ghost use Rattle.lk_store_format.specs.Formats.{format, is_raise, tells_raise, is_mixed};
+ghost use Rattle.lk_store_format.specs.Formats.{format, is_raise, has_raise, is_mixed};
 
 use crate::stored::Stored;
 use lk_types::{Command, Entry, Op, Position, Vote};
@@ -44,8 +44,8 @@ fn some_pair_raises(pairs: &[(Position, Command)]) -> bool
 }
 
 // Whether the entry has a Raise, in a vote or as a decided command.
-fn tells_raise(entry: &Stored) -> bool
-    ensures { result ≡ tells_raise entry.now }
+fn has_raise(entry: &Stored) -> bool
+    ensures { result ≡ has_raise entry.now }
 {
     match entry {
         Stored::Base(base) => {
@@ -58,15 +58,15 @@ fn tells_raise(entry: &Stored) -> bool
 }
 
 // Whether some entry has a Raise.
-fn some_tells_raise(entries: &[Stored]) -> bool
-    ensures { result ≡ list_any tells_raise entries.now }
+fn some_has_raise(entries: &[Stored]) -> bool
+    ensures { result ≡ list_any has_raise entries.now }
 {
-    entries.iter().any(|entry| tells_raise(entry))
+    entries.iter().any(|entry| has_raise(entry))
 }
 
 /// Returns whether a file of format 1 has a Raise, which only format 2 permits: such a file is damaged.
 pub fn is_mixed(entries: &[Stored]) -> bool
     ensures { result ≡ is_mixed entries.now }
 {
-    format_of(entries) == 1 && some_tells_raise(entries)
+    format_of(entries) == 1 && some_has_raise(entries)
 }

@@ -26,7 +26,7 @@ impl Model for Header {
     } };
 }
 
-// Proves that each member is in its range, for the caller's contract. Has no effect.
+// Shows the prover that each member is in its range. Does nothing at run time.
 fn members_facts(members: &[Member])
     ensures { AllByRecursion IsMember members.now }
 {
@@ -64,7 +64,7 @@ impl Header {
         &self.genesis
     }
 
-    /// Proves that each part is in its range, for the caller's contract. Has no effect.
+    /// Shows the prover that each part is in its range. Does nothing at run time.
     pub fn facts(&self)
         ensures { IsHeader self.now }
     {

@@ -36,7 +36,7 @@ impl Model for Standing {
     } };
 }
 
-// Proves that each vote is in its range, for the caller's contract. Has no effect.
+// Shows the prover that each vote is in its range. Does nothing at run time.
 fn votes_facts(votes: &[Vote])
     ensures { AllByRecursion IsVote votes.now }
 {
@@ -45,7 +45,7 @@ fn votes_facts(votes: &[Vote])
     }
 }
 
-// Proves that each pair is in its range, for the caller's contract. Has no effect.
+// Shows the prover that each pair is in its range. Does nothing at run time.
 fn pairs_facts(pairs: &[(Position, Command)])
     ensures { AllByRecursion IsPair pairs.now }
 {
@@ -56,7 +56,7 @@ fn pairs_facts(pairs: &[(Position, Command)])
 }
 
 impl Standing {
-    /// Proves that each part is in its range, for the caller's contract. Has no effect.
+    /// Shows the prover that each part is in its range. Does nothing at run time.
     pub fn facts(&self)
         ensures promised { IsBallot self.now.promised }
         ensures position { IsTotal self.now.position }

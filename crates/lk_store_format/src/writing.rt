@@ -179,7 +179,7 @@ pub fn spelled_base(alloc: Global, value: &Base) -> Result<BytesMut, AllocError>
     )
 }
 
-// Proves that each part of an entry is in its range, for the caller's contract. Has no effect.
+// Shows the prover that each part of an entry is in its range. Does nothing at run time.
 fn entry_facts(entry: &Entry)
     ensures { IsEntry entry.now }
 {
@@ -195,7 +195,7 @@ fn entry_facts(entry: &Entry)
     }
 }
 
-/// Proves that each entry is valid in a file, for the caller's contract. Has no effect.
+/// Shows the prover that each entry is valid in a file. Does nothing at run time.
 pub fn entries_facts(entries: &[Entry])
     ensures { AllByRecursion IsStored (plain entries.now) }
 {

@@ -37,7 +37,7 @@ impl Clock for Hands {
 }
 
 #[test]
-fn a_tick_timer_passes_each_100_ms(rt: HostRuntime) -> Result<(), Fail> {
+fn a_tick_timer_elapses_each_100_ms(rt: HostRuntime) -> Result<(), Fail> {
     let clock = Hands {
         shown: Cell::new(7),
     };

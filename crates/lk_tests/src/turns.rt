@@ -10,9 +10,9 @@ use lk_node_process::demo::{Sockets, run_demo};
 use lk_pacing::pace::Pace;
 use lk_pacing::tick_timer::TickTimer;
 use lk_replica::Group;
-use lk_served_replica::replica_status::ReplicaStatus;
-use lk_served_replica::{ProbedState, ServedReplica};
 use lk_server::server::{Server, node_turn};
+use lk_server_replica::replica_status::ReplicaStatus;
+use lk_server_replica::{ProbedState, ServerReplica};
 use lk_transport::network::Network;
 use lk_transport::receive_buffer::ReceiveBuffer;
 use lk_types::{Ballot, Command, Executed, NodeNo, Position, RealBallot};
@@ -52,7 +52,7 @@ fn ran(alloc: Global) -> Option<Outbox> {
     }
 }
 
-impl ServedReplica for NotingReplica {
+impl ServerReplica for NotingReplica {
     ghost failed = { λ t. t.failed };
 
     ghost Says = { λ _ _ letters _. letters ≡ [] };
@@ -63,7 +63,7 @@ impl ServedReplica for NotingReplica {
 
     ghost IsRaised = { λ _ _. ⊤ };
 
-    fn begin_group(&self, alloc: Global) -> Group {
+    fn new_group(&self, alloc: Global) -> Group {
         Group::new(alloc)
     }
 

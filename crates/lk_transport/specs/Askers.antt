@@ -45,12 +45,13 @@ keys_to s None = []
 keys_to s (Some to) = keys_for s to
 
 -- a frame is sent there, once, if the socket reveals that, and no letter is kept
-pub record SendsTo (tells : Type 0) (address : SocketAddr) (frame : List ℕ) (old new : SendState) : Type 0 where
-  pub own_letters : new.own_letters ≡ old.own_letters
-  pub sent : tells → new.sent ≡ old.sent ++ (address, frame) ∷ []
-  pub failures : tells → new.failures ≡ old.failures
+pub record SendsTo (observable : Type 0) (address : SocketAddr) (frame : List ℕ) (old new : SendState) : Type 0 where
+  pub loopback : new.loopback ≡ old.loopback
+  pub sent : observable → new.sent ≡ old.sent ++ (address, frame) ∷ []
+  pub failures : observable → new.failures ≡ old.failures
 
 -- a report goes to where the probe came from, and is sent or lost
 abbrev pub Replies : Type 0 → Seals → ReceivedProbe → List ℕ → SendState → SendState → Type 0
-Replies tells s a bytes old new =
-    SendsTo tells a.from (frame_for s (asker a.probe) bytes) old new ⊎ Loses tells (keys_to s (asker a.probe)) old new
+Replies observable s a bytes old new =
+    SendsTo observable a.from (frame_for s (asker a.probe) bytes) old new
+    ⊎ Loses observable (keys_to s (asker a.probe)) old new

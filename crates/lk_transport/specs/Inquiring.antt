@@ -35,16 +35,17 @@ question_by s node = question s.cluster (record { node = node; genesis = s.genes
 
 -- the probe is sent there unframed, or lost by a send that failed; nothing is sent if there is no address
 abbrev pub SendsProbe : Type 0 → Probe → Option SocketAddr → SendState → SendState → Type 0
-SendsProbe tells p None old new = new ≡ old
-SendsProbe tells p (Some address) old new =
-    (bytes : List ℕ) × SpellsProbe p bytes × (SendsTo tells address bytes old new ⊎ Loses tells [] old new)
+SendsProbe observable p None old new = new ≡ old
+SendsProbe observable p (Some address) old new =
+    (bytes : List ℕ) × SpellsProbe p bytes × (SendsTo observable address bytes old new ⊎ Loses observable [] old new)
 
 -- the node of that number sends its question to one address at which one is due, if there is such an address, and
 -- nothing else
-pub record AsksOne (tells : Type 0) (now node : ℕ) (old new : AddressBook) (before after : SendState) : Type 0 where
+pub record AsksOne (observable : Type 0) (now node : ℕ) (old new : AddressBook)
+    (before after : SendState) : Type 0 where
   pub address : Option SocketAddr
   pub asked : IsAskedAt now address old new
-  pub sends : SendsProbe tells (question_by old.seals node) address before after
+  pub sends : SendsProbe observable (question_by old.seals node) address before after
 
 -- ---- whom it hears again
 
@@ -67,14 +68,14 @@ ReadmitsKept (Some a) old new = ReadmitsIf (is_of old.seals.genesis a.probe.orig
 -- ---- what it learns
 
 -- a frame, with its source, carries this report, which answers the question of the node of that number; or none does
-abbrev pub IsToldBy : ℕ → Seals → SocketAddr × List ℕ → Option Reported → Type 0
-IsToldBy node s d told = IsReportedOf (question_by s node) (d.0, heard s d.1) told
+abbrev pub IsReportedBy : ℕ → Seals → SocketAddr × List ℕ → Option Reported → Type 0
+IsReportedBy node s d told = IsReportedOf (question_by s node) (d.0, heard s d.1) told
 
 -- a report's genesis is recorded for its address, which was asked and had not answered; a report from another address
 -- changes nothing
 abbrev pub LearnsOf : Reported → Option Neighbour → AddressBook → AddressBook → Type 0
 LearnsOf r (Some n) old new =
-    Learns r.from old.seals.genesis r.told n old.neighbours new.neighbours
+    Learns r.from old.seals.genesis r.reporter n old.neighbours new.neighbours
     × (new ≡ record old { neighbours = new.neighbours })
 LearnsOf r None old new =
     (is_open_at (slice_get old.neighbours (entry_for r.from old.neighbours)) ≡ false) × (new ≡ old)

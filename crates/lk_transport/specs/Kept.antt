@@ -6,7 +6,7 @@ use Rattle.std.specs.declared.net.socket_addr.SocketAddr.{SocketAddr}
 use Rattle.lk_auth.specs.declared.seals.Seals.{Seals}
 use Rattle.lk_transport.specs.Askers.{BringsProbe}
 use Rattle.lk_transport.specs.ReceiveBuffers.{BufferValue}
-use Rattle.lk_transport.specs.Inquiring.{IsToldBy}
+use Rattle.lk_transport.specs.Inquiring.{IsReportedBy}
 
 -- ---- the first of what frames bring. `Brings` says what a frame brings, if anything
 
@@ -50,9 +50,9 @@ module _ {K : Type 0} (Brings : SocketAddr × List ℕ → Option K → Type 0) 
 pub record KeepsProbes (node : ℕ) (s : Seals) (old new : BufferValue) : Type 0 where
   pub last : new.last ≡ old.last
   pub asked : KeepsFirst (BringsProbe s) old.last old.asked new.asked
-  pub reported : KeepsFirst (IsToldBy node s) old.last old.reported new.reported
+  pub reported : KeepsFirst (IsReportedBy node s) old.last old.reported new.reported
 
 -- of these frames
 pub record KeepsOf (node : ℕ) (s : Seals) (frames : List (SocketAddr × List ℕ)) (old new : BufferValue) : Type 0 where
   pub asked : KeepsFirstOf (BringsProbe s) old.asked frames new.asked
-  pub reported : KeepsFirstOf (IsToldBy node s) old.reported frames new.reported
+  pub reported : KeepsFirstOf (IsReportedBy node s) old.reported frames new.reported

@@ -23,10 +23,10 @@ use Rattle.lk_transport.specs.Hosts.{host_of}
 
 -- its node, the addresses, the kept letters of the node to itself, what the socket has sent, how many of its sends
 -- have failed overall and in this group, and the frames that are to arrive, in order
-pub record PostValue : Type 0 where
+pub record SocketPostValue : Type 0 where
   pub node : ℕ
   pub addresses : AddressBook
-  pub own_letters : List LetterValue
+  pub loopback : List LetterValue
   pub sent : List (SocketAddr × List ℕ)
   pub socket_failures : ℕ
   pub failures : ℕ
@@ -35,12 +35,12 @@ pub record PostValue : Type 0 where
 -- what a letter may change: the kept letters of the node to itself, what the socket has sent, and how many of its
 -- sends have failed
 pub record SendState : Type 0 where
-  pub own_letters : List LetterValue
+  pub loopback : List LetterValue
   pub sent : List (SocketAddr × List ℕ)
   pub failures : ℕ
 
-abbrev pub send_state_of : PostValue → SendState
-send_state_of p = record { own_letters = p.own_letters; sent = p.sent; failures = p.socket_failures }
+abbrev pub send_state_of : SocketPostValue → SendState
+send_state_of p = record { loopback = p.loopback; sent = p.sent; failures = p.socket_failures }
 
 -- for a node: its port at its address, or, if that is not known, where it last wrote from
 abbrev pub IsAddressOf : AddressBook → ℕ → ℕ → Option SocketAddr → Type 0
@@ -97,38 +97,38 @@ IsBoundFor node (Client c) = ⊥
 IsBoundFor node (Node n port) = n ≡ node
 
 -- a letter of the node to itself is kept after the others, and nothing is sent
-pub record KeepsOwnLetter (node : ℕ) (l : LetterValue) (old new : SendState) : Type 0 where
+pub record KeepsLoopback (node : ℕ) (l : LetterValue) (old new : SendState) : Type 0 where
   pub bound : IsBoundFor node l.to
-  pub own_letters : new.own_letters ≡ old.own_letters ++ l ∷ []
+  pub loopback : new.loopback ≡ old.loopback ++ l ∷ []
   pub sent : new.sent ≡ old.sent
   pub failures : new.failures ≡ old.failures
 
 -- its frame is sent to its destination, whole and once, if the socket reveals that, and no letter is kept
-pub record Sends (tells : Type 0) (book : AddressBook) (l : LetterValue) (old new : SendState) : Type 0 where
-  pub own_letters : new.own_letters ≡ old.own_letters
-  pub sent : tells → (address : Option SocketAddr) × IsRoute book l.to address
+pub record Sends (observable : Type 0) (book : AddressBook) (l : LetterValue) (old new : SendState) : Type 0 where
+  pub loopback : new.loopback ≡ old.loopback
+  pub sent : observable → (address : Option SocketAddr) × IsRoute book l.to address
       × (new.sent ≡ old.sent ++ carried address (frame_of book.seals l.to l.bytes))
-  pub failures : tells → new.failures ≡ old.failures
+  pub failures : observable → new.failures ≡ old.failures
 
 -- it is lost: either one more send has failed, if the socket reveals that, or its frame ran out of memory, if there is
 -- a key; nothing is sent and no letter is kept
-pub record Loses (tells : Type 0) (keys : List (List ℕ)) (old new : SendState) : Type 0 where
-  pub own_letters : new.own_letters ≡ old.own_letters
-  pub sent : tells → new.sent ≡ old.sent
-  pub failures : tells → (new.failures ≡ one_more old.failures) ⊎ ((keys ≢ []) × (new.failures ≡ old.failures))
+pub record Loses (observable : Type 0) (keys : List (List ℕ)) (old new : SendState) : Type 0 where
+  pub loopback : new.loopback ≡ old.loopback
+  pub sent : observable → new.sent ≡ old.sent
+  pub failures : observable → (new.failures ≡ one_more old.failures) ⊎ ((keys ≢ []) × (new.failures ≡ old.failures))
 
 -- the fate of a letter of that node with these addresses: kept, sent, or lost by a failed send
 abbrev pub Becomes : Type 0 → ℕ → AddressBook → SendState → LetterValue → Bool → SendState → Type 0
-Becomes tells node book old l true new = KeepsOwnLetter node l old new ⊎ Sends tells book l old new
-Becomes tells node book old l false new = Loses tells (keys_for book.seals l.to) old new
+Becomes observable node book old l true new = KeepsLoopback node l old new ⊎ Sends observable book l old new
+Becomes observable node book old l false new = Loses observable (keys_for book.seals l.to) old new
 
 -- the same at a post, of which a letter changes nothing else but the count of failed sends in this group
-pub record CarriesLetter (tells : Type 0) (old : PostValue) (l : LetterValue) (is_sent : Bool)
-    (new : PostValue) : Type 0 where
+pub record CarriesLetter (observable : Type 0) (old : SocketPostValue) (l : LetterValue) (is_sent : Bool)
+    (new : SocketPostValue) : Type 0 where
   pub node : new.node ≡ old.node
   pub addresses : new.addresses ≡ old.addresses
-  pub still : tells → new.incoming ≡ old.incoming
-  pub becomes : Becomes tells old.node old.addresses (send_state_of old) l is_sent (send_state_of new)
+  pub still : observable → new.incoming ≡ old.incoming
+  pub becomes : Becomes observable old.node old.addresses (send_state_of old) l is_sent (send_state_of new)
 
 -- a node that accepts this message follows its sender: a Prepare, an Accept, a Decided or a Lead
 abbrev pub is_binding : NodeMessage → Bool

@@ -12,7 +12,7 @@ use std::io::Write;
 
 /// Why a command ended early. Its text is the last line on standard error.
 #[derive(Clone, Copy, Debug)]
-pub enum ServiceFault {
+pub enum ProgramFault {
     /// A folder, a file or a socket did not open.
     CannotOpen,
     /// Fault 7: a call of a file failed.
@@ -33,22 +33,22 @@ pub enum ServiceFault {
     OtherGenesis,
 }
 
-impl ServiceFault {
+impl ProgramFault {
     ghost use Rattle.lk_node_interface.specs.Faults.{fault_number};
     ghost use Rattle.lk_transport.specs.Faults.{replica_fault};
 
     /// Converts the fault of a replica that did not start. It is never `Send`, which only a running replica reports.
-    pub fn of_replica(fault: &ReplicaFault) -> ServiceFault
+    pub fn of_replica(fault: &ReplicaFault) -> ProgramFault
         requires { fault_number fault.now < 15 }
         ensures { result ≡ replica_fault fault.now }
     {
         match fault {
-            ReplicaFault::Device => ServiceFault::Device,
-            ReplicaFault::NoMemory => ServiceFault::NoMemory,
-            ReplicaFault::Damaged => ServiceFault::Damaged,
-            ReplicaFault::WrongStore => ServiceFault::WrongStore,
-            ReplicaFault::Failed => ServiceFault::Failed,
-            ReplicaFault::Halted => ServiceFault::Halted,
+            ReplicaFault::Device => ProgramFault::Device,
+            ReplicaFault::NoMemory => ProgramFault::NoMemory,
+            ReplicaFault::Damaged => ProgramFault::Damaged,
+            ReplicaFault::WrongStore => ProgramFault::WrongStore,
+            ReplicaFault::Failed => ProgramFault::Failed,
+            ReplicaFault::Halted => ProgramFault::Halted,
             ReplicaFault::Send(_) => unreachable!(),
         }
     }
@@ -56,15 +56,15 @@ impl ServiceFault {
     /// Returns the line that reports it, with its newline; empty for `OtherGenesis`, which is reported already.
     pub fn text(self) -> &'static str {
         match self {
-            ServiceFault::CannotOpen => "cannot open\n",
-            ServiceFault::Device => "fault 7\n",
-            ServiceFault::NoMemory => "fault 8\n",
-            ServiceFault::Damaged => "fault 9\n",
-            ServiceFault::WrongStore => "fault 10\n",
-            ServiceFault::Failed => "fault 11\n",
-            ServiceFault::Halted => "fault 14\n",
-            ServiceFault::Write => "fault 24\n",
-            ServiceFault::OtherGenesis => "",
+            ProgramFault::CannotOpen => "cannot open\n",
+            ProgramFault::Device => "fault 7\n",
+            ProgramFault::NoMemory => "fault 8\n",
+            ProgramFault::Damaged => "fault 9\n",
+            ProgramFault::WrongStore => "fault 10\n",
+            ProgramFault::Failed => "fault 11\n",
+            ProgramFault::Halted => "fault 14\n",
+            ProgramFault::Write => "fault 24\n",
+            ProgramFault::OtherGenesis => "",
         }
     }
 
@@ -77,70 +77,70 @@ impl ServiceFault {
     }
 }
 
-impl From<CannotOpen> for ServiceFault {
-    ghost use Rattle.lk_transport.specs.declared.fault.ServiceFault.TheVariants.{CannotOpen as closed};
+impl From<CannotOpen> for ProgramFault {
+    ghost use Rattle.lk_transport.specs.declared.fault.ProgramFault.TheVariants.{CannotOpen as closed};
 
     ghost from_gives = { λ _ e. e ≡ closed };
 
-    fn from(_: CannotOpen) -> ServiceFault {
-        ServiceFault::CannotOpen
+    fn from(_: CannotOpen) -> ProgramFault {
+        ProgramFault::CannotOpen
     }
 }
 
-impl From<AllocError> for ServiceFault {
-    ghost use Rattle.lk_transport.specs.declared.fault.ServiceFault.TheVariants.{NoMemory as memory};
+impl From<AllocError> for ProgramFault {
+    ghost use Rattle.lk_transport.specs.declared.fault.ProgramFault.TheVariants.{NoMemory as memory};
 
     ghost from_gives = { λ _ e. e ≡ memory };
 
-    fn from(_: AllocError) -> ServiceFault {
-        ServiceFault::NoMemory
+    fn from(_: AllocError) -> ProgramFault {
+        ProgramFault::NoMemory
     }
 }
 
-impl<T: Drop> From<AllocFailed<T>> for ServiceFault {
-    ghost use Rattle.lk_transport.specs.declared.fault.ServiceFault.TheVariants.{NoMemory as memory};
+impl<T: Drop> From<AllocFailed<T>> for ProgramFault {
+    ghost use Rattle.lk_transport.specs.declared.fault.ProgramFault.TheVariants.{NoMemory as memory};
 
     ghost from_gives = { λ _ e. e ≡ memory };
 
-    fn from(_: AllocFailed<T>) -> ServiceFault {
-        ServiceFault::NoMemory
+    fn from(_: AllocFailed<T>) -> ProgramFault {
+        ProgramFault::NoMemory
     }
 }
 
-impl From<OpenFault> for ServiceFault {
+impl From<OpenFault> for ProgramFault {
     ghost use Rattle.lk_transport.specs.Faults.{open_fault};
 
     ghost from_gives = { λ f e. e ≡ open_fault f };
 
-    fn from(fault: OpenFault) -> ServiceFault {
+    fn from(fault: OpenFault) -> ProgramFault {
         match fault {
-            OpenFault::Device => ServiceFault::Device,
-            OpenFault::NoMemory => ServiceFault::NoMemory,
-            OpenFault::Damaged => ServiceFault::Damaged,
-            OpenFault::WrongStore => ServiceFault::WrongStore,
+            OpenFault::Device => ProgramFault::Device,
+            OpenFault::NoMemory => ProgramFault::NoMemory,
+            OpenFault::Damaged => ProgramFault::Damaged,
+            OpenFault::WrongStore => ProgramFault::WrongStore,
         }
     }
 }
 
-impl From<NoMemory> for ServiceFault {
-    ghost use Rattle.lk_transport.specs.declared.fault.ServiceFault.TheVariants.{NoMemory as memory};
+impl From<NoMemory> for ProgramFault {
+    ghost use Rattle.lk_transport.specs.declared.fault.ProgramFault.TheVariants.{NoMemory as memory};
 
     ghost from_gives = { λ _ e. e ≡ memory };
 
-    fn from(_: NoMemory) -> ServiceFault {
-        ServiceFault::NoMemory
+    fn from(_: NoMemory) -> ProgramFault {
+        ProgramFault::NoMemory
     }
 }
 
-impl From<UnpackFault> for ServiceFault {
+impl From<UnpackFault> for ProgramFault {
     ghost use Rattle.lk_transport.specs.Faults.{unpack_fault};
 
     ghost from_gives = { λ f e. e ≡ unpack_fault f };
 
-    fn from(fault: UnpackFault) -> ServiceFault {
+    fn from(fault: UnpackFault) -> ProgramFault {
         match fault {
-            UnpackFault::NotPacked => ServiceFault::Damaged,
-            UnpackFault::NoMemory => ServiceFault::NoMemory,
+            UnpackFault::NotPacked => ProgramFault::Damaged,
+            UnpackFault::NoMemory => ProgramFault::NoMemory,
         }
     }
 }

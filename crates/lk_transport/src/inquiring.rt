@@ -47,7 +47,8 @@ impl Addresses {
         ensures network { IsSameNetwork self.old self.new }
     {
         let own = self.seals().genesis;
-        self.neighbours.learn(reported.from, &own, reported.told)
+        self.neighbours
+            .learn(reported.from, &own, reported.reporter)
     }
 }
 

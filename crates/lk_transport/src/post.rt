@@ -47,7 +47,7 @@ pub struct SocketPost<S: DatagramSocket + Drop> {
     // the last frame sent, if there are keys
     frame: Vec<u8>,
     // the queue of letters of the node to itself
-    own_letters: VecDeque<Letter>,
+    loopback: VecDeque<Letter>,
     // letters of this group that could not be sent
     failures: u64,
     // the last node that was sent a Want in this group
@@ -77,14 +77,14 @@ impl SendSummary {
 }
 
 impl<S: DatagramSocket + Drop> Model for SocketPost<S> {
-    ghost use Rattle.lk_transport.specs.Posts.{PostValue};
+    ghost use Rattle.lk_transport.specs.Posts.{SocketPostValue};
 
-    ghost Value = { PostValue };
+    ghost Value = { SocketPostValue };
 
     ghost view = { λ p. record {
       node = p.node;
       addresses = p.addresses;
-      own_letters = p.own_letters.items;
+      loopback = p.loopback.items;
       sent = S.sent p.socket;
       socket_failures = S.failures p.socket;
       failures = p.failures;
@@ -145,7 +145,7 @@ impl<S: DatagramSocket + Drop> SocketPost<S> {
         ensures node { result.node ≡ node }
         ensures clients { (c : ℕ) → IsClient c → client_at result.addresses c ≡ None }
         ensures nodes { (n : ℕ) → node_at result.addresses n ≡ None }
-        ensures own_letters { result.own_letters ≡ [] }
+        ensures loopback { result.loopback ≡ [] }
         ensures sent { result.sent ≡ S.sent socket }
         ensures socket_failures { result.socket_failures ≡ S.failures socket }
         ensures failures { result.failures ≡ 0 }
@@ -159,7 +159,7 @@ impl<S: DatagramSocket + Drop> SocketPost<S> {
             socket,
             addresses: Addresses::new(network),
             frame: Vec::new(alloc),
-            own_letters: VecDeque::new(alloc),
+            loopback: VecDeque::new(alloc),
             failures: 0,
             wanted: None,
             unsent: None,
@@ -181,13 +181,13 @@ impl<S: DatagramSocket + Drop> SocketPost<S> {
     }
 
     /// Removes and returns the first queued letter of the node to itself.
-    pub fn next_own_letter(&mut self) -> Option<Letter>
-        ensures some { IfSome result (λ l. self.old.own_letters ≡ l ∷ self.new.own_letters) }
-        ensures none { IsNone result → self.old.own_letters ≡ [] }
+    pub fn next_loopback(&mut self) -> Option<Letter>
+        ensures some { IfSome result (λ l. self.old.loopback ≡ l ∷ self.new.loopback) }
+        ensures none { IsNone result → self.old.loopback ≡ [] }
         ensures unchanged { IsNone result → self.new ≡ self.old }
-        ensures others { self.new ≡ record self.old { own_letters = self.new.own_letters } }
+        ensures others { self.new ≡ record self.old { loopback = self.new.loopback } }
     {
-        self.own_letters.pop_front()
+        self.loopback.pop_front()
     }
 
     /// Sets how long a receive waits at most for the next datagram; it may wait up to 10 ms longer.
@@ -266,7 +266,7 @@ impl<S: DatagramSocket + Drop> SocketPost<S> {
     }
 
     /// Begins a group: from now on `send_summary` counts anew.
-    pub fn begin_group(&mut self)
+    pub fn start_group(&mut self)
         ensures { self.new ≡ record self.old { failures = 0 } }
     {
         self.failures = 0;
@@ -306,7 +306,7 @@ impl<S: DatagramSocket + Drop> SocketPost<S> {
     }
 
     // Whether it is addressed to this node.
-    fn is_own_letter(&self, to: &To) -> bool
+    fn is_loopback(&self, to: &To) -> bool
         ensures { result ≡ true ↔ IsBoundFor self.now.node to.now }
     {
         match to {
@@ -316,15 +316,15 @@ impl<S: DatagramSocket + Drop> SocketPost<S> {
     }
 
     // Queues a letter of the node to itself. Out of memory it changes nothing.
-    fn keep_own_letter(&mut self, to: To, bytes: &[u8]) -> Result<(), NoMemory>
+    fn keep_loopback(&mut self, to: To, bytes: &[u8]) -> Result<(), NoMemory>
         ensures ok { OnOk result
             (self.new ≡ record self.old {
-              own_letters = self.old.own_letters ++ record { to = to; bytes = bytes.now } ∷ [];
+              loopback = self.old.loopback ++ record { to = to; bytes = bytes.now } ∷ [];
             }) }
         ensures err { OnErr result (self.new ≡ self.old) }
     {
         let kept = bytes.to_vec(self.alloc)?;
-        self.own_letters.push_back(Letter { to, bytes: kept })?;
+        self.loopback.push_back(Letter { to, bytes: kept })?;
         self.note_sent(&to, bytes);
         Ok(())
     }
@@ -334,7 +334,7 @@ impl<S: DatagramSocket + Drop> SocketPost<S> {
     fn transmit(&mut self, to: To, bytes: &[u8]) -> Result<(), SendFault>
         ensures becomes { Becomes S.is_observable self.old.node self.old.addresses (send_state_of self.old)
             (record { to = to; bytes = bytes.now }) (is_ok result) (send_state_of self.new) }
-        ensures own_letters { self.new.own_letters ≡ self.old.own_letters }
+        ensures loopback { self.new.loopback ≡ self.old.loopback }
         ensures node { self.new.node ≡ self.old.node }
         ensures addresses { self.new.addresses ≡ self.old.addresses }
         ensures still { S.is_observable → self.new.incoming ≡ self.old.incoming }
@@ -398,7 +398,7 @@ impl<S: DatagramSocket + Drop> Post for SocketPost<S> {
 
     // Out of memory for its queue, a letter to this node goes through the socket.
     fn send(&mut self, to: To, bytes: &[u8]) -> Result<(), SendFault> {
-        if self.is_own_letter(&to) && self.keep_own_letter(to, bytes).is_ok() {
+        if self.is_loopback(&to) && self.keep_loopback(to, bytes).is_ok() {
             return Ok(());
         }
         self.transmit(to, bytes)

@@ -102,7 +102,7 @@ impl ReceiveBuffer {
     }
 
     /// Removes and returns the kept report.
-    pub fn take_reported(&mut self) -> Option<Reported>
+    pub fn pop_reported(&mut self) -> Option<Reported>
         ensures value { result ≡ self.old.reported }
         ensures others { self.new ≡ record self.old { reported = None } }
     {
@@ -110,7 +110,7 @@ impl ReceiveBuffer {
     }
 
     /// Removes and returns the kept probe.
-    pub fn take_probe(&mut self) -> Option<ReceivedProbe>
+    pub fn pop_probe(&mut self) -> Option<ReceivedProbe>
         ensures value { result ≡ self.old.asked }
         ensures others { self.new ≡ record self.old { asked = None } }
     {

@@ -1,4 +1,4 @@
-//! Probes that arrive at a server. They are not part of the protocol: the server answers them, and no replica gets one.
+//! Probes that arrive at a server. They are not part of the protocol: the server replies, and no replica gets one.
 
 ghost use Rattle.std.specs.Prelude.{◌≡◌, ◌≢◌, ◌↔◌, [], length, IsTrue, IsSome};
 ghost use Rattle.lk_auth.specs.Seals.{key_list, heard};

@@ -5,7 +5,7 @@ ghost use Rattle.std.specs.Net.Socket.{socket_port};
 ghost use Rattle.std.specs.declared.net.socket_addr.SocketAddr.{SocketAddr as Address};
 ghost use Rattle.lk_disk.specs.Disk.{HasCause};
 
-use crate::fault::ServiceFault;
+use crate::fault::ProgramFault;
 use lk_node_interface::SendFault;
 use std::io;
 use std::net::{Ipv4Addr, Net, SocketAddr, UdpSocket};
@@ -118,16 +118,16 @@ impl LocalSocket {
     }
 
     /// Opens a socket on 127.0.0.1 as `open` does. Every failure is `CannotOpen`.
-    pub fn bind<R: Net>(rt: &R, port: u16) -> Result<LocalSocket, ServiceFault> {
-        LocalSocket::open(rt, port).map_err(|_| ServiceFault::CannotOpen)
+    pub fn bind<R: Net>(rt: &R, port: u16) -> Result<LocalSocket, ProgramFault> {
+        LocalSocket::open(rt, port).map_err(|_| ProgramFault::CannotOpen)
     }
 
     /// Opens a socket as `bind` does, whose receives never wait, whatever timeout is set.
-    pub fn without_waiting<R: Net>(rt: &R, port: u16) -> Result<LocalSocket, ServiceFault> {
+    pub fn without_waiting<R: Net>(rt: &R, port: u16) -> Result<LocalSocket, ProgramFault> {
         let mut socket = LocalSocket::bind(rt, port)?;
         socket.never_waits = true;
         if !socket.set_waiting(false) {
-            return Err(ServiceFault::CannotOpen);
+            return Err(ProgramFault::CannotOpen);
         }
         Ok(socket)
     }

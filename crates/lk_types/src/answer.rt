@@ -56,7 +56,7 @@ pub enum Answer {
 }
 
 impl Answer {
-    /// Brings into a proof that each part is in its range. Does nothing at run time.
+    /// Shows the prover that each part is in its range. Does nothing at run time.
     pub fn facts(self)
         ensures { IsAnswer self }
     {}

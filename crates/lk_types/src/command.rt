@@ -101,7 +101,7 @@ impl Op {
         }
     }
 
-    /// Brings into a proof that each part is in its range. Does nothing at run time.
+    /// Shows the prover that each part is in its range. Does nothing at run time.
     pub fn facts(&self)
         ensures { IsOp self.now }
     {
@@ -133,7 +133,7 @@ impl Request {
         }
     }
 
-    /// Brings into a proof that each part is in its range. Does nothing at run time.
+    /// Shows the prover that each part is in its range. Does nothing at run time.
     pub fn facts(&self)
         ensures { IsRequest self.now }
     {
@@ -154,7 +154,7 @@ impl Command {
         }
     }
 
-    /// Brings into a proof that each part is in its range. Does nothing at run time.
+    /// Shows the prover that each part is in its range. Does nothing at run time.
     pub fn facts(&self)
         ensures { IsCommand self.now }
     {

@@ -78,7 +78,7 @@ impl Genesis {
         }
     }
 
-    /// Brings into a proof that each part is in its range, and the members rise by node. Does nothing at run time.
+    /// Shows the prover that each part is in its range, and the members rise by node. Does nothing at run time.
     pub fn facts(&self)
         ensures { IsGenesis self.now }
     {

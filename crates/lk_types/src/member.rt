@@ -16,7 +16,7 @@ pub struct Member {
 }
 
 impl Member {
-    /// Brings into a proof that each part is in its range. Does nothing at run time.
+    /// Shows the prover that each part is in its range. Does nothing at run time.
     pub fn facts(self)
         ensures { IsMember self }
     {}
@@ -78,7 +78,7 @@ impl Members {
         self.list.as_slice()
     }
 
-    /// Brings into a proof that each member is in its range, and that they rise by node. Does nothing at run time.
+    /// Shows the prover that each member is in its range, and that they rise by node. Does nothing at run time.
     pub fn facts(&self)
         ensures members { AreMembers self.now }
         ensures ranges { AllByRecursion IsMember self.now }

@@ -25,7 +25,7 @@ impl Vote {
         }
     }
 
-    /// Brings into a proof that each part is in its range. Does nothing at run time.
+    /// Shows the prover that each part is in its range. Does nothing at run time.
     pub fn facts(&self)
         ensures { IsVote self.now }
     {

@@ -1,7 +1,7 @@
 // Writing a message as a datagram. Each `put_` function appends one part of it; the clauses `room` bound the reserved
 // bytes that it uses.
 ghost use Rattle.std.specs.Prelude.{◌≡◌, ◌<◌, ◌+◌, ◌*◌, ◌++◌, length, OnOk, OnErr};
-ghost use Rattle.lk_codec.specs.Rooms.{UsesRoom, mark_room, command_room, vote_room};
+ghost use Rattle.lk_codec.specs.Rooms.{UsesRoom, ballot_room, command_room, vote_room};
 ghost use Rattle.lk_wire.specs.Rooms.{header_room, node_fields_room, fields_room};
 ghost use Rattle.lk_messages.specs.Grammar.{votes, promise, proposal, nack, commands, decided, part, node_kind};
 ghost use Rattle.lk_messages.specs.Grammar.{node_fields, fields, header, kind, spelling, Spells};
@@ -30,7 +30,7 @@ fn put_votes(out: &mut BytesMut, list: &[Vote]) -> Result<(), AllocError>
 fn put_promise(out: &mut BytesMut, value: &Promise) -> Result<(), AllocError>
     ensures ok { OnOk result (out.new.items ≡ out.old.items ++ promise value.now) }
     ensures room { UsesRoom result out.old.spare out.new.spare
-        (mark_room + 8 + 1 + vote_room * length value.now.votes) }
+        (ballot_room + 8 + 1 + vote_room * length value.now.votes) }
 {
     value.facts();
     let (ballot, first, votes) = value.fields();
@@ -50,7 +50,7 @@ fn put_proposal(out: &mut BytesMut, value: &Vote) -> Result<(), AllocError>
 
 fn put_nack(out: &mut BytesMut, value: &Nack) -> Result<(), AllocError>
     ensures ok { OnOk result (out.new.items ≡ out.old.items ++ nack value.now) }
-    ensures room { UsesRoom result out.old.spare out.new.spare (mark_room + mark_room + 8) }
+    ensures room { UsesRoom result out.old.spare out.new.spare (ballot_room + ballot_room + 8) }
 {
     put_ballot(out, value.ballot)?;
     put_any_ballot(out, value.promised)?;
@@ -191,7 +191,7 @@ fn room_of(content: &Content) -> usize
         Content::Request(_) => room::REQUEST,
         Content::Node(_, NodeMessage::Promise(promise)) => {
             promise.facts();
-            room::MARK + 8 + 1 + room::VOTE * promise.fields().2.len()
+            room::BALLOT + 8 + 1 + room::VOTE * promise.fields().2.len()
         }
         Content::Node(_, NodeMessage::Decided(decided)) => {
             decided.facts();

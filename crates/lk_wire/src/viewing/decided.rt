@@ -44,7 +44,8 @@ fn end_of(count: u8, bytes: &[u8]) -> Option<&[u8]>
     Some(rest)
 }
 
-// Proves that bytes that spell `count` commands yield a list of that length, with each in its range. Has no effect.
+// Shows the prover that bytes that spell `count` commands yield a list of that length, with each in its range. Does
+// nothing at run time.
 fn facts_of(count: u8, bytes: &[u8])
     ensures count { AreCommands count bytes.now → length (commands_in count bytes.now) ≡ count }
     ensures in_range { AreCommands count bytes.now → AllByRecursion IsCommand (commands_in count bytes.now) }
@@ -179,8 +180,7 @@ impl<'a> DecidedRef<'a> {
         &self.commands
     }
 
-    /// Proves that each part is in its range and no command past the last position, for the caller's contract. Has no
-    /// effect.
+    /// Shows the prover that each part is in its range and no command past the last position. Does nothing at run time.
     pub fn facts(&self)
         ensures { IsDecided self.now }
     {

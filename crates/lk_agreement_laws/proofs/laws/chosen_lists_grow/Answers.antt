@@ -11,5 +11,5 @@ returns-clause-longer c genesis sent L v sound = chosen_push genesis sent sound 
 pub returns-clause-each : goal.returns-clause-each
 returns-clause-each c genesis sent L i v chosen = entry_chosen genesis sent L chosen i v
 
-pub returns-clause-beginning : goal.returns-clause-beginning
-returns-clause-beginning c = chosen_take
+pub returns-clause-prefix : goal.returns-clause-prefix
+returns-clause-prefix c = chosen_take

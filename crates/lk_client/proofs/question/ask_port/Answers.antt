@@ -15,7 +15,7 @@ receives-preserved g c = (
 
 pub returns-then-is_some-clause-tries : goal.returns-then-is_some-clause-tries
 returns-then-is_some-clause-tries g c tells = record {
-  begun = c.send.new.socket;
+  asked_on = c.send.new.socket;
   asks = c.send.ensures tells;
   waits = receives_told c.receive_next-reply.result (sym c.is_some.ensures
       ∙ c.if-is_some.true) refl c.receives-test.true
@@ -26,7 +26,7 @@ pub returns-clause-tries : goal.returns-clause-tries
 returns-clause-tries g c tells =
     let all : c.receives.counter ≡ c.args.patience = omega arith in
     record {
-      begun = c.send.new.socket;
+      asked_on = c.send.new.socket;
       asks = c.send.ensures tells;
       waits = receives_none all (c.receives.invariant.1 tells);
     }

@@ -10,7 +10,7 @@ returns g c honest genesis whose =
     let n = c.args.header.now.node in
     let s = c.in_ok-server.server in
     let old = g.D.LogDisk.disk c.args.resources.device in
-    let begun = c.in_ok-server.ensures.begun in
+    let begun = c.in_ok-server.ensures.started in
     let up = begun.comes_up honest in
     record {
       notes = up.notes;
@@ -19,6 +19,6 @@ returns g c honest genesis whose =
         short =
             λ short. never_longer old (disks s.replica.store) (refused_room old (disks s.replica.store) up.room) short;
       };
-      own_letters = begun.own_letters;
+      loopback = begun.loopback;
       alive = sym c.replica.ensures.failed ∙ begun.alive;
     }

@@ -10,7 +10,7 @@ use Rattle.lk_leader.proofs.term.promisers.Goals as goal
 pub loop-member-preserved : goal.loop-member-preserved
 loop-member-preserved c =
     let p = λ (m : Member). list_any
-    (λ (r : ReceivedPromise). r.node == m.node && nat_le r.first c.args.position) c.args.reports.now in
+    (λ (r : ReceivedPromise). r.node == m.node && nat_le r.first c.args.position) c.args.received.now in
     elim c.if-is_promiser_of.branch [
       | then-is_promiser_of w ↦ record {
         among = rw (w.among-is, w.push.ensures.items, c.loop-member.invariant.among)

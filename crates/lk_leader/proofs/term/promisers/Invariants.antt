@@ -5,6 +5,6 @@ use Rattle.lk_leader.proofs.term.promisers.Given as goal
 
 abbrev pub invariant-loop-member : goal.invariant-loop-member
 invariant-loop-member l = record {
-  among : l.among.items ≡ promisers (take l.member-index l.members) l.position l.reports;
+  among : l.among.items ≡ promisers (take l.member-index l.members) l.position l.received;
   few : length l.among.items ≤ l.member-index;
 }

@@ -35,8 +35,8 @@ returns-else-not-has_header-clause-opens g c honest =
     (c.has_header.ensures.0 (search rules))))
 
 -- where a file is live nothing is empty
-pub returns-else-not-has_header-clause-begun : goal.returns-else-not-has_header-clause-begun
-returns-else-not-has_header-clause-begun g c honest empty =
+pub returns-else-not-has_header-clause-starts_in_a : goal.returns-else-not-has_header-clause-starts_in_a
+returns-else-not-has_header-clause-starts_in_a g c honest empty =
     let old = g.D.LogDisk.disk c.args.device.now in
     let found = rw c.in-Some.is at (c.in_ok-live.ensures.live honest) in
     absurd (not_both (seen old) c.in-Some.file.entries.items
@@ -54,8 +54,8 @@ returns-else-not-has_header-clause-is_new g c honest =
 
 pub returns-in-None-clause-is_new : goal.returns-in-None-clause-is_new
 returns-in-None-clause-is_new g c honest =
-    ok_then c.begin_store.result _ _ (λ o is_new. both is_new
-    (c.in_ok-live.ensures.empty honest (cc))) c.begin_store.ensures.is_new
+    ok_then c.create_store.result _ _ (λ o is_new. both is_new
+    (c.in_ok-live.ensures.empty honest (cc))) c.create_store.ensures.is_new
 
 pub returns-else-not-has_header-clause-stays : goal.returns-else-not-has_header-clause-stays
 returns-else-not-has_header-clause-stays g c honest =
@@ -100,23 +100,23 @@ pub returns-in-None-clause-opens : goal.returns-in-None-clause-opens
 returns-in-None-clause-opens g c honest =
     let old = g.D.LogDisk.disk c.args.device.now in
     let mid = g.D.LogDisk.disk c.find.new.device in
-    let new = g.D.LogDisk.disk c.begin_store.new.device in
+    let new = g.D.LogDisk.disk c.create_store.new.device in
     let same = c.find.ensures.unchanged honest in
     let empty = c.in_ok-live.ensures.empty honest (cc) in
-    ok_then c.begin_store.result _ _
+    ok_then c.create_store.result _ _
     (λ o p. opens_before old mid same c.args.header.now c.args.zero.now (new o.live)
     (new (other o.live)) o.generation o.format o.standing p)
-    (c.begin_store.ensures.opens honest (empty_after old mid same empty))
+    (c.create_store.ensures.opens honest (empty_after old mid same empty))
 
 pub returns-in-None-clause-stays : goal.returns-in-None-clause-stays
 returns-in-None-clause-stays g c honest =
     let old = g.D.LogDisk.disk c.args.device.now in
     let mid = g.D.LogDisk.disk c.find.new.device in
-    let new = g.D.LogDisk.disk c.begin_store.new.device in
+    let new = g.D.LogDisk.disk c.create_store.new.device in
     let same = c.find.ensures.unchanged honest in
     let empty = c.in_ok-live.ensures.empty honest (cc) in
     begins_after old mid new c.args.header.now c.args.zero.now same (λ s. ap contents (same s))
-    (c.begin_store.ensures.stays honest (empty_after old mid same empty))
+    (c.create_store.ensures.stays honest (empty_after old mid same empty))
 
 pub returns-in_err-live-clause-room : goal.returns-in_err-live-clause-room
 returns-in_err-live-clause-room g c honest =
@@ -135,8 +135,8 @@ pub returns-in-None-clause-room : goal.returns-in-None-clause-room
 returns-in-None-clause-room g c honest =
     let old = g.D.LogDisk.disk c.args.device.now in
     let mid = g.D.LogDisk.disk c.find.new.device in
-    within_then max_base old mid (g.D.LogDisk.disk c.begin_store.new.device)
-    (within_same 0 old mid (c.find.ensures.unchanged honest)) (c.begin_store.ensures.room honest)
+    within_then max_base old mid (g.D.LogDisk.disk c.create_store.new.device)
+    (within_same 0 old mid (c.find.ensures.unchanged honest)) (c.create_store.ensures.room honest)
 
 -- ---- which calls were made
 
@@ -153,5 +153,5 @@ returns-else-not-has_header-clause-metered g c metered honest =
 
 pub returns-in-None-clause-metered : goal.returns-in-None-clause-metered
 returns-in-None-clause-metered g c metered honest =
-    opens_metered _ _ _ _ 3 c.begin_store.result (c.in_ok-live.ensures.metered metered honest)
-    (inl (c.find.ensures.empty honest (search rules), refl)) (c.begin_store.ensures.metered metered honest)
+    opens_metered _ _ _ _ 3 c.create_store.result (c.in_ok-live.ensures.metered metered honest)
+    (inl (c.find.ensures.empty honest (search rules), refl)) (c.create_store.ensures.metered metered honest)

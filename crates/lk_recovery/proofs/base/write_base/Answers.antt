@@ -6,7 +6,7 @@ use Rattle.lk_log.specs.Stores.{HoldsEntries, FitsBase, next_base, KeepsOrIs}
 use Rattle.lk_state.specs.Meanings.{Meaning}
 use Rattle.lk_learner.specs.Learners.{Command, IsNext}
 use Rattle.lk_node.specs.NodeValue.{NodeValue}
-use Rattle.lk_node.specs.Packing.{standing_of}
+use Rattle.lk_node.specs.NewBases.{standing_of}
 use Rattle.lk_recovery.specs.Rebased.{HasSwitchedFiles}
 use Rattle.lk_log.proofs.Room.{within_same}
 use Rattle.lk_log.proofs.StoreLaws.{holds_keeps}
@@ -42,7 +42,7 @@ returns-clause-becomes g c =
     let fits : FitsBase c.in_ok-standing.standing = search rules in
     record {
       becomes = c.set_snapshot.ensures;
-      begins = subst FitsBase is fits;
+      fits_base = subst FitsBase is fits;
       runs =
           λ none. subst (λ (k : NodeValue). (v : Command) → IsNext k.learner v → ⊥) (sym c.set_snapshot.ensures) none;
       generation = c.in_ok-rebase.ensures.file.0;

@@ -13,11 +13,11 @@ use Rattle.lk_node.specs.Leavings.{DisksFit, AllCover}
 use Rattle.lk_node.specs.NodeValue.{NodeValue}
 use Rattle.lk_recovery.specs.Revivals.{Restores}
 use Rattle.lk_node.specs.BorneOut.{text}
-use Rattle.lk_recovery.proofs.Revivals.{revived_goes, revived_remembers, began, own_header, opened, opening_fits_as}
+use Rattle.lk_recovery.proofs.Revivals.{revived_goes, revived_remembers, whose_is, own_header, opened, opening_fits_as}
 use Rattle.lk_recovery.proofs.Revivals.{opening_covers_as, given_fit, given_cover, given_room, restored_number}
 use Rattle.lk_recovery.proofs.Revivals.{open_number, never_damaged, never_wrong, wrong_only, damaged_only}
 use Rattle.lk_recovery.proofs.restart.restart_node.Goals as goal
-use Rattle.lk_log.specs.Stores.{IsWrong, NarrowsOrBegins}
+use Rattle.lk_log.specs.Stores.{IsWrong, NarrowsOrIsNew}
 use Rattle.lk_log.proofs.StoreLaws.{found_sound}
 use Rattle.lk_recovery.proofs.Spared.{given_narrow, damage_only, open_not_failed, not_wrong, not_failed}
 
@@ -30,10 +30,10 @@ returns-in-Ok-restored-clause-fits g c honest h n is lawful before =
       next = g.met.M.Machine.next_is_text;
       answer = g.met.M.Machine.answer_is_answer;
     } in
-    let same = began c.genesis-2.result.now h.genesis c.args.header.now n c.genesis-2.ensures.cluster
+    let same = whose_is c.genesis-2.result.now h.genesis c.args.header.now n c.genesis-2.ensures.cluster
     c.genesis-2.ensures.alpha c.genesis-2.ensures.members is in
     let fits = subst IsGenesis
-    (began c.genesis.result.now h.genesis c.args.header.now n c.genesis.ensures.cluster c.genesis.ensures.alpha
+    (whose_is c.genesis.result.now h.genesis c.args.header.now n c.genesis.ensures.cluster c.genesis.ensures.alpha
     c.genesis.ensures.members is) c.facts.ensures in
     let begins : c.as_slice.result.now ≡ text m h.genesis [] = c.as_slice.ensures ∙ c.in-Ok.ensures.text
     ∙ ap (λ (k : Genesis). text m k []) same in
@@ -52,7 +52,7 @@ returns-in-Ok-restored-clause-fits g c honest h n is lawful before =
 pub returns-in-Ok-restored-clause-covers : goal.returns-in-Ok-restored-clause-covers
 returns-in-Ok-restored-clause-covers g c honest genesis n x is every =
     let m : Meaning = g.M.Machine.meaning in
-    let same = began c.genesis-2.result.now genesis c.args.header.now n c.genesis-2.ensures.cluster
+    let same = whose_is c.genesis-2.result.now genesis c.args.header.now n c.genesis-2.ensures.cluster
     c.genesis-2.ensures.alpha c.genesis-2.ensures.members is in
     let begins : c.as_slice.result.now ≡ text m genesis [] = c.as_slice.ensures ∙ c.in-Ok.ensures.text
     ∙ ap (λ (k : Genesis). text m k []) same in
@@ -68,7 +68,7 @@ returns-in-Ok-restored-clause-exact g c honest =
     ∙ c.in-Ok.ensures.text in (
       record {
         genesis = c.genesis-2.result.now;
-        began = own;
+        whose_is = own;
         standing = c.in-Ok-reopen.opened.standing;
         opens = subst (λ (t : List ℕ). Opens
             (seen (g.D.LogDisk.disk c.args.device)) c.args.header.now t c.in-Ok-reopen.opened.store
@@ -90,10 +90,10 @@ returns-in-Ok-reopen-clause-fits g c honest h n is lawful before =
       next = g.met.M.Machine.next_is_text;
       answer = g.met.M.Machine.answer_is_answer;
     } in
-    let same = began c.genesis-2.result.now h.genesis c.args.header.now n c.genesis-2.ensures.cluster
+    let same = whose_is c.genesis-2.result.now h.genesis c.args.header.now n c.genesis-2.ensures.cluster
     c.genesis-2.ensures.alpha c.genesis-2.ensures.members is in
     let fits = subst IsGenesis
-    (began c.genesis.result.now h.genesis c.args.header.now n c.genesis.ensures.cluster c.genesis.ensures.alpha
+    (whose_is c.genesis.result.now h.genesis c.args.header.now n c.genesis.ensures.cluster c.genesis.ensures.alpha
     c.genesis.ensures.members is) c.facts.ensures in
     let begins : c.as_slice.result.now ≡ text m h.genesis [] = c.as_slice.ensures ∙ c.in-Ok.ensures.text
     ∙ ap (λ (k : Genesis). text m k []) same in
@@ -115,7 +115,7 @@ returns-in-Ok-reopen-clause-fits g c honest h n is lawful before =
 pub returns-in-Ok-reopen-clause-covers : goal.returns-in-Ok-reopen-clause-covers
 returns-in-Ok-reopen-clause-covers g c honest genesis n x is every =
     let m : Meaning = g.M.Machine.meaning in
-    let same = began c.genesis-2.result.now genesis c.args.header.now n c.genesis-2.ensures.cluster
+    let same = whose_is c.genesis-2.result.now genesis c.args.header.now n c.genesis-2.ensures.cluster
     c.genesis-2.ensures.alpha c.genesis-2.ensures.members is in
     let begins : c.as_slice.result.now ≡ text m genesis [] = c.as_slice.ensures ∙ c.in-Ok.ensures.text
     ∙ ap (λ (k : Genesis). text m k []) same in
@@ -128,7 +128,7 @@ returns-in-Ok-reopen-clause-covers g c honest genesis n x is every =
 pub returns-clause-fits : goal.returns-clause-fits
 returns-clause-fits g c honest h n is lawful before =
     let m : Meaning = g.M.Machine.meaning in
-    let same = began c.genesis-2.result.now h.genesis c.args.header.now n c.genesis-2.ensures.cluster
+    let same = whose_is c.genesis-2.result.now h.genesis c.args.header.now n c.genesis-2.ensures.cluster
     c.genesis-2.ensures.alpha c.genesis-2.ensures.members is in
     let begins : c.as_slice.result.now ≡ text m h.genesis [] = c.as_slice.ensures ∙ c.in-Ok.ensures.text
     ∙ ap (λ (k : Genesis). text m k []) same in
@@ -146,7 +146,7 @@ returns-clause-fits g c honest h n is lawful before =
 pub returns-clause-covers : goal.returns-clause-covers
 returns-clause-covers g c honest genesis n x is every =
     let m : Meaning = g.M.Machine.meaning in
-    let same = began c.genesis-2.result.now genesis c.args.header.now n c.genesis-2.ensures.cluster
+    let same = whose_is c.genesis-2.result.now genesis c.args.header.now n c.genesis-2.ensures.cluster
     c.genesis-2.ensures.alpha c.genesis-2.ensures.members is in
     let begins : c.as_slice.result.now ≡ text m genesis [] = c.as_slice.ensures ∙ c.in-Ok.ensures.text
     ∙ ap (λ (k : Genesis). text m k []) same in
@@ -187,23 +187,23 @@ returns-in_default-clause-stays_err g c honest genesis is image left = inl (imag
 pub returns-in-Ok-reopen-clause-stays_err : goal.returns-in-Ok-reopen-clause-stays_err
 returns-in-Ok-reopen-clause-stays_err g c honest genesis is =
     let m : Meaning = g.M.Machine.meaning in
-    let same = began c.genesis-2.result.now genesis c.args.header.now c.args.header.now.node
+    let same = whose_is c.genesis-2.result.now genesis c.args.header.now c.args.header.now.node
     c.genesis-2.ensures.cluster c.genesis-2.ensures.alpha c.genesis-2.ensures.members is in
     let begins : c.as_slice.result.now ≡ text m genesis [] = c.as_slice.ensures ∙ c.in-Ok.ensures.text
     ∙ ap (λ (k : Genesis). text m k []) same in
     given_narrow (g.D.LogDisk.disk c.args.device) c.args.header.now (text m genesis []) c.in-Ok-reopen.opened.store
     (g.D.LogDisk.disk c.into_disks.result) c.into_disks.ensures.live_disk c.into_disks.ensures.other_disk
-    (subst (λ (t : List ℕ). NarrowsOrBegins (g.D.LogDisk.disk c.args.device)
+    (subst (λ (t : List ℕ). NarrowsOrIsNew (g.D.LogDisk.disk c.args.device)
     (disks c.in-Ok-reopen.opened.store) c.args.header.now t) begins (c.in-Ok-reopen.ensures.stays honest))
 
 pub returns-clause-stays_err : goal.returns-clause-stays_err
 returns-clause-stays_err g c honest genesis is =
     let m : Meaning = g.M.Machine.meaning in
-    let same = began c.genesis-2.result.now genesis c.args.header.now c.args.header.now.node
+    let same = whose_is c.genesis-2.result.now genesis c.args.header.now c.args.header.now.node
     c.genesis-2.ensures.cluster c.genesis-2.ensures.alpha c.genesis-2.ensures.members is in
     let begins : c.as_slice.result.now ≡ text m genesis [] = c.as_slice.ensures ∙ c.in-Ok.ensures.text
     ∙ ap (λ (k : Genesis). text m k []) same in
-    subst (λ (t : List ℕ). NarrowsOrBegins (g.D.LogDisk.disk c.args.device)
+    subst (λ (t : List ℕ). NarrowsOrIsNew (g.D.LogDisk.disk c.args.device)
     (g.D.LogDisk.disk c.in-Err.e.device) c.args.header.now t) begins (c.in-Err.ensures.stays honest)
 
 -- ---- what it remembers
@@ -211,7 +211,7 @@ returns-clause-stays_err g c honest genesis is =
 pub returns-in-Ok-restored-clause-remembers : goal.returns-in-Ok-restored-clause-remembers
 returns-in-Ok-restored-clause-remembers g c honest genesis n is =
     let m : Meaning = g.M.Machine.meaning in
-    let same = began c.genesis-2.result.now genesis c.args.header.now n c.genesis-2.ensures.cluster
+    let same = whose_is c.genesis-2.result.now genesis c.args.header.now n c.genesis-2.ensures.cluster
     c.genesis-2.ensures.alpha c.genesis-2.ensures.members is in
     let begins : c.as_slice.result.now ≡ text m genesis [] = c.as_slice.ensures ∙ c.in-Ok.ensures.text
     ∙ ap (λ (k : Genesis). text m k []) same in
@@ -261,7 +261,7 @@ returns-in-Ok-reopen-clause-refused g c honest =
     record {
       damaged = λ nine. inr (record {
         genesis = c.genesis-2.result.now;
-        began = own_header c.genesis-2.result.now c.args.header.now c.genesis-2.ensures.cluster
+        whose_is = own_header c.genesis-2.result.now c.args.header.now c.genesis-2.ensures.cluster
             c.genesis-2.ensures.alpha c.genesis-2.ensures.members;
         standing = c.in-Ok-reopen.opened.standing;
         stands = record { entries = o.entries; found = o.found; header = o.header; stands = o.stands };

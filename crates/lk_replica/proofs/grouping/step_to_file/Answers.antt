@@ -149,7 +149,7 @@ returns-clause-keeps g c honest =
           subst (λ (k : NodeValue). GroupLeavesFit m h n k after (needs_sync_after c.args.needs_sync out) out.notes
           (batch_of n sent)) (sym (on.stands is).0.becomes)
           (based_goes m h n c.args.node.now c.step.new.self s.mid after c.args.needs_sync c.args.input out mid heard
-          c.in_ok-outbox.ensures.safe is (on.stands is).0.begins (on.stands is).1
+          c.in_ok-outbox.ensures.safe is (on.stands is).0.fits_base (on.stands is).1
           (s.switches.rebases.writes mid.shown.keeps.entries (plain mid.shown.keeps.loose) mid.shown.keeps.holds)
           sent among))
           (λ not_so. subst (λ (k : NodeValue). GroupLeavesFit m h n k after (needs_sync_after c.args.needs_sync out)
@@ -165,7 +165,7 @@ returns-clause-keeps g c honest =
           subst (λ (k : NodeValue). GroupStays m h n k after (needs_sync_after c.args.needs_sync out))
           (sym (on.stands is).0.becomes)
           (based_stays m h n c.args.node.now c.step.new.self w.mid after c.args.needs_sync c.args.input out mid heard
-          c.in_ok-outbox.ensures.safe is (on.stands is).0.begins (on.stands is).1
+          c.in_ok-outbox.ensures.safe is (on.stands is).0.fits_base (on.stands is).1
           (w.switches.rebases.writes mid.shown.keeps.entries (plain mid.shown.keeps.loose) mid.shown.keeps.holds)
           ((returns-clause-disks g c honest).ends h n s heard)))
           (λ not_so. subst (λ (k : NodeValue). GroupStays m h n k after (needs_sync_after c.args.needs_sync out))

@@ -65,7 +65,7 @@ returns-then-outbox-clause-goes g c =
       stands = λ yes. (
         record {
           becomes = base.becomes;
-          begins = base.begins;
+          fits_base = base.fits_base;
           runs = base.runs;
           generation = omega (arith, base.generation, c.sync_or_flush.ensures.file.1);
           format = base.format;

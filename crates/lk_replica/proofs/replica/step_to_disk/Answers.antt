@@ -30,7 +30,7 @@ returns-clause-keeps g c honest = record {
       (λ is. subst (λ (k : NodeValue). LeavesFit m h n (ReplicaHolds m k after h.genesis n) (disks after) out.notes
       (batch_of n sent)) (sym (on.stands is).0.becomes)
       (installed_goes m h n c.args.node.now c.step.new.self c.args.store.now c.args.input out f heard
-      c.in_ok-outbox.ensures.safe is after (on.stands is).0.begins (on.stands is).1
+      c.in_ok-outbox.ensures.safe is after (on.stands is).0.fits_base (on.stands is).1
       ((done.switches is).rebases.writes f.shown.keeps.entries _ f.shown.keeps.holds) sent among))
       (λ not_so. subst (λ (k : NodeValue). LeavesFit m h n (ReplicaHolds m k after h.genesis n) (disks after) out.notes
       (batch_of n sent)) (sym (on.rests not_so))

@@ -4,8 +4,8 @@ use Rattle.std.proofs.lemmas.Result.{err_from_is_err_and}
 use Rattle.lk_script_lines.proofs.LineLaws.{took_nothing}
 use Rattle.lk_script.proofs.ScriptLaws.{known_starts, known_ended, known_last, known_line, known_broke, known_failed}
 use Rattle.lk_script.proofs.ScriptLaws.{known_skipped, known_taken}
-use Rattle.lk_script.specs.Scripts.{Script, Takes, Refuses}
-use Rattle.lk_script.specs.TableServers.{Fits}
+use Rattle.lk_script.specs.Scripts.{Script, RunsLine, Refuses}
+use Rattle.lk_script.specs.TableRuns.{Fits}
 use Rattle.lk_script.proofs.script.run_script.Goals as goal
 use Rattle.lk_script.proofs.script.run_script.Goals.{then-not-is_empty+in-Ok+in_ok-write_line-in-Ok, else-not-is_empty}
 
@@ -57,7 +57,7 @@ returns-in_err-write_line-in-Ok-clause-err g c =
     (c.in_ok-next_line.ensures.line (search rules))
     (λ r e. subst (λ (t : List ℕ). (s : Script g.row.M.Denot) → Fits s c.loop-number.mode
     → Refuses g.M.MemoryReplica.behaves s c.deref.result.now t r) (search rules)
-    (c.take_line.ensures.refused r (search (rules, e)))) c.loop-number.invariant.1)
+    (c.run_line.ensures.refused r (search (rules, e)))) c.loop-number.invariant.1)
 
 pub returns-in-Err-clause-err : goal.returns-in-Err-clause-err
 returns-in-Err-clause-err g c =
@@ -74,17 +74,17 @@ loop-number-preserved g c =
     let read = c.in_ok-next_line.ensures.line (search rules) in
     elim c.if-not-is_empty.branch [
       | then-not-is_empty+in-Ok+in_ok-write_line-in-Ok w ↦ rw (w.writer-is, w.mode-is) (
-        omega (arith, w.take_line.ensures.paces, c.loop-number.invariant.0),
+        omega (arith, w.run_line.ensures.paces, c.loop-number.invariant.0),
         known_taken g.M.MemoryReplica.behaves (g.R.Read.remaining c.args.reader.now)
             (g.W.Write.contents c.args.writer.now) (g.W.Write.contents c.loop-number.writer)
             (g.W.Write.contents w.write_line.new.writer)
             (g.R.Read.remaining c.loop-number.reader)
-            (g.R.Read.remaining c.next_line.new.reader) c.loop-number.mode w.take_line.new.mode c.loop-number.number
+            (g.R.Read.remaining c.next_line.new.reader) c.loop-number.mode w.run_line.new.mode c.loop-number.number
             w.deref.result.now c.next_line.new.line.items w.deref-in-Ok.result.now
             (search rules) (search rules) read
             (subst (λ (t : List ℕ). (s : Script g.row.M.Denot) → Fits s c.loop-number.mode
-            → (after : Script g.row.M.Denot) × Takes g.M.MemoryReplica.behaves s w.deref.result.now t after
-            × Fits after w.take_line.new.mode) (search rules) (w.take_line.ensures.ok (search rules)))
+            → (after : Script g.row.M.Denot) × RunsLine g.M.MemoryReplica.behaves s w.deref.result.now t after
+            × Fits after w.run_line.new.mode) (search rules) (w.run_line.ensures.ok (search rules)))
             w.in_ok-write_line-in-Ok.ensures.ok.1 c.loop-number.invariant.1,
       )
       | else-not-is_empty w ↦ rw (w.writer-is, w.mode-is) (

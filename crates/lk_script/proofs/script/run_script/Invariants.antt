@@ -1,5 +1,5 @@
 use Rattle.std.proofs.Common.{IfSome, List, ℕ, ◌≤◌, ◌*◌}
-use Rattle.lk_script.specs.TableServers.{done_in}
+use Rattle.lk_script.specs.TableRuns.{done_in}
 use Rattle.lk_script.proofs.ScriptLaws.{SoFar}
 use Rattle.lk_script.proofs.script.run_script.Given as goal
 

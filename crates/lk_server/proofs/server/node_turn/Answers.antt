@@ -1,7 +1,7 @@
 use Rattle.std.proofs.Common.{ℕ, List, inl, inr, ap, sym, subst}
 use Rattle.std.specs.declared.net.socket_addr.SocketAddr.{SocketAddr}
 use Rattle.lk_transport.specs.Kept.{KeepsOf}
-use Rattle.lk_server.specs.Servers.{ServerValue, HasReceived, TakesTurn}
+use Rattle.lk_server.specs.Servers.{ServerValue, HasReceived, TurnOrIdle}
 use Rattle.lk_server.proofs.Carrying.{on_err}
 use Rattle.lk_server.proofs.Turning.{same_by, received_on, turn_of, last_of, last_within}
 use Rattle.lk_server.proofs.server.node_turn.Goals as goal
@@ -13,19 +13,20 @@ returns-then-not-branch-clause-turn g c =
 
 pub returns-clause-turn : goal.returns-clause-turn
 returns-clause-turn g c =
-    let r = g.R.ServedReplica in
-    let tells = g.S.DatagramSocket.is_observable in
+    let r = g.R.ServerReplica in
+    let observable = g.S.DatagramSocket.is_observable in
     let o = c.fill_group.ensures.others in
-    let t = c.in_ok-fill_group.ensures.takes (cc c.if-not-branch.false) in
+    let t = c.in_ok-fill_group.ensures.adds (cc c.if-not-branch.false) in
     let e = c.end_group.ensures in
-    subst (λ (s : ServerValue _). (frames : List (SocketAddr × List ℕ)) × HasReceived tells frames c.args.server.now s
-    × TakesTurn r.Says tells frames c.args.server.now s
+    subst (λ (s : ServerValue _). (frames : List (SocketAddr × List ℕ))
+    × HasReceived observable frames c.args.server.now s
+    × TurnOrIdle r.Says observable frames c.args.server.now s
     × KeepsOf c.args.server.now.node c.args.server.now.addresses.seals frames c.args.buffer.now
     c.fill_group.new.buffer) (sym c.note_sync.ensures) (
       t.0,
-      received_on tells t.0 c.args.server.now c.fill_group.new.self c.end_group.new.self e.still t.1.received,
-      inl (turn_of r.Says r.Gathers tells t.0 c.begin_group-group.result c.fill_group.new.group c.args.server.now
-          c.fill_group.new.self c.end_group.new.self c.begin_group-group.ensures t.1 c.in_ok-end_group.ensures.gives
+      received_on observable t.0 c.args.server.now c.fill_group.new.self c.end_group.new.self e.still t.1.received,
+      inl (turn_of r.Says r.Gathers observable t.0 c.new_group-group.result c.fill_group.new.group c.args.server.now
+          c.fill_group.new.self c.end_group.new.self c.new_group-group.ensures t.1 c.in_ok-end_group.ensures.gives
           (ap (λ (s : ServerValue _). s.sent) o) (ap (λ (s : ServerValue _). s.socket_failures) o)
           (same_by c.args.server.now c.fill_group.new.self o) e.addresses e.received e.ticks e.same
           c.in_ok-end_group.ensures.alive),
@@ -34,16 +35,16 @@ returns-clause-turn g c =
 
 pub returns-in_err-end_group-clause-ends : goal.returns-in_err-end_group-clause-ends
 returns-in_err-end_group-clause-ends g c =
-    let r = g.R.ServedReplica in
-    let tells = g.S.DatagramSocket.is_observable in
+    let r = g.R.ServerReplica in
+    let observable = g.S.DatagramSocket.is_observable in
     let o = c.fill_group.ensures.others in
-    let t = c.in_ok-fill_group.ensures.takes (cc c.if-not-branch.false) in
+    let t = c.in_ok-fill_group.ensures.adds (cc c.if-not-branch.false) in
     let e = c.end_group.ensures in
     on_err c.from_residual-in_err-end_group.result (
       t.0,
-      received_on tells t.0 c.args.server.now c.fill_group.new.self c.end_group.new.self e.still t.1.received,
-      last_of r.Says r.Gathers tells t.0 c.begin_group-group.result c.fill_group.new.group c.args.server.now
-          c.fill_group.new.self c.end_group.new.self c.begin_group-group.ensures t.1 c.in_err-end_group.ensures.silent
+      received_on observable t.0 c.args.server.now c.fill_group.new.self c.end_group.new.self e.still t.1.received,
+      last_of r.Says r.Gathers observable t.0 c.new_group-group.result c.fill_group.new.group c.args.server.now
+          c.fill_group.new.self c.end_group.new.self c.new_group-group.ensures t.1 c.in_err-end_group.ensures.silent
           (ap (λ (s : ServerValue _). s.sent) o) (ap (λ (s : ServerValue _). s.socket_failures) o)
           (same_by c.args.server.now c.fill_group.new.self o) e.addresses e.ticks e.same
           c.in_err-end_group.ensures.broken,
@@ -51,14 +52,14 @@ returns-in_err-end_group-clause-ends g c =
 
 pub returns-in_err-fill_group-clause-ends : goal.returns-in_err-fill_group-clause-ends
 returns-in_err-fill_group-clause-ends g c =
-    let r = g.R.ServedReplica in
+    let r = g.R.ServerReplica in
     let o = c.fill_group.ensures.others in
     let e = c.in_err-fill_group.ensures.ends in
     on_err c.from_residual.result (
       e.0,
       e.1.received,
-      last_within r.Says r.Gathers g.S.DatagramSocket.is_observable e.0 c.begin_group-group.result c.args.server.now
-          c.fill_group.new.self c.begin_group-group.ensures e.1
+      last_within r.Says r.Gathers g.S.DatagramSocket.is_observable e.0 c.new_group-group.result c.args.server.now
+          c.fill_group.new.self c.new_group-group.ensures e.1
           (ap (λ (s : ServerValue _). s.sent) o) (ap (λ (s : ServerValue _). s.socket_failures) o)
           (same_by c.args.server.now c.fill_group.new.self o) c.in_err-fill_group.ensures.broken,
     )

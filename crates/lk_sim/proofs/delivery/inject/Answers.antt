@@ -20,11 +20,11 @@ give-requires-clause-up g c =
 pub give-requires-clause-heard : goal.give-requires-clause-heard
 give-requires-clause-heard g c =
     let p = c.args.parts.now in
-    heard_asked p.genesis p.sent.items c.make_room.new.trace.items c.of-viewed.result
+    heard_asked p.genesis p.sent.items c.reserve_notes.new.trace.items c.of-viewed.result
     c.in_ok-asked.asked c.in_ok-asked.ensures.ok
 
-pub returns-in_err-make_room-clause-err : goal.returns-in_err-make_room-clause-err
-returns-in_err-make_room-clause-err g c =
+pub returns-in_err-reserve_notes-clause-err : goal.returns-in_err-reserve_notes-clause-err
+returns-in_err-reserve_notes-clause-err g c =
     let p = c.args.parts.now in
     let n = c.args.number in
     let l = c.args.bytes.now in
@@ -32,11 +32,12 @@ returns-in_err-make_room-clause-err g c =
     let room : HasRoom p.sent.items = search rules in
     let a : IsRequestIn l c.in_ok-asked.asked =
     subst (λ (b : List ℕ). IsRequestIn b c.in_ok-asked.asked) c.of-viewed.ensures c.in_ok-asked.ensures.ok in
-    let m = c.in_err-make_room.ensures.memory in
-    let new : Scene g.row.R.Denot = record (scene_of p) { trace = c.make_room.new.trace.items } in
-    let same : new ≡ scene_of p = ap (λ (t : List Note). record (scene_of p) { trace = t }) c.make_room.ensures.same in
+    let m = c.in_err-reserve_notes.ensures.memory in
+    let new : Scene g.row.R.Denot = record (scene_of p) { trace = c.reserve_notes.new.trace.items } in
+    let same : new ≡ scene_of p = ap (λ (t : List Note). record
+    (scene_of p) { trace = t }) c.reserve_notes.ensures.same in
     err_as _ WorldMemory (λ e. IsNotInjected g.R.MemoryReplica.behaves (scene_of p) n l e new)
-    c.from_residual-in_err-make_room.ensures.1
+    c.from_residual-in_err-reserve_notes.ensures.1
     (inr (
       refl,
       (((u.1, (c.in_ok-i.i, u.0, u.2, u.3, u.4)), room), asked_unforged l c.in_ok-asked.asked a),
@@ -54,10 +55,10 @@ returns-in_err-give-clause-err g c =
     let a : IsRequestIn l c.in_ok-asked.asked =
     subst (λ (b : List ℕ). IsRequestIn b c.in_ok-asked.asked) c.of-viewed.ensures c.in_ok-asked.ensures.ok in
     let of_it = subst (λ (b : List ℕ). IsHalted (LeftBy g.R.MemoryReplica.behaves (Some b))
-    (record (scene_of p) { trace = c.make_room.new.trace.items }) new n) c.of-viewed.ensures
+    (record (scene_of p) { trace = c.reserve_notes.new.trace.items }) new n) c.of-viewed.ensures
     (c.in_err-give.ensures.halted n u) in
     let halted = subst (λ (t : List Note). IsHalted (LeftBy g.R.MemoryReplica.behaves (Some l))
-    (record (scene_of p) { trace = t }) new n) c.make_room.ensures.same of_it in
+    (record (scene_of p) { trace = t }) new n) c.reserve_notes.ensures.same of_it in
     err_as _ WorldMemory (λ e. IsNotInjected g.R.MemoryReplica.behaves (scene_of p) n l e new)
     c.from_residual-in_err-give.ensures.1
     (inr (refl, (((u.1, (c.in_ok-i.i, u.0, u.2, u.3, u.4)), room), asked_unforged l c.in_ok-asked.asked a), inr halted))
@@ -70,7 +71,7 @@ returns-clause-ok g c =
     let a : IsRequestIn c.args.bytes.now c.in_ok-asked.asked =
     subst (λ (b : List ℕ). IsRequestIn b c.in_ok-asked.asked) c.of-viewed.ensures c.in_ok-asked.ensures.ok in
     let of_it = subst (λ (b : List ℕ). IsGiven g.R.MemoryReplica.behaves
-    (record (scene_of p) { trace = c.make_room.new.trace.items }) (scene_of c.give.new.parts) c.args.number (Some b)
+    (record (scene_of p) { trace = c.reserve_notes.new.trace.items }) (scene_of c.give.new.parts) c.args.number (Some b)
     (asked_note c.in_ok-asked.asked)) c.of-viewed.ensures (c.in_ok-give.ensures.given c.args.number u) in (
       (((u.1, (c.in_ok-i.i, u.0, u.2, u.3, u.4)), room), asked_unforged c.args.bytes.now c.in_ok-asked.asked a),
       record {
@@ -78,6 +79,6 @@ returns-clause-ok g c =
         asks = a;
         given = subst (λ (l : List Note). IsGiven g.R.MemoryReplica.behaves (record (scene_of p) { trace = l })
             (scene_of c.give.new.parts) c.args.number (Some c.args.bytes.now) (asked_note c.in_ok-asked.asked))
-            c.make_room.ensures.same of_it;
+            c.reserve_notes.ensures.same of_it;
       },
     )

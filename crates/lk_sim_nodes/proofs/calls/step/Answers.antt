@@ -32,12 +32,12 @@ pub returns-in-Err-clause-falls : goal.returns-in-Err-clause-falls
 returns-in-Err-clause-falls g c h w lawful f input d down =
     let is : c.args.seat.now.life ≡ Up c.in-Up.replica = search rules in
     c.stop_node.ensures.fits h w
-    (subst (λ k. DisksFit g.R.MemoryReplica.meaning h k (disk_of c.take_device-device.result))
-    (sym c.take_device-device.ensures.number)
+    (subst (λ k. DisksFit g.R.MemoryReplica.meaning h k (disk_of c.remove_device-device.result))
+    (sym c.remove_device-device.ensures.number)
     (subst (λ (m : Memory). DisksFit g.R.MemoryReplica.meaning h c.args.seat.now.number (disk_of m))
-    (sym c.take_device-device.ensures.is)
+    (sym c.remove_device-device.ensures.is)
     (c.in-Err.ensures.ends h c.args.seat.now.number (node_fits _ _ _ h w _ _ lawful (f.up c.in-Up.replica is)) input)))
-    (subst (λ (m : Memory). AreShort (disk_of m)) (sym c.take_device-device.ensures.is)
+    (subst (λ (m : Memory). AreShort (disk_of m)) (sym c.remove_device-device.ensures.is)
     (stepped_short (disks_by g.R.MemoryReplica.behaves c.in-Up.replica)
     (disks_by g.R.MemoryReplica.behaves c.take.new.self) c.take.ensures.room (f.up c.in-Up.replica is).room))
 

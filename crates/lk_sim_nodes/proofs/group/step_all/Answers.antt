@@ -58,15 +58,15 @@ returns-in_err-outcome-in-Err-clause-leaves g c h w lawful f heard =
     let is : c.args.seat.now.life ≡ Up c.in-Up.replica = search rules in
     let u = f.up c.in-Up.replica is in
     let fits = c.stop_node.ensures.fits h w
-    (subst (λ k. DisksFit g.R.MemoryReplica.meaning h k (disk_of c.take_device-device.result))
-    (sym c.take_device-device.ensures.number)
+    (subst (λ k. DisksFit g.R.MemoryReplica.meaning h k (disk_of c.remove_device-device.result))
+    (sym c.remove_device-device.ensures.number)
     (subst (λ (m : Memory). DisksFit g.R.MemoryReplica.meaning h c.args.seat.now.number (disk_of m))
-    (sym c.take_device-device.ensures.is)
+    (sym c.remove_device-device.ensures.is)
     (c.take_all.ensures.ends h c.args.seat.now.number (node_fits _ _ _ h w _ _ lawful u) heard)))
-    (subst (λ (m : Memory). AreShort (disk_of m)) (sym c.take_device-device.ensures.is)
+    (subst (λ (m : Memory). AreShort (disk_of m)) (sym c.remove_device-device.ensures.is)
     (stepped_short (disks_by b c.in-Up.replica) (disks_by b c.take_all.new.self) c.take_all.ensures.room u.room)) in
     down_left _ b _ h w c.stop_node.new.seat
-    (stopped_on 0 0 c.take_device-device.result) c.in_err-outcome-in-Err.ensures.halted fits
+    (stopped_on 0 0 c.remove_device-device.result) c.in_err-outcome-in-Err.ensures.halted fits
 
 pub returns-in_ok-outcome-in-Err-clause-leaves : goal.returns-in_ok-outcome-in-Err-clause-leaves
 returns-in_ok-outcome-in-Err-clause-leaves g c h w lawful f heard =
@@ -74,12 +74,12 @@ returns-in_ok-outcome-in-Err-clause-leaves g c h w lawful f heard =
     let is : c.args.seat.now.life ≡ Up c.in-Up.replica = search rules in
     let u = f.up c.in-Up.replica is in
     let fits = c.stop_node.ensures.fits h w
-    (subst (λ k. DisksFit g.R.MemoryReplica.meaning h k (disk_of c.take_device-device.result))
-    (sym c.take_device-device.ensures.number)
+    (subst (λ k. DisksFit g.R.MemoryReplica.meaning h k (disk_of c.remove_device-device.result))
+    (sym c.remove_device-device.ensures.number)
     (subst (λ (m : Memory). DisksFit g.R.MemoryReplica.meaning h c.args.seat.now.number (disk_of m))
-    (sym c.take_device-device.ensures.is)
+    (sym c.remove_device-device.ensures.is)
     (c.take_all.ensures.ends h c.args.seat.now.number (node_fits _ _ _ h w _ _ lawful u) heard)))
-    (subst (λ (m : Memory). AreShort (disk_of m)) (sym c.take_device-device.ensures.is)
+    (subst (λ (m : Memory). AreShort (disk_of m)) (sym c.remove_device-device.ensures.is)
     (stepped_short (disks_by b c.in-Up.replica) (disks_by b c.take_all.new.self) c.take_all.ensures.room u.room)) in
     down_left _ b _ h w c.stop_node.new.seat
     (fallen_on c.in_ok-outcome-in-Err.ensures.fallen.left) c.in_ok-outcome-in-Err.ensures.fallen.down fits
@@ -91,12 +91,12 @@ returns-in_err-outcome-in-Err-clause-wants g c r up =
     let is : c.args.seat.now.life ≡ Up c.in-Up.replica = search rules in
     let own : c.in-Up.replica ≡ r = cc (is, up) in
     let e = c.in_err-outcome-in-Err.ensures in
-    let left : c.take_device-device.result ≡ b.memory c.take_all.new.self = c.take_device-device.ensures.is in
+    let left : c.remove_device-device.result ≡ b.memory c.take_all.new.self = c.remove_device-device.ensures.is in
     on_err_of c.from_residual.result
     (subst (λ z. HasStoppedOutOfMemory (BreaksTogether b z given) c.stop_node.new.seat) own
     (record {
       number = fault_number c.in-Err.fault;
-      left = c.take_device-device.result;
+      left = c.remove_device-device.result;
       ends = (
         c.take_all.new.self,
         c.in-Err.ensures.refused.1,

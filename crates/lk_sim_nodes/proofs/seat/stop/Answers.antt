@@ -14,21 +14,21 @@ pub returns-clause-fits : goal.returns-clause-fits
 returns-clause-fits g c h w f =
     down_fits _ _ _ h w _ c.trap.new.self refl
     (subst (λ k. DisksFit g.R.MemoryReplica.meaning h k (disk_of c.trap.new.self))
-    (sym c.take_device-device.ensures.number)
-    (stopped_fit _ h c.args.seat.now.number (disk_of c.take_device-device.result) (disk_of c.trap.new.self)
+    (sym c.remove_device-device.ensures.number)
+    (stopped_fit _ h c.args.seat.now.number (disk_of c.remove_device-device.result) (disk_of c.trap.new.self)
     (elim [
       | A ↦ (c.args.x, ap (λ (d : Memory). d.a) c.trap.ensures ∙ ap (λ (d : Memory). d.a) c.stop.ensures.after)
       | B ↦ (c.args.y, ap (λ (d : Memory). d.b) c.trap.ensures ∙ ap (λ (d : Memory). d.b) c.stop.ensures.after)
     ])
-    (c.take_device-device.ensures.fits h w f)))
-    (kept_short (disk_of c.take_device-device.result) (disk_of c.trap.new.self)
+    (c.remove_device-device.ensures.fits h w f)))
+    (kept_short (disk_of c.remove_device-device.result) (disk_of c.trap.new.self)
     (elim [
       | A ↦ (c.args.x, ap (λ (d : Memory). d.a) c.trap.ensures ∙ ap (λ (d : Memory). d.a) c.stop.ensures.after)
       | B ↦ (c.args.y, ap (λ (d : Memory). d.b) c.trap.ensures ∙ ap (λ (d : Memory). d.b) c.stop.ensures.after)
     ])
-    (c.take_device-device.ensures.room h w f))
+    (c.remove_device-device.ensures.room h w f))
 
 pub returns-clause-stopped : goal.returns-clause-stopped
 returns-clause-stopped g c =
     ap Down (c.trap.ensures ∙ ap (λ (d : Memory). record d { meter = trapped Off d.meter }) c.stop.ensures.after)
-    ∙ ap (λ (d : Memory). Down (stopped_on c.args.x c.args.y d)) c.take_device-device.ensures.is
+    ∙ ap (λ (d : Memory). Down (stopped_on c.args.x c.args.y d)) c.remove_device-device.ensures.is

@@ -8,7 +8,7 @@ same : (n : ℕ) → suc n ≡ n + 1
 same n = omega arith
 
 pub targets-init : goal.targets-init
-targets-init g c = λ tells last asks. asks
+targets-init g c = λ observable last asks. asks
 
 pub targets-preserved : goal.targets-preserved
 targets-preserved g c =
@@ -20,10 +20,10 @@ targets-preserved g c =
     drop-cons targets c.targets.target-index c.target-item.result c.targets-test.true
     ∙ ap (λ (t : Target). t ∷ drop (suc c.targets.target-index) targets) (sym c.target-item.is)
     ∙ ap (λ (n : ℕ). c.target-item.result ∷ drop n targets) (same c.targets.target-index) in
-    λ tells last more.
-    c.targets.invariant tells last
+    λ observable last more.
+    c.targets.invariant observable last
     (subst (λ (ts : List Target). asks c.targets.token ts rs c.targets.socket last) (sym next)
-    (c.probe_target.new.socket, c.in_ok-probe_target.ensures tells, more))
+    (c.probe_target.new.socket, c.in_ok-probe_target.ensures observable, more))
 
 pub returns : goal.returns
 returns g c =
@@ -32,8 +32,8 @@ returns g c =
     g.S.DatagramSocket.failures c.args.inquiry.now in
     let none = drop_all c.targets.target-index targets c.targets-test.false in
     let are : targets ≡ c.args.inquiry.now.targets.items = search rules in
-    λ tells.
+    λ observable.
     subst (λ (ts : List Target). asks c.args.first ts c.args.reports.now c.args.socket.now c.targets.socket) are
-    (c.targets.invariant tells c.targets.socket
+    (c.targets.invariant observable c.targets.socket
     (subst (λ (ts : List Target). asks c.targets.token ts c.args.reports.now c.targets.socket c.targets.socket)
     (sym none) refl))

@@ -4,5 +4,5 @@ use Rattle.lk_status.proofs.measure.reference_report.Goals as goal
 
 pub returns : goal.returns
 returns c =
-    by_furthest c.args.reports.now c.in-Some.told.now
-    (option_copied c.furthest_in.result) c.in-Some.ensures c.if-told.false c.furthest_in.ensures
+    by_furthest c.args.reports.now c.in-Some.named.now
+    (option_copied c.furthest_in.result) c.in-Some.ensures c.if-named.false c.furthest_in.ensures

@@ -1,8 +1,8 @@
 -- The best of what the promises so far tell.
 use Rattle.std.proofs.Common.{take}
-use Rattle.lk_leader.specs.Values.{IsBest, told_at, reports_at}
+use Rattle.lk_leader.specs.Values.{IsBest, promised_at, received_at}
 use Rattle.lk_leader.proofs.term.Term.highest.Given as goal
 
-abbrev pub invariant-loop-report : goal.invariant-loop-report
-invariant-loop-report l =
-    IsBest (told_at l.position (reports_at l.set l.position (take l.report-index l.self.reports))) l.best
+abbrev pub invariant-loop-promise : goal.invariant-loop-promise
+invariant-loop-promise l =
+    IsBest (promised_at l.position (received_at l.set l.position (take l.promise-index l.self.received))) l.best

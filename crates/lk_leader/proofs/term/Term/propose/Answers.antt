@@ -51,7 +51,7 @@ returns c =
     ∙ ap (λ (l : List ProposalValue). l ++ x ∷ []) kept in
     ap (λ (l : List ProposalValue). record {
       ballot = c.self.inside.ballot;
-      reports = c.self.inside.reports.items;
+      received = c.self.inside.received.items;
       proposals = l;
     }) items
     ∙ ap (proposed c.args.roster.now c.args.position c.args.command) c.self.view_is

@@ -55,7 +55,7 @@ returns-clause-proposed c = λ p at is.
     ∙ first.1 in (
       ap (λ (l : List ProposalValue). record {
         ballot = c.self.inside.ballot;
-        reports = c.self.inside.reports.items;
+        received = c.self.inside.received.items;
         proposals = l;
       }) list
           ∙ ap (with_proposals (heard_at set c.args.node c.args.position ps)) c.self.view_is,
@@ -86,7 +86,7 @@ returns-clause-other c = λ no.
     ∙ set-own ps k d in (
       ap (λ (l : List ProposalValue). record {
         ballot = c.self.inside.ballot;
-        reports = c.self.inside.reports.items;
+        received = c.self.inside.received.items;
         proposals = l;
       }) (list ∙ sym same) ∙ c.self.view_is,
       told.1,

@@ -33,7 +33,7 @@ pairs-preserved g c =
     let went = walked c.args.decided.now.commands c.pairs.rest c.in-Some.others c.pairs.index taken.command
     c.pairs.invariant.2 (omega (arith, many, c.pairs-test.true)) taken.stands in (
       takes_more _ c.args.decided.now c.pairs.index c.position_behind-position.result taken.command _ c.pairs.self
-          _ _ c.pairs.out _ place went.0 c.pairs.invariant.0 taken.takes,
+          _ _ c.pairs.out _ place went.0 c.pairs.invariant.0 taken.learns,
       λ from. told_goes_on _ from c.args.decided.now c.pairs.index c.position_behind-position.result taken.command
           _ c.pairs.self _ _ c.pairs.out _ place went.0 (c.pairs.invariant.1 from) taken.goes_on,
       went.1,

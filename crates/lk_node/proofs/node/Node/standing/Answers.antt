@@ -2,7 +2,7 @@ use Rattle.std.proofs.Common.{rules, ◌≡◌, ap, sym, subst, arith, List, ℕ
 use Rattle.lk_store_format.specs.Values.{StandingValue}
 use Rattle.lk_log.specs.Stores.{FitsBase}
 use Rattle.lk_node.specs.NodeValue.{NodeValue}
-use Rattle.lk_node.specs.Packing.{standing_of}
+use Rattle.lk_node.specs.NewBases.{standing_of}
 use Rattle.lk_node.proofs.NearLaws.{may_begin}
 use Rattle.lk_node.proofs.node.Node.standing.Goals as goal
 

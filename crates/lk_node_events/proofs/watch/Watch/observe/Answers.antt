@@ -14,5 +14,5 @@ returns c = record {
         quiet = c.put_times.new.self.quiet;
         lag = c.put_times.new.self.lag;
         slots = c.observe.new.slots;
-      } in w) c.observe.ensures.told;
+      } in w) c.observe.ensures.observed;
 }

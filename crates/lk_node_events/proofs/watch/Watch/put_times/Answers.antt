@@ -12,7 +12,7 @@ returns c = record {
         none = c.observe-leaderless.ensures.none;
         leader = c.observe-leaderless.ensures.leader;
         since = c.observe-leaderless.ensures.since;
-        told = c.observe-leaderless.ensures.told;
+        logged = c.observe-leaderless.ensures.logged;
         kept = c.observe-leaderless.ensures.kept;
       });
   behind = c.observe-lag.result;

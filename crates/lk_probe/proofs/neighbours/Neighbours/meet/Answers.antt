@@ -6,8 +6,8 @@ use Rattle.lk_probe.specs.declared.neighbours.Neighbour.{Neighbour}
 use Rattle.lk_probe.proofs.Strangers.{met_strangers, read_there}
 use Rattle.lk_probe.proofs.neighbours.Neighbours.meet.Goals as goal
 
-pub returns-then-at-lt-ROOM-clause-strangers : goal.returns-then-at-lt-ROOM-clause-strangers
-returns-then-at-lt-ROOM-clause-strangers c =
+pub returns-then-at-lt-MAX_NEIGHBOURS-clause-strangers : goal.returns-then-at-lt-MAX_NEIGHBOURS-clause-strangers
+returns-then-at-lt-MAX_NEIGHBOURS-clause-strangers c =
     let es : Entries = c.self.inside.entries in
     let within : c.entry_for-at.result < length es = grind (arith, common_steps) in
     let read : c.index-self-at.result ≡ slice_index_or es c.entry_for-at.result c.index-self-at.result = search rules in

@@ -8,7 +8,7 @@ use Rattle.lk_log.specs.Images.{seen}
 use Rattle.lk_log.specs.StoreValue.{disks}
 use Rattle.lk_state.specs.Meanings.{Meaning}
 use Rattle.lk_node.specs.Keeping.{ReplicaHolds}
-use Rattle.lk_node.specs.Packing.{standing_of}
+use Rattle.lk_node.specs.NewBases.{standing_of}
 use Rattle.lk_node.specs.BorneOut.{text}
 use Rattle.lk_node_interface.specs.Faults.{fault_number, RefusedAfter}
 use Rattle.lk_recovery.proofs.Recoveries.{before_fits, refused_on, goes_fit, then_goes, taken_keeps, revival_calls}
@@ -59,7 +59,7 @@ returns-in-Ok-renew-clause-exact g c honest =
       record {
         node = c.in-Ok.up.node;
         store = c.in-Ok.up.store;
-        takes = t;
+        restarts = t;
         renews = (c.in-Ok-renew.ensures.renewed honest).renews;
         further = λ last.
             let was = of_last_old (seen (g.D.LogDisk.disk c.args.device)) c.args.header.now
@@ -134,7 +134,7 @@ returns-in-Err-renew-clause-refused g c honest =
       ];
       last_revives = λ eleven. record {
         genesis = t.genesis;
-        began = t.began;
+        whose_is = t.whose_is;
         standing = t.standing;
         stands = record {
           entries = t.opens.entries;

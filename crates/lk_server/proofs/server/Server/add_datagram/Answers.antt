@@ -3,17 +3,17 @@ use Rattle.lk_server.proofs.Carrying.{on_err}
 use Rattle.lk_server.proofs.Gatherings.{gathers_from, silent_from, takes_one, takes_tick, ends_one, ends_tick}
 use Rattle.lk_server.proofs.server.Server.add_datagram.Goals as goal
 
-pub returns-else-ticks_after-clause-takes : goal.returns-else-ticks_after-clause-takes
-returns-else-ticks_after-clause-takes g c =
-    let gathers = g.R.ServedReplica.Gathers in
+pub returns-else-ticks_after-clause-adds : goal.returns-else-ticks_after-clause-adds
+returns-else-ticks_after-clause-adds g c =
+    let gathers = g.R.ServerReplica.Gathers in
     let replica : c.self.inside.replica ≡ c.args.self.now.replica = search rules in
     takes_one gathers c.args.datagram c.args.group.now c.add_input.new.group c.args.self.now c.add_input.new.self
     (gathers_from gathers _ _ _ _ _ _ replica c.in_ok-add_input.ensures.gathers) (search rules) (search rules)
     (search rules) (search rules)
 
-pub returns-in_ok-add_tick-clause-takes : goal.returns-in_ok-add_tick-clause-takes
-returns-in_ok-add_tick-clause-takes g c =
-    let gathers = g.R.ServedReplica.Gathers in
+pub returns-in_ok-add_tick-clause-adds : goal.returns-in_ok-add_tick-clause-adds
+returns-in_ok-add_tick-clause-adds g c =
+    let gathers = g.R.ServerReplica.Gathers in
     let replica : c.self.inside.replica ≡ c.args.self.now.replica = search rules in
     takes_tick gathers c.args.datagram c.args.group.now c.add_input.new.group c.add_tick.new.group c.args.self.now
     c.add_tick.new.self c.add_input.new.self.replica
@@ -22,7 +22,7 @@ returns-in_ok-add_tick-clause-takes g c =
 
 pub returns-in_err-add_input-clause-ends : goal.returns-in_err-add_input-clause-ends
 returns-in_err-add_input-clause-ends g c =
-    let r = g.R.ServedReplica in
+    let r = g.R.ServerReplica in
     let replica : c.self.inside.replica ≡ c.args.self.now.replica = search rules in
     on_err c.from_residual.result
     (ends_one r.Says r.Gathers c.args.datagram c.args.group.now c.args.self.now c.add_input.new.self
@@ -30,7 +30,7 @@ returns-in_err-add_input-clause-ends g c =
 
 pub returns-in_err-add_tick-clause-ends : goal.returns-in_err-add_tick-clause-ends
 returns-in_err-add_tick-clause-ends g c =
-    let r = g.R.ServedReplica in
+    let r = g.R.ServerReplica in
     let replica : c.self.inside.replica ≡ c.args.self.now.replica = search rules in
     on_err c.from_residual-in_err-add_tick.result
     (ends_tick r.Says r.Gathers c.args.datagram c.args.group.now c.add_input.new.group c.args.self.now

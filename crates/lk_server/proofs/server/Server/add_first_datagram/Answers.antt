@@ -9,24 +9,24 @@ use Rattle.lk_server.proofs.Gatherings.{socket_one, ends_socket, finds, still_no
 use Rattle.lk_server.proofs.server.Server.add_first_datagram.Goals as goal
 use Rattle.lk_transport.specs.ReceiveBuffers.{BufferValue, listed}
 
-pub returns-clause-takes : goal.returns-clause-takes
-returns-clause-takes g c =
+pub returns-clause-adds : goal.returns-clause-adds
+returns-clause-adds g c =
     let h = c.add_received.ensures in
     let l = c.receive.ensures in
-    if_ok_both c.add_received.result (λ found takes rest yes.
-    let t = takes yes in
+    if_ok_both c.add_received.result (λ found adds rest yes.
+    let t = adds yes in
     let apart = still_not_out c.args.self.now c.receive.new.self t.0 l.others t.2 in
     let same = rest (λ is. let both : Something ≡ Filtered = sym yes ∙ is in cc both) in (
       t.0,
       apart,
-      socket_one g.R.ServedReplica.Gathers g.S.DatagramSocket.is_observable c.receive.new.buffer.last t.0
+      socket_one g.R.ServerReplica.Gathers g.S.DatagramSocket.is_observable c.receive.new.buffer.last t.0
           c.args.group.now
           c.add_received.new.group c.args.self.now c.receive.new.self c.add_received.new.self t.1 l.comes l.others
           (ap (λ (s : ServerValue _). s.incoming) h.others) t.3,
       keeps_given c.args.self.now.node c.args.self.now.addresses.seals t.0 c.args.buffer.now c.add_received.new.buffer
           (not_beside (filter_of c.args.self.now.addresses) t.0 apart)
           (ap (λ (b : BufferValue). b.asked) same ∙ l.asked) (ap (λ (b : BufferValue). b.reported) same ∙ l.reported),
-    )) h.takes h.rest
+    )) h.adds h.rest
 
 pub returns-clause-none : goal.returns-clause-none
 returns-clause-none g c =
@@ -53,7 +53,7 @@ returns-clause-ends g c =
     if_err_on c.add_received.result (λ e. (
       e.0,
       still_not_out c.args.self.now c.receive.new.self e.0 l.others e.2,
-      ends_socket g.R.ServedReplica.Says g.R.ServedReplica.Gathers g.S.DatagramSocket.is_observable
+      ends_socket g.R.ServerReplica.Says g.R.ServerReplica.Gathers g.S.DatagramSocket.is_observable
           c.receive.new.buffer.last e.0 c.args.group.now c.args.self.now c.receive.new.self
           c.add_received.new.self e.1 l.comes l.others
           (ap (λ (s : ServerValue _). s.incoming) h.others) e.3,

@@ -10,7 +10,7 @@ pub datagrams-init : goal.datagrams-init
 datagrams-init g c = (
   [],
   refl,
-  socket_nothing g.R.ServedReplica.Gathers g.S.DatagramSocket.is_observable c.args.group.now c.args.group.now
+  socket_nothing g.R.ServerReplica.Gathers g.S.DatagramSocket.is_observable c.args.group.now c.args.group.now
       c.args.self.now c.args.self.now refl refl,
   refl,
   keeps_still c.args.self.now.node c.args.self.now.addresses.seals c.args.buffer.now c.args.buffer.now refl refl,
@@ -19,11 +19,11 @@ datagrams-init g c = (
 pub datagrams-preserved : goal.datagrams-preserved
 datagrams-preserved g c =
     let i = c.datagrams.invariant in
-    let t = c.in_ok-add_next_datagram.ensures.takes (cc c.if-not-branch.false) in
+    let t = c.in_ok-add_next_datagram.ensures.adds (cc c.if-not-branch.false) in
     let new = c.add_next_datagram.new.self in (
       i.0 ++ t.0 ∷ [],
       omega (arith, i.1, length-append i.0 (t.0 ∷ [])),
-      socket_more g.R.ServedReplica.Gathers g.S.DatagramSocket.is_observable i.0
+      socket_more g.R.ServerReplica.Gathers g.S.DatagramSocket.is_observable i.0
           (t.0 ∷ []) c.args.group.now c.datagrams.group c.add_next_datagram.new.group c.args.self.now c.datagrams.self
           new (ap (λ (s : ServerValue _). s.cluster) i.3) i.2 t.1,
       c.add_next_datagram.ensures.others
@@ -38,23 +38,23 @@ datagrams-preserved g c =
       keeps_more c.args.self.now.node c.datagrams.self.node c.args.self.now.addresses.seals
           c.datagrams.self.addresses.seals i.0
           (t.0 ∷ []) c.args.buffer.now c.datagrams.buffer c.add_next_datagram.new.buffer
-          (ap (λ (s : ServerValue _). s.node) i.3) (ap (λ (c : Filter). c.seals) i.2.takes.network.1) i.4 t.2,
+          (ap (λ (s : ServerValue _). s.node) i.3) (ap (λ (c : Filter). c.seals) i.2.adds.network.1) i.4 t.2,
     )
 
-pub returns-then-not-branch-clause-takes : goal.returns-then-not-branch-clause-takes
-returns-then-not-branch-clause-takes g c =
+pub returns-then-not-branch-clause-adds : goal.returns-then-not-branch-clause-adds
+returns-then-not-branch-clause-adds g c =
     let i = c.datagrams.invariant in
     let n = c.in_ok-add_next_datagram.ensures.none (cc c.if-not-branch.true) in (
       i.0,
       omega (arith, i.1, c.datagrams-test.true),
-      socket_still g.R.ServedReplica.Gathers g.S.DatagramSocket.is_observable i.0 c.args.group.now c.datagrams.group
+      socket_still g.R.ServerReplica.Gathers g.S.DatagramSocket.is_observable i.0 c.args.group.now c.datagrams.group
           c.add_next_datagram.new.group c.args.self.now c.datagrams.self c.add_next_datagram.new.self i.2 n.2 n.1 n.0,
       keeps_on c.args.self.now.node c.args.self.now.addresses.seals i.0 c.args.buffer.now c.datagrams.buffer
           c.add_next_datagram.new.buffer i.4 n.3 n.4,
     )
 
-pub returns-clause-takes : goal.returns-clause-takes
-returns-clause-takes g c =
+pub returns-clause-adds : goal.returns-clause-adds
+returns-clause-adds g c =
     let i = c.datagrams.invariant in
     let all : c.datagrams.counter ≡ 63 = omega arith in (i.0, omega (arith, i.1, all), i.2, i.4)
 
@@ -65,7 +65,7 @@ returns-in_err-add_next_datagram-clause-ends g c =
     on_err c.from_residual.result (
       i.0 ++ e.0 ∷ [],
       omega (arith, i.1, c.datagrams-test.true, length-append i.0 (e.0 ∷ [])),
-      ends_further g.R.ServedReplica.Says g.R.ServedReplica.Gathers g.S.DatagramSocket.is_observable i.0
+      ends_further g.R.ServerReplica.Says g.R.ServerReplica.Gathers g.S.DatagramSocket.is_observable i.0
           (e.0 ∷ []) c.args.group.now c.datagrams.group c.args.self.now c.datagrams.self c.add_next_datagram.new.self
           (ap (λ (s : ServerValue _). s.cluster) i.3) i.2 e.1,
     )

@@ -8,7 +8,7 @@ use Rattle.lk_server.proofs.server.Server.add_further_datagrams.Given as goal
 abbrev pub invariant-datagrams : goal.invariant-datagrams
 invariant-datagrams g l =
     (frames : List (SocketAddr × List ℕ)) × (length frames ≡ l.counter)
-    × AddsFromSocket g.R.ServedReplica.Gathers g.S.DatagramSocket.is_observable frames l.fn.group l.group l.fn.self
+    × AddsFromSocket g.R.ServerReplica.Gathers g.S.DatagramSocket.is_observable frames l.fn.group l.group l.fn.self
     l.self
     × (l.self ≡ record l.fn.self {
       replica = l.self.replica;

@@ -11,23 +11,23 @@ use Rattle.lk_server.proofs.Turning.{own_group, own_ends_first, own_ends}
 use Rattle.lk_server.proofs.server.Server.add_pending.Goals as goal
 use Rattle.lk_transport.specs.Kept.{KeepsOf}
 
-pub returns-then-not-branch-clause-takes : goal.returns-then-not-branch-clause-takes
-returns-then-not-branch-clause-takes g c =
-    let n = c.in_ok-add_own_letter.ensures.none (cc c.if-not-branch.true) in
+pub returns-then-not-branch-clause-adds : goal.returns-then-not-branch-clause-adds
+returns-then-not-branch-clause-adds g c =
+    let n = c.in_ok-add_loopback.ensures.none (cc c.if-not-branch.true) in
     subst₂ (λ (x : GroupValue) (s : ServerValue _). IfOk c.add_from_socket.result
     (λ found. found ≡ Something
     → (frames : List (SocketAddr × List ℕ))
-    × AddsWaiting g.R.ServedReplica.Gathers g.S.DatagramSocket.is_observable frames x c.add_from_socket.new.group s
+    × AddsWaiting g.R.ServerReplica.Gathers g.S.DatagramSocket.is_observable frames x c.add_from_socket.new.group s
     c.add_from_socket.new.self
     × KeepsOf s.node s.addresses.seals frames c.args.buffer.now c.add_from_socket.new.buffer))
-    n.2 n.1 c.add_from_socket.ensures.takes
+    n.2 n.1 c.add_from_socket.ensures.adds
 
 pub returns-then-not-branch-clause-none : goal.returns-then-not-branch-clause-none
 returns-then-not-branch-clause-none g c =
-    let n = c.in_ok-add_own_letter.ensures.none (cc c.if-not-branch.true) in
+    let n = c.in_ok-add_loopback.ensures.none (cc c.if-not-branch.true) in
     subst₂ (λ (x : GroupValue) (s : ServerValue _). IfOk c.add_from_socket.result
     (λ found. (found ≡ Something → ⊥)
-    → (s.own_letters ≡ []) × (frames : List (SocketAddr × List ℕ))
+    → (s.loopback ≡ []) × (frames : List (SocketAddr × List ℕ))
     × Finds g.S.DatagramSocket.is_observable found frames s c.add_from_socket.new.self
     × (c.add_from_socket.new.group ≡ x)
     × KeepsOf s.node s.addresses.seals frames c.args.buffer.now c.add_from_socket.new.buffer))
@@ -35,50 +35,50 @@ returns-then-not-branch-clause-none g c =
 
 pub returns-then-not-branch-clause-ends : goal.returns-then-not-branch-clause-ends
 returns-then-not-branch-clause-ends g c =
-    let n = c.in_ok-add_own_letter.ensures.none (cc c.if-not-branch.true) in
+    let n = c.in_ok-add_loopback.ensures.none (cc c.if-not-branch.true) in
     subst₂ (λ (x : GroupValue) (s : ServerValue _). OnErr c.add_from_socket.result
     ((frames : List (SocketAddr × List ℕ))
-    × EndsGroup g.R.ServedReplica.Says g.R.ServedReplica.Gathers g.S.DatagramSocket.is_observable frames x s
+    × EndsGroup g.R.ServerReplica.Says g.R.ServerReplica.Gathers g.S.DatagramSocket.is_observable frames x s
     c.add_from_socket.new.self))
     n.2 n.1 c.add_from_socket.ensures.ends
 
-pub returns-clause-takes : goal.returns-clause-takes
-returns-clause-takes g c = λ yes.
-    let r = g.R.ServedReplica in
-    let first = c.in_ok-add_own_letter.ensures.takes (cc c.if-not-branch.false) in (
+pub returns-clause-adds : goal.returns-clause-adds
+returns-clause-adds g c = λ yes.
+    let r = g.R.ServerReplica in
+    let first = c.in_ok-add_loopback.ensures.adds (cc c.if-not-branch.false) in (
       [],
-      own_group r.Says r.Gathers g.S.DatagramSocket.is_observable first.0 c.args.group.now c.add_own_letter.new.group
-          c.add_own_letters.new.group c.args.self.now c.add_own_letter.new.self c.add_own_letters.new.self first.1
-          (ap (λ (s : ServerValue _). s.addresses) c.add_own_letters.ensures.others
-          ∙ ap (λ (s : ServerValue _). s.addresses) c.add_own_letter.ensures.others)
-          (ap (λ (s : ServerValue _). s.incoming) c.add_own_letters.ensures.others
-          ∙ ap (λ (s : ServerValue _). s.incoming) c.add_own_letter.ensures.others) first.2
-          c.in_ok-add_own_letters.ensures.takes,
+      own_group r.Says r.Gathers g.S.DatagramSocket.is_observable first.0 c.args.group.now c.add_loopback.new.group
+          c.add_loopbacks.new.group c.args.self.now c.add_loopback.new.self c.add_loopbacks.new.self first.1
+          (ap (λ (s : ServerValue _). s.addresses) c.add_loopbacks.ensures.others
+          ∙ ap (λ (s : ServerValue _). s.addresses) c.add_loopback.ensures.others)
+          (ap (λ (s : ServerValue _). s.incoming) c.add_loopbacks.ensures.others
+          ∙ ap (λ (s : ServerValue _). s.incoming) c.add_loopback.ensures.others) first.2
+          c.in_ok-add_loopbacks.ensures.adds,
       keeps_still c.args.self.now.node c.args.self.now.addresses.seals c.args.buffer.now c.args.buffer.now refl refl,
     )
 
-pub returns-in_err-add_own_letter-clause-ends : goal.returns-in_err-add_own_letter-clause-ends
-returns-in_err-add_own_letter-clause-ends g c =
-    let r = g.R.ServedReplica in
-    let e = c.in_err-add_own_letter.ensures.ends in
+pub returns-in_err-add_loopback-clause-ends : goal.returns-in_err-add_loopback-clause-ends
+returns-in_err-add_loopback-clause-ends g c =
+    let r = g.R.ServerReplica in
+    let e = c.in_err-add_loopback.ensures.ends in
     on_err c.from_residual.result (
       [],
       own_ends_first r.Says r.Gathers g.S.DatagramSocket.is_observable e.0 c.args.group.now c.args.self.now
-          c.add_own_letter.new.self e.1 (ap (λ (s : ServerValue _). s.addresses) c.add_own_letter.ensures.others)
-          (ap (λ (s : ServerValue _). s.incoming) c.add_own_letter.ensures.others) e.2,
+          c.add_loopback.new.self e.1 (ap (λ (s : ServerValue _). s.addresses) c.add_loopback.ensures.others)
+          (ap (λ (s : ServerValue _). s.incoming) c.add_loopback.ensures.others) e.2,
     )
 
-pub returns-in_err-add_own_letters-clause-ends : goal.returns-in_err-add_own_letters-clause-ends
-returns-in_err-add_own_letters-clause-ends g c =
-    let r = g.R.ServedReplica in
-    let first = c.in_ok-add_own_letter.ensures.takes (cc c.if-not-branch.false) in
-    on_err c.from_residual-in_err-add_own_letters.result (
+pub returns-in_err-add_loopbacks-clause-ends : goal.returns-in_err-add_loopbacks-clause-ends
+returns-in_err-add_loopbacks-clause-ends g c =
+    let r = g.R.ServerReplica in
+    let first = c.in_ok-add_loopback.ensures.adds (cc c.if-not-branch.false) in
+    on_err c.from_residual-in_err-add_loopbacks.result (
       [],
-      own_ends r.Says r.Gathers g.S.DatagramSocket.is_observable first.0 c.args.group.now c.add_own_letter.new.group
-          c.args.self.now c.add_own_letter.new.self c.add_own_letters.new.self first.1
-          (ap (λ (s : ServerValue _). s.addresses) c.add_own_letters.ensures.others
-          ∙ ap (λ (s : ServerValue _). s.addresses) c.add_own_letter.ensures.others)
-          (ap (λ (s : ServerValue _). s.incoming) c.add_own_letters.ensures.others
-          ∙ ap (λ (s : ServerValue _). s.incoming) c.add_own_letter.ensures.others) first.2
-          c.in_err-add_own_letters.ensures.ends,
+      own_ends r.Says r.Gathers g.S.DatagramSocket.is_observable first.0 c.args.group.now c.add_loopback.new.group
+          c.args.self.now c.add_loopback.new.self c.add_loopbacks.new.self first.1
+          (ap (λ (s : ServerValue _). s.addresses) c.add_loopbacks.ensures.others
+          ∙ ap (λ (s : ServerValue _). s.addresses) c.add_loopback.ensures.others)
+          (ap (λ (s : ServerValue _). s.incoming) c.add_loopbacks.ensures.others
+          ∙ ap (λ (s : ServerValue _). s.incoming) c.add_loopback.ensures.others) first.2
+          c.in_err-add_loopbacks.ensures.ends,
     )

@@ -9,8 +9,8 @@ use Rattle.lk_server.proofs.Carrying.{on_err}
 use Rattle.lk_server.proofs.Gatherings.{heard_one, ends_heard}
 use Rattle.lk_server.proofs.server.Server.add_received.Goals as goal
 
-pub returns-clause-takes : goal.returns-clause-takes
-returns-clause-takes g c = λ yes.
+pub returns-clause-adds : goal.returns-clause-adds
+returns-clause-adds g c = λ yes.
     let beside : is_probe_or_report (heard c.args.self.now.addresses.seals c.in-Some.frame.now) ≡ false =
     search rules in
     let known : is_stranger c.args.self.now.addresses.neighbours c.in-Some.from ≡ false = search rules in
@@ -19,11 +19,11 @@ returns-clause-takes g c = λ yes.
       (c.in-Some.from, c.in-Some.frame.now),
       c.in-Some.ensures.some,
       apart,
-      heard_one g.R.ServedReplica.Gathers (c.in-Some.from, c.in-Some.frame.now)
+      heard_one g.R.ServerReplica.Gathers (c.in-Some.from, c.in-Some.frame.now)
           (c.in-Some.from, c.of-viewed.result) c.args.group.now c.add_datagram.new.group c.args.self.now
           c.record_sender-came.new.self c.add_datagram.new.self
           (search rules) apart (search rules) (search rules) (search rules) (search rules) (search rules)
-          (search rules) (search rules) c.in_ok-add_datagram.ensures.takes,
+          (search rules) (search rules) c.in_ok-add_datagram.ensures.adds,
     )
 
 pub returns-in_err-add_datagram-clause-ends : goal.returns-in_err-add_datagram-clause-ends
@@ -37,7 +37,7 @@ returns-in_err-add_datagram-clause-ends g c =
       (c.in-Some.from, c.in-Some.frame.now),
       c.in-Some.ensures.some,
       apart,
-      ends_heard g.R.ServedReplica.Says g.R.ServedReplica.Gathers (c.in-Some.from, c.in-Some.frame.now)
+      ends_heard g.R.ServerReplica.Says g.R.ServerReplica.Gathers (c.in-Some.from, c.in-Some.frame.now)
           (c.in-Some.from, c.of-viewed.result) c.args.group.now c.args.self.now
           c.record_sender-came.new.self c.add_datagram.new.self
           (search rules) apart (search rules) (search rules) (search rules) (search rules) (search rules)

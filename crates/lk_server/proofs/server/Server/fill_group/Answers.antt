@@ -7,71 +7,71 @@ use Rattle.lk_server.proofs.Turning.{untimely_takes, untimely_rests, tick_turn, 
 use Rattle.lk_server.proofs.server.Server.fill_group.Goals as goal
 use Rattle.lk_transport.specs.Kept.{KeepsOf}
 
-pub returns-then-not-is_due-clause-takes : goal.returns-then-not-is_due-clause-takes
-returns-then-not-is_due-clause-takes g c = λ is.
-    let r = g.R.ServedReplica in
-    let tells = g.S.DatagramSocket.is_observable in
+pub returns-then-not-is_due-clause-adds : goal.returns-then-not-is_due-clause-adds
+returns-then-not-is_due-clause-adds g c = λ is.
+    let r = g.R.ServerReplica in
+    let observable = g.S.DatagramSocket.is_observable in
     subst (λ (s : ServerValue _). (frames : List (SocketAddr × List ℕ))
-    × AddsGroup r.Gathers tells frames c.args.group.now c.add_pending.new.group s c.add_pending.new.self
+    × AddsGroup r.Gathers observable frames c.args.group.now c.add_pending.new.group s c.add_pending.new.self
     × KeepsOf s.node s.addresses.seals frames c.args.buffer.now c.add_pending.new.buffer) c.set_timeout.ensures
-    (untimely_takes r.Says r.Gathers tells
+    (untimely_takes r.Says r.Gathers observable
     (λ frames. KeepsOf c.set_timeout.new.self.node c.set_timeout.new.self.addresses.seals frames c.args.buffer.now
     c.add_pending.new.buffer) c.args.group.now c.add_pending.new.group c.set_timeout.new.self c.add_pending.new.self
-    (c.in_ok-found.ensures.takes (c.is_something.ensures.0 is)))
+    (c.in_ok-found.ensures.adds (c.is_something.ensures.0 is)))
 
 pub returns-then-not-is_due-clause-idle : goal.returns-then-not-is_due-clause-idle
 returns-then-not-is_due-clause-idle g c = λ isnt.
-    let r = g.R.ServedReplica in
-    let tells = g.S.DatagramSocket.is_observable in
+    let r = g.R.ServerReplica in
+    let observable = g.S.DatagramSocket.is_observable in
     let pace : c.self.inside.pace ≡ c.add_pending.new.self.pace = search rules in
     let apart = apart_by isnt c.is_something.ensures.1 in
     subst (λ (s : ServerValue _). (frames : List (SocketAddr × List ℕ))
-    × HasReceived tells frames s c.add_pending.new.self × IsIdle tells frames s c.add_pending.new.self
+    × HasReceived observable frames s c.add_pending.new.self × IsIdle observable frames s c.add_pending.new.self
     × KeepsOf s.node s.addresses.seals frames c.args.buffer.now c.add_pending.new.buffer) c.set_timeout.ensures
-    (untimely_rests r.Says r.Gathers tells
+    (untimely_rests r.Says r.Gathers observable
     (λ frames. KeepsOf c.set_timeout.new.self.node c.set_timeout.new.self.addresses.seals frames c.args.buffer.now
     c.add_pending.new.buffer) c.in_ok-found.found c.is_due.result c.args.group.now c.add_pending.new.group
     c.set_timeout.new.self c.add_pending.new.self
     (ap (λ (s : ServerValue _). s.pace) c.add_pending.ensures.others) (cc c.if-not-is_due.true)
     (λ is. c.is_due.ensures.none (pace ∙ is)) (c.in_ok-found.ensures.none apart))
 
-pub returns-clause-takes : goal.returns-clause-takes
-returns-clause-takes g c = λ is.
-    let r = g.R.ServedReplica in
-    let tells = g.S.DatagramSocket.is_observable in
+pub returns-clause-adds : goal.returns-clause-adds
+returns-clause-adds g c = λ is.
+    let r = g.R.ServerReplica in
+    let observable = g.S.DatagramSocket.is_observable in
     let a = c.in_ok-found.ensures in
     let pace : c.self.inside.pace ≡ c.add_pending.new.self.pace = search rules in
     subst (λ (s : ServerValue _). (frames : List (SocketAddr × List ℕ))
-    × AddsGroup r.Gathers tells frames c.args.group.now c.add_tick.new.group s c.add_tick.new.self
+    × AddsGroup r.Gathers observable frames c.args.group.now c.add_tick.new.group s c.add_tick.new.self
     × KeepsOf s.node s.addresses.seals frames c.args.buffer.now c.add_pending.new.buffer) c.set_timeout.ensures
-    (tick_turn r.Says r.Gathers tells
+    (tick_turn r.Says r.Gathers observable
     (λ frames. KeepsOf c.set_timeout.new.self.node c.set_timeout.new.self.addresses.seals frames c.args.buffer.now
     c.add_pending.new.buffer) c.is_due.result c.args.group.now c.add_pending.new.group c.set_timeout.new.self
     c.add_pending.new.self c.add_tick.new.self (ap (λ (s : ServerValue _). s.pace) c.add_pending.ensures.others)
     (cc c.if-not-is_due.false) c.add_tick.ensures.others c.add_tick.ensures.ticks c.in_ok-found.found
-    c.add_tick.new.group a.takes a.none (λ same. c.is_due.ensures.given (pace ∙ same)) c.in_ok-add_tick.ensures.gathers)
+    c.add_tick.new.group a.adds a.none (λ same. c.is_due.ensures.given (pace ∙ same)) c.in_ok-add_tick.ensures.gathers)
 
 pub returns-in_err-found-clause-ends : goal.returns-in_err-found-clause-ends
 returns-in_err-found-clause-ends g c =
-    let r = g.R.ServedReplica in
-    let tells = g.S.DatagramSocket.is_observable in
+    let r = g.R.ServerReplica in
+    let observable = g.S.DatagramSocket.is_observable in
     on_err c.from_residual.result
     (subst (λ (s : ServerValue _). (frames : List (SocketAddr × List ℕ))
-    × EndsGroup r.Says r.Gathers tells frames c.args.group.now s c.add_pending.new.self) c.set_timeout.ensures
+    × EndsGroup r.Says r.Gathers observable frames c.args.group.now s c.add_pending.new.self) c.set_timeout.ensures
     c.in_err-found.ensures.ends)
 
 pub returns-in_err-add_tick-clause-ends : goal.returns-in_err-add_tick-clause-ends
 returns-in_err-add_tick-clause-ends g c =
-    let r = g.R.ServedReplica in
-    let tells = g.S.DatagramSocket.is_observable in
+    let r = g.R.ServerReplica in
+    let observable = g.S.DatagramSocket.is_observable in
     let a = c.in_ok-found.ensures in
     let pace : c.self.inside.pace ≡ c.add_pending.new.self.pace = search rules in
     on_err c.from_residual-in_err-add_tick.result
     (subst (λ (s : ServerValue _). (frames : List (SocketAddr × List ℕ))
-    × EndsGroup r.Says r.Gathers tells frames c.args.group.now s c.add_tick.new.self) c.set_timeout.ensures
-    (tick_turn_ends r.Says r.Gathers tells
+    × EndsGroup r.Says r.Gathers observable frames c.args.group.now s c.add_tick.new.self) c.set_timeout.ensures
+    (tick_turn_ends r.Says r.Gathers observable
     (λ frames. KeepsOf c.set_timeout.new.self.node c.set_timeout.new.self.addresses.seals frames c.args.buffer.now
     c.add_pending.new.buffer) c.is_due.result c.args.group.now c.add_pending.new.group c.set_timeout.new.self
     c.add_pending.new.self c.add_tick.new.self (ap (λ (s : ServerValue _). s.pace) c.add_pending.ensures.others)
-    (cc c.if-not-is_due.false) c.add_tick.ensures.others c.add_tick.ensures.ticks c.in_ok-found.found a.takes a.none
+    (cc c.if-not-is_due.false) c.add_tick.ensures.others c.add_tick.ensures.ticks c.in_ok-found.found a.adds a.none
     (λ same. c.is_due.ensures.given (pace ∙ same)) c.in_err-add_tick.ensures.silent))

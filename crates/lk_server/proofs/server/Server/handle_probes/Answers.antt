@@ -9,20 +9,21 @@ use Rattle.lk_server.proofs.server.Server.handle_probes.Goals as goal
 
 pub returns-clause-acts : goal.returns-clause-acts
 returns-clause-acts g c =
-    let shows = g.R.ServedReplica.Shows in
-    let tells = g.S.DatagramSocket.is_observable in
-    let t = c.take_probe-asked.ensures in
+    let shows = g.R.ServerReplica.Shows in
+    let observable = g.S.DatagramSocket.is_observable in
+    let t = c.pop_probe-asked.ensures in
     let a = c.report_to.ensures in
     let r = c.readmit.ensures in
     let l = c.learn.ensures in
     let q = c.probe_next.ensures in
-    let replies = subst (λ (o : Option ReceivedProbe). RepliesToKept shows tells o c.args.self.now c.report_to.new.self)
+    let replies = subst (λ
+    (o : Option ReceivedProbe). RepliesToKept shows observable o c.args.self.now c.report_to.new.self)
     t.value a.replies in
     let readmits = subst (λ (o : Option ReceivedProbe). ReadmitsKept o c.report_to.new.self.addresses
     c.readmit.new.self.addresses) t.value r.readmits in
     let learns = subst (λ (o : Option Reported). LearnsKept o c.readmit.new.self.addresses c.learn.new.self.addresses)
     (ap (λ (b : BufferValue). b.reported) t.others) l.learns in
-    acted shows tells c.args.buffer.now.asked c.args.buffer.now.reported _ c.args.self.now c.report_to.new.self
+    acted shows observable c.args.buffer.now.asked c.args.buffer.now.reported _ c.args.self.now c.report_to.new.self
     c.readmit.new.self c.learn.new.self c.probe_next.new.self
     replies a.others readmits r.network r.others learns l.network l.others c.now-now.ensures q.asks
     q.network q.still q.others

@@ -7,44 +7,44 @@ use Rattle.lk_server.proofs.server.Server.sync_and_send.Goals as goal
 pub returns-clause-addresses : goal.returns-clause-addresses
 returns-clause-addresses g c =
     let e = c.release-released.ensures in
-    let begun : c.begin_group.new.self.addresses ≡ c.args.self.now.addresses = search rules in
-    (same_post g.S.DatagramSocket.is_observable c.release-released.result _ c.begin_group.new.self
+    let begun : c.start_group.new.self.addresses ≡ c.args.self.now.addresses = search rules in
+    (same_post g.S.DatagramSocket.is_observable c.release-released.result _ c.start_group.new.self
     c.release-released.new.post e.hands e.unsent).1 ∙ begun
 
 pub returns-clause-same : goal.returns-clause-same
 returns-clause-same g c =
     let e = c.release-released.ensures in
-    let begun : c.begin_group.new.self.node ≡ c.args.self.now.node = search rules in
+    let begun : c.start_group.new.self.node ≡ c.args.self.now.node = search rules in
     record {
       cluster = search rules;
-      node = (same_post g.S.DatagramSocket.is_observable c.release-released.result _ c.begin_group.new.self
+      node = (same_post g.S.DatagramSocket.is_observable c.release-released.result _ c.start_group.new.self
           c.release-released.new.post e.hands e.unsent).0 ∙ begun;
       pace = search rules;
     }
 
 pub returns-clause-still : goal.returns-clause-still
-returns-clause-still g c tells =
+returns-clause-still g c observable =
     let e = c.release-released.ensures in
-    let begun : c.begin_group.new.self.incoming ≡ c.args.self.now.incoming = search rules in
-    (same_post g.S.DatagramSocket.is_observable c.release-released.result _ c.begin_group.new.self
-    c.release-released.new.post e.hands e.unsent).2 tells ∙ begun
+    let begun : c.start_group.new.self.incoming ≡ c.args.self.now.incoming = search rules in
+    (same_post g.S.DatagramSocket.is_observable c.release-released.result _ c.start_group.new.self
+    c.release-released.new.post e.hands e.unsent).2 observable ∙ begun
 
 pub returns-clause-gives : goal.returns-clause-gives
 returns-clause-gives g c =
     let e = c.release-released.ensures in
-    let r = g.R.ServedReplica in
-    let tells = g.S.DatagramSocket.is_observable in
-    let same = same_post tells c.release-released.result _ c.begin_group.new.self
+    let r = g.R.ServerReplica in
+    let observable = g.S.DatagramSocket.is_observable in
+    let same = same_post observable c.release-released.result _ c.start_group.new.self
     c.release-released.new.post e.hands e.unsent in
     let mine : c.self.inside.replica ≡ c.args.self.now.replica = search rules in
-    let begun : send_state_of c.begin_group.new.self ≡ send_state_at c.args.self.now.own_letters c.args.self.now =
+    let begun : send_state_of c.start_group.new.self ≡ send_state_at c.args.self.now.loopback c.args.self.now =
     search rules in
-    hands_on_all r.Says r.Gathers tells c.args.self.now _ c.begin_group.new.self c.release-released.new.post
+    hands_on_all r.Says r.Gathers observable c.args.self.now _ c.start_group.new.self c.release-released.new.post
     c.args.group.now c.self.inside.replica mine c.release-released.result e.hands same.0 same.1 begun refl
 
 pub returns-clause-silent : goal.returns-clause-silent
 returns-clause-silent g c =
     let e = c.release-released.ensures in
-    let r = g.R.ServedReplica in
-    rw (← c.self.view_is) (says_nothing r.Says r.Gathers g.S.DatagramSocket.is_observable _ _ c.begin_group.new.self
+    let r = g.R.ServerReplica in
+    rw (← c.self.view_is) (says_nothing r.Says r.Gathers g.S.DatagramSocket.is_observable _ _ c.start_group.new.self
     c.release-released.new.post c.args.group.now c.release-released.result e.silent e.unsent (search rules) refl)

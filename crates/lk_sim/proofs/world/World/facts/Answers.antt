@@ -16,7 +16,7 @@ returns g c =
         kept = λ L i v chosen. kept _ _ _ p.genesis p.seats.items p.sent.items p.trace.items w L chosen i v;
         order = ordered _ _ _ p.genesis p.seats.items p.sent.items p.trace.items w;
         told_in_time = told_in_time _ _ _ p.genesis p.seats.items p.sent.items p.trace.items w;
-        ballots = record { own = w.world.sound.owned; once = w.world.sound.one_value };
+        ballots = record { own = w.world.sound.own; once = w.world.sound.one_value };
         room = room _ _ _ p.genesis p.seats.items p.sent.items p.trace.items w;
       });
     }

@@ -1,0 +1,102 @@
+-- The probe that a node at another port than the genesis names sends to itself.
+use Rattle.std.specs.Prelude.{◌≡◌, ◌≢◌, ◌⊎◌, ◌<◌, ℕ, Bool, true, false, if◌then◌else◌, List, [], ◌∷◌, ◌++◌, length}
+use Rattle.std.specs.Prelude.{Option, Some, None, MatchOption}
+use Rattle.std.specs.List.{AllByRecursion}
+use Rattle.std.specs.Net.Socket.{socket_ip, socket_port}
+use Rattle.std.specs.declared.net.ip_addr.IpAddr.{IpAddr}
+use Rattle.std.specs.declared.net.socket_addr.SocketAddr.{SocketAddr}
+use Rattle.lk_disk.specs.Disk.{one_more}
+use Rattle.lk_store_format.specs.Values.{HeaderValue}
+use Rattle.lk_probe.specs.Grammar.{SpellsProbe}
+use Rattle.lk_probe.specs.Questions.{question}
+use Rattle.lk_auth.specs.Seals.{key_list, framed_by, to_node}
+use Rattle.lk_auth.specs.declared.seals.Seals.{Seals}
+use Rattle.lk_transport.specs.Hosts.{host_of}
+use Rattle.lk_transport.specs.declared.network.Network.{Network}
+
+-- what a socket has sent, how many of its sends have failed, and what is to come
+pub record SocketValue : Type 0 where
+  pub sent : List (SocketAddr × List ℕ)
+  pub failures : ℕ
+  pub incoming : List (SocketAddr × List ℕ)
+
+-- these values of a socket, by the ghost functions of its type
+abbrev pub socket_value : {S : Type 0} → (S → List (SocketAddr × List ℕ)) → (S → ℕ)
+    → (S → List (SocketAddr × List ℕ)) → S → SocketValue
+socket_value sent failures incoming s = record { sent = sent s; failures = failures s; incoming = incoming s }
+
+-- ---- what comes
+
+-- these bytes come next, from wherever; or others do, or nothing
+abbrev pub ComesNext : List ℕ → Bool → List (SocketAddr × List ℕ) → List (SocketAddr × List ℕ) → Type 0
+ComesNext frame true old new = (from : SocketAddr) × (old ≡ (from, frame) ∷ new)
+ComesNext frame false old new =
+    ((d : SocketAddr × List ℕ) × (d.1 ≢ frame) × (old ≡ d ∷ new)) ⊎ ((old ≡ []) × (new ≡ []))
+
+-- these bytes are in none of these datagrams
+abbrev pub AreOthers : List ℕ → List (SocketAddr × List ℕ) → Type 0
+AreOthers frame came = AllByRecursion (λ (d : SocketAddr × List ℕ). d.1 ≢ frame) came
+
+-- these bytes came back, behind fewer others than this; all of that is lost, and nothing else
+pub record ComesBack (frame : List ℕ) (most : ℕ) (old new : List (SocketAddr × List ℕ)) : Type 0 where
+  pub lost : List (SocketAddr × List ℕ)
+  pub from : SocketAddr
+  pub came : old ≡ lost ++ (from, frame) ∷ new
+  pub others : AreOthers frame lost
+  pub few : length lost < most
+
+-- they were not in so many datagrams that came, or in all that were to come where these were fewer; those are lost
+pub record StaysAway (frame : List ℕ) (most : ℕ) (old new : List (SocketAddr × List ℕ)) : Type 0 where
+  pub lost : List (SocketAddr × List ℕ)
+  pub came : old ≡ lost ++ new
+  pub others : AreOthers frame lost
+  pub all : (length lost ≡ most) ⊎ ((length lost < most) × (new ≡ []))
+
+-- whether these bytes came back among at most this many datagrams
+abbrev pub IsHeard : List ℕ → ℕ → Bool → List (SocketAddr × List ℕ) → List (SocketAddr × List ℕ) → Type 0
+IsHeard frame most true old new = ComesBack frame most old new
+IsHeard frame most false old new = StaysAway frame most old new
+
+-- ---- the probe
+
+-- the bytes are sent there, once and alone, and after that it is heard in 30 datagrams whether they come back
+pub record SendsAndHears (address : SocketAddr) (frame : List ℕ) (is_back : Bool) (old new : SocketValue) : Type 0 where
+  pub sent : new.sent ≡ old.sent ++ (address, frame) ∷ []
+  pub failures : new.failures ≡ old.failures
+  pub heard : IsHeard frame 30 is_back old.incoming new.incoming
+
+-- they could not be sent, and nothing is heard
+pub record CannotSend (is_back : Bool) (old new : SocketValue) : Type 0 where
+  pub silent : is_back ≡ false
+  pub same : new ≡ record old { failures = one_more old.failures }
+
+-- the bytes of the probe of a header's node to itself: in a frame of the nodes' key, if they have one
+abbrev pub IsSelfProbe : HeaderValue → Seals → List ℕ → Type 0
+IsSelfProbe header s frame =
+    (bytes : List ℕ) × SpellsProbe (question header.cluster (record { node = header.node; genesis = s.genesis })) bytes
+    × (frame ≡ framed_by (key_list s.nodes) (to_node s header.node) bytes)
+
+-- the node sends that probe there, once, and tells whether it came back
+abbrev pub ProbesItself : HeaderValue → Seals → SocketAddr → Bool → SocketValue → SocketValue → Type 0
+ProbesItself header s address is_back old new =
+    (frame : List ℕ) × IsSelfProbe header s frame
+    × (SendsAndHears address frame is_back old new ⊎ CannotSend is_back old new)
+
+-- the node sends that probe to this port of this address, and the port is unheard if it does not come back
+pub record ProbesAt (header : HeaderValue) (s : Seals) (host : IpAddr) (port : ℕ) (unheard : Option ℕ)
+    (old new : SocketValue) : Type 0 where
+  pub address : SocketAddr
+  pub at_host : socket_ip address ≡ host
+  pub at_port : socket_port address ≡ port
+  pub is_back : Bool
+  pub probes : ProbesItself header s address is_back old new
+  pub unheard_is : unheard ≡ (if is_back then None else Some port)
+
+-- which port is not heard, of the one that the genesis names where the node listens at another: without such a port
+-- none is, and where no address of the node is known that one is, and then nothing is sent and nothing lost
+abbrev pub FindsUnheard : HeaderValue → Network → Option ℕ → Option ℕ → SocketValue → SocketValue → Type 0
+FindsUnheard header network None unheard old new = (unheard ≡ None) × (new ≡ old)
+FindsUnheard header network (Some port) unheard old new =
+    MatchOption (host_of network.hosts header.node)
+    ((unheard ≡ Some port) × (new ≡ old))
+    (λ host. ProbesAt header network.seals host port unheard old new)

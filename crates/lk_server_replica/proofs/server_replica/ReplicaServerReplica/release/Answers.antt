@@ -1,0 +1,35 @@
+use Rattle.lk_server_replica.proofs.Sayings.{released_of, unreleased_of, ended_of, of_groups}
+use Rattle.lk_server_replica.proofs.server_replica.ReplicaServerReplica.release.Goals as goal
+
+pub returns-clause-hands : goal.returns-clause-hands
+returns-clause-hands g c =
+    let m = g.M.Machine in
+    let d = g.D.LogDisk in
+    let e = c.release.ensures in
+    released_of m.meaning m.IsText d.is_honest d.is_metered g.P.Post.Carries c.args.self.now c.release.new.self
+    c.args.group.now c.args.post.now c.release.new.post c.release.result e.fits e.disks e.syncs e.gives e.exact e.alive
+
+pub returns-clause-silent : goal.returns-clause-silent
+returns-clause-silent g c =
+    let m = g.M.Machine in
+    let d = g.D.LogDisk in
+    let e = c.release.ensures in
+    unreleased_of m.meaning m.IsText d.is_honest d.is_metered g.P.Post.Carries c.args.self.now c.release.new.self
+    c.args.group.now c.args.post.now c.release.new.post c.release.result e.refused e.disks
+
+pub returns-clause-alive : goal.returns-clause-alive
+returns-clause-alive g c = c.release.ensures.alive
+
+pub returns-clause-broken : goal.returns-clause-broken
+returns-clause-broken g c =
+    let m = g.M.Machine in
+    let d = g.D.LogDisk in
+    ended_of m.meaning m.IsText d.is_honest d.is_metered c.release.result c.args.self.now c.release.new.self
+    c.release.ensures.refused
+
+pub returns-clause-told : goal.returns-clause-told
+returns-clause-told g c =
+    let m = g.M.Machine in
+    let d = g.D.LogDisk in
+    of_groups m.meaning m.IsText d.is_honest d.is_metered c.release.result c.args.self.now c.release.new.self
+    c.release.ensures.refused

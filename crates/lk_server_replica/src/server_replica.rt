@@ -1,0 +1,138 @@
+//! The interface by which a server runs a replica.
+
+ghost use Rattle.std.specs.Prelude.{◌≡◌, ℕ, List, [], ◌∷◌, Option, Bool, true, false, IfOk, OnOk, OnErr, IfErr, IfSome};
+ghost use Rattle.lk_node_interface.specs.Letters.{LetterValue};
+ghost use Rattle.lk_node.specs.Calls.{heard_by};
+ghost use Rattle.lk_replica.specs.Groups.{GroupValue};
+ghost use Rattle.lk_replica.specs.Posts.{GivesLetters, TellsSends};
+ghost use Rattle.lk_state.specs.Packed.{packed};
+ghost use Rattle.lk_server_replica.specs.Sayings.{GathersOf, SaysOf};
+ghost use Rattle.lk_server_replica.specs.Groups.{GathersMore, SaysNoMore};
+ghost use Rattle.lk_server_replica.specs.Showing.{IsShown};
+ghost use Rattle.lk_server_replica.specs.Refusals.{IsOfGroups};
+ghost use Rattle.lk_server_replica.specs.Statuses.{IsStatusOf};
+ghost use Rattle.lk_server_replica.specs.TableVersions.{TellsRaised};
+ghost use Rattle.lk_server_replica.specs.declared.probed_state.ProbedState.{ProbedState as ProbedStateValue};
+
+use crate::probed_state::ProbedState;
+use crate::replica_status::ReplicaStatus;
+use crate::table_version::is_raised;
+use lk_disk::LogDisk;
+use lk_node_interface::{Input, Post, ReplicaFault};
+use lk_replica::{Group, Replica};
+use lk_state::Machine;
+use std::alloc::Global;
+
+/// A replica as a server runs it: it takes its input in groups.
+pub trait ServerReplica: Sized + Drop {
+    /// Whether a failed call has ended it.
+    ghost failed: { Self → Bool };
+
+    /// The effect of a group: the replica before, its input (the bytes of a datagram, or nothing for a tick), the
+    /// letters that it produces, and the replica after.
+    ghost Says: { Self → List (Option (List ℕ)) → List LetterValue → Self → Type 0 };
+
+    /// The middle of a group: the replica when the group began, its input since, the group so far, and the replica
+    /// now.
+    ghost Gathers: { Self → List (Option (List ℕ)) → GroupValue → Self → Type 0 };
+
+    /// Whether it may show this state to a probe.
+    ghost Shows: { Self → ProbedStateValue → Type 0 };
+
+    /// Whether it may return this from `is_raised`.
+    ghost IsRaised: { Self → Bool → Type 0 };
+
+    /// Returns an empty group, for `gather` and `release`.
+    fn new_group(&self, alloc: Global) -> Group
+        ensures empty { Gathers self.now [] result self.now };
+
+    /// Takes a tick or a datagram into a group, as `Replica::gather` does. Nothing is sent before `release`, and
+    /// nothing of a rejected group ever is. Any error ends the replica.
+    fn gather(&mut self, input: Input, group: &mut Group) -> Result<(), ReplicaFault>
+        // The group goes on with one input more.
+        ensures gathers { OnOk result
+            (GathersMore Gathers (heard_by input.entry ∷ []) group.old group.new self.old self.new) }
+        // The group ends, and has said nothing.
+        ensures silent { OnErr result
+            (SaysNoMore Says Gathers (heard_by input.entry ∷ []) group.old self.old self.new) }
+        ensures broken { OnErr result (failed self.new ≡ true) }
+        ensures told { IfErr result IsOfGroups };
+
+    /// Ends a group, as `Replica::release` does: syncs if a promise or vote waits for that, then gives the letters to
+    /// the post. Returns whether all were sent. Any error ends the replica.
+    fn release<P: Post>(&mut self, group: &Group, post: &mut P) -> Result<bool, ReplicaFault>
+        // It gives its letters to the post in order, each once, and nothing else.
+        ensures hands { OnOk result
+            (GivesLetters P.Carries post.old post.new
+            (λ letters. (start : Self) (given : List (Option (List ℕ))) → Gathers start given group.now self.old
+            → Says start given letters self.new)) }
+        // After an error it produces nothing, and gives the post nothing.
+        ensures silent { OnErr result
+            ((start : Self) (given : List (Option (List ℕ))) → Gathers start given group.now self.old
+            → Says start given [] self.new) }
+        ensures unsent { OnErr result (post.new ≡ post.old) }
+        ensures tells { IfOk result (λ all. TellsSends all (P.failures post.old) (P.failures post.new)) }
+        ensures alive { OnOk result (failed self.new ≡ false) }
+        ensures broken { OnErr result (failed self.new ≡ true) }
+        ensures told { IfErr result IsOfGroups };
+
+    /// Returns a summary of its state.
+    fn status(&self) -> ReplicaStatus;
+
+    /// Returns what it shows to a probe.
+    fn show(&self) -> ProbedState
+        ensures { Shows self.now result };
+
+    /// Returns whether its lock table was raised to the second version, or `None` if it is out of memory. It packs and
+    /// unpacks its state, which is expensive.
+    fn is_raised(&self, alloc: Global) -> Option<bool>
+        ensures { IfSome result (IsRaised self.now) };
+}
+
+impl<M: Machine, D: LogDisk + Drop> ServerReplica for Replica<M, D> {
+    ghost failed = { λ r. r.failed };
+
+    ghost Says = { λ old given letters new. D.is_honest
+        → SaysOf M.meaning M.IsText D.is_metered old given letters new };
+
+    ghost Gathers = { λ start given group now. D.is_honest
+        → GathersOf M.meaning M.IsText D.is_metered start given group now };
+
+    ghost Shows = { IsShown };
+
+    ghost IsRaised = { λ r. TellsRaised M.meaning M.IsText (packed r.node.learner.whole) };
+
+    fn new_group(&self, alloc: Global) -> Group {
+        Group::new(alloc)
+    }
+
+    fn gather(&mut self, input: Input, group: &mut Group) -> Result<(), ReplicaFault> {
+        Replica::gather(self, input, group)
+    }
+
+    fn release<P: Post>(&mut self, group: &Group, post: &mut P) -> Result<bool, ReplicaFault> {
+        Replica::release(self, group, post)
+    }
+
+    fn status(&self) -> ReplicaStatus
+        ensures { IsStatusOf self.now result }
+    {
+        let node = self.node();
+        ReplicaStatus {
+            generation: self.generation(),
+            snapshot: node.snapshot_position(),
+            executed: node.executed(),
+            promised: node.promised(),
+            term: node.term(),
+            known: node.presumed_leader(),
+        }
+    }
+
+    fn show(&self) -> ProbedState {
+        ProbedState::of(self)
+    }
+
+    fn is_raised(&self, alloc: Global) -> Option<bool> {
+        is_raised(alloc, self.node())
+    }
+}
