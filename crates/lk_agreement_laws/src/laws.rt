@@ -114,8 +114,8 @@ pub fn sends_keep_the_world()
         → IsClientRequest d → WorldFits genesis (with_sent w (d ∷ [])) }
 {}
 
-/// A restart from any image that covers what its node has sent and stems from what was sent leaves the history sound
-/// and every node fitting.
+/// A restart, without a term, from any image that covers what its node has sent and stems from what was sent leaves the
+/// history sound and every node fitting.
 pub fn restarts_keep_the_world()
     ensures { (genesis : Genesis) (w : PaxosWorld) (n : ℕ) (recovered : PaxosState) → WorldFits genesis w
         → CoversSent genesis w.sent n recovered.acceptor → Stems genesis w.sent recovered → recovered.term ≡ None
@@ -173,7 +173,8 @@ pub fn slices_concatenate()
 {}
 
 /// What `IsReachable` permits in any order: nodes send what they may, clients ask, and nodes change. A node may stop at
-/// any time and restart from any image that covers what it has sent and stems from what was sent, and its term may end.
+/// any time and restart, without a term, from any image that covers what it has sent and stems from what was sent. Its
+/// term may end at any time (`leaves`).
 pub fn worlds_come_about()
     ensures begins { (genesis : Genesis) → IsReachable genesis start }
     ensures sends { (genesis : Genesis) (w : PaxosWorld) (n : ℕ) (batch : List Datagram) → IsReachable genesis w

@@ -140,7 +140,8 @@ module _ (May : Network) (Metered observable : Type 0) (unforged : Unforged May)
       last_so S (Says Metered) so observable b.ends.came b.last node_run.ended b.ends.turn in
       let ended : node_run.ended.replica.failed ≡ true = sym b.ends.failure ∙ turn.ended in
       let may_last : May c.cluster.genesis c.cluster.sent b.last b.ends.came =
-      subst₂ (λ (g : Genesis) (l : List Datagram). May g l b.last b.ends.came) (sym c.keeps_genesis) (sym c.sent) last_may in
+      subst₂ (λ (g : Genesis) (l : List Datagram). May g l b.last b.ends.came)
+      (sym c.keeps_genesis) (sym c.sent) last_may in
       joined_continues May Metered observable unforged genesis cluster index n (Up b.last)
       (Down left) said b.ends.turn.hands_on.letters c
       (last_turn_continues May Metered observable unforged genesis c.cluster c.reachable index n b.last node_run.ended
@@ -172,7 +173,8 @@ module _ (May : Network) (Metered observable : Type 0) (unforged : Unforged May)
       node_run.starts_as
       b.turns.states b.last b.turns.chain may in
       let may_last : May c.cluster.genesis c.cluster.sent b.last b.leave.came =
-      subst₂ (λ (g : Genesis) (l : List Datagram). May g l b.last b.leave.came) (sym c.keeps_genesis) (sym c.sent) last_may in
+      subst₂ (λ (g : Genesis) (l : List Datagram). May g l b.last b.leave.came)
+      (sym c.keeps_genesis) (sym c.sent) last_may in
       let here = has_node May Metered observable unforged genesis cluster index n (Down device) (Up b.last) said at c in
       let d = one_turn_continues May Metered observable unforged S so None None HasFollowedStranger genesis c.cluster
       c.reachable

@@ -103,6 +103,7 @@ impl DatagramSocket for MemorySocket {
 
     ghost is_observable = { ⊤ };
 
+    // Out of memory the datagram is lost, and the failure counted.
     fn send_to(&mut self, to: SocketAddr, bytes: &[u8]) -> Result<(), SendFault> {
         match self.keep_sent(to, bytes) {
             Ok(()) => Ok(()),
