@@ -110,7 +110,7 @@ impl Term {
         is_majority(set, promisers(&self.received, position, set).as_slice())
     }
 
-    // Whether `is_promised` holds for the position and its own members; false outside the window.
+    // Whether `is_promised_by_majority` holds for the position and its own members; false outside the window.
     fn is_promised_by_majority_at(&self, position: Position, roster: &Roster) -> bool
         ensures { IsTrue result ↔ IsPromisedByMajority self.now roster.now position }
     {
@@ -120,7 +120,7 @@ impl Term {
         }
     }
 
-    // Whether the node leads in this term: `is_promised_at` holds for the next position.
+    // Whether the node leads in this term: `is_promised_by_majority_at` holds for the next position.
     pub(crate) fn is_elected(&self, roster: &Roster) -> bool
         ensures { IsTrue result ↔ IsElected self.now roster.now }
     {

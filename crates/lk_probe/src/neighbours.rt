@@ -112,7 +112,7 @@ impl Knowledge {
         matches!(self, Knowledge::Asked(_) | Knowledge::AskedTwice)
     }
 
-    // Returns what a node of this genesis knows of a node that has reported `told`.
+    // Returns what a node of this genesis knows of the node that reported itself as `reporter`.
     fn knowledge_after(own_genesis: &[u8; DIGEST], reporter: Origin) -> Knowledge
         ensures { result ≡ knowledge_after own_genesis.now reporter }
     {

@@ -131,7 +131,7 @@ abbrev pub send_state_at : {R : Type 0} → List LetterValue → ServerValue R �
 send_state_at loopback s = record { loopback = loopback; sent = s.sent; failures = s.socket_failures }
 
 -- the replica took exactly this input as one group and produced these letters; each was kept, sent to its destination,
--- or lost by a failed send, in order, and nothing else was sent or kept. `own_letters` are the earlier ones to the node
+-- or lost by a failed send, in order, and nothing else was sent or kept. `loopback` are the earlier ones to the node
 -- itself, without those that were taken
 pub record DeliversLetters {R : Type 0}
     (Says : R → List (Option (List ℕ)) → List LetterValue → R → Type 0) (observable : Type 0)

@@ -1,6 +1,6 @@
 //! How a server collects one group. It sends nothing until the group ends.
 //!
-//! `fill_group` takes what a turn brings: by `add_pending` the letters of the node to itself (`add_own_letter`) or else
+//! `fill_group` takes what a turn brings: by `add_pending` the letters of the node to itself (`add_loopback`) or else
 //! what comes to the socket (`add_from_socket`), and by `add_tick` a tick where one is due. `add_datagram` counts a
 //! datagram, and `add_input` gives it to the replica.
 
