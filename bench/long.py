@@ -18,7 +18,7 @@ import time
 
 from cluster import Cluster, built
 from locks_client import Answer, Client
-from locks_client.wire import read_reply
+from locks_client.wire import read_reply, request_bytes
 
 MOST_MEMORY = 8 << 10  # KiB
 MOST_BYTES = 262_144
@@ -54,7 +54,8 @@ def tell(cluster, done):
 
 def seconds_to_answer(cluster, client, node):
     """The seconds from the start of the node until it gives the client's last answer once more."""
-    number, data = client.core.last[:2]
+    number, op = client.core.last[:2]
+    data = request_bytes(cluster.cluster, client.client, number, op)
     with socket.socket(socket.AF_INET, socket.SOCK_DGRAM) as it:
         it.settimeout(0.01)
         start = time.perf_counter()

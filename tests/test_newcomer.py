@@ -7,7 +7,7 @@ import unittest
 
 from harness.cluster import Cluster, free_ports
 from locks_client import Answer, Client, Held
-from locks_client.wire import read_reply
+from locks_client.wire import read_reply, request_bytes
 
 PROGRAM = os.environ.get("LOCKS_PROGRAM")
 PAIRS = 300  # 600 positions: each node has made two snapshots by then, and keeps no command of the first 256
@@ -33,7 +33,8 @@ class NewcomerTest(unittest.TestCase):
 
     def seconds_until_known(self, node):
         """The seconds until the node answers the client's last request as it was answered: until it has executed it."""
-        number, data = self.client.core.last[:2]
+        number, op = self.client.core.last[:2]
+        data = request_bytes(self.cluster.cluster, self.client.client, number, op)
         start = time.perf_counter()
         with socket.socket(socket.AF_INET, socket.SOCK_DGRAM) as it:
             it.settimeout(0.02)

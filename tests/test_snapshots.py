@@ -28,8 +28,9 @@ class SnapshotTest(unittest.TestCase):
 
     def test_it_is_written_at_the_tick_after_256_requests(self):
         with self.cluster.client(Client, 1, patience=30.0) as client:
-            for _ in range(127):
+            for _ in range(126):
                 client.release("db", client.acquire("db"))
+            client.ask("db")  # the third request that is no pair's: the run began with one
             fence = client.acquire("db")
             time.sleep(0.5)  # some ticks
             self.assertEqual(self.dumped(), ("generation 1", "snapshot 0", "decided 255"))

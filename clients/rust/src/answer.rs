@@ -132,6 +132,13 @@ impl Answer {
                 fence: fence(rest)?,
             },
             14 => Answer::Broken,
+            _ => return Answer::of_member_tag(tag),
+        })
+    }
+
+    /// The answer of a tag that concerns members or the version of the table, without fields.
+    fn of_member_tag(tag: u8) -> Option<Answer> {
+        Some(match tag {
             32 => Answer::Joined,
             33 => Answer::Used,
             34 => Answer::Full,

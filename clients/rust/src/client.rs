@@ -1,56 +1,17 @@
 //! One client of a cluster.
 
-use crate::exchange::Open;
 use crate::holding::granted;
-use crate::key::{Keys, Seals};
-use crate::log::Log;
 use crate::numbers::Use;
-use crate::op::Op;
-use crate::{Answer, ClientId, ClusterId, Error, Event, Lock, Numbers};
-use std::collections::HashMap;
-use std::net::{IpAddr, Ipv4Addr, Ipv6Addr, SocketAddr, UdpSocket};
-use std::time::Duration;
+use crate::{
+    Answer, ClientId, ClusterId, Error, Event, Keys, Lock, LockState, Numbers, Op, Session,
+};
+use std::net::{IpAddr, Ipv4Addr, SocketAddr, UdpSocket};
+use std::time::{Duration, Instant};
 
 /// How long a request waits for its answer where nothing else is said.
 const PATIENCE: Duration = Duration::from_secs(10);
 /// How long the drop of a lock does.
 const DROP_PATIENCE: Duration = Duration::from_secs(2);
-
-/// Who holds a name.
-///
-/// ```
-/// use locks_client::LockState;
-///
-/// fn last_fence(state: LockState) -> u64 {
-///     match state {
-///         LockState::Free { fence } => fence,
-///         LockState::Held { fence, .. } | LockState::HeldShared { fence, .. } => fence,
-///     }
-/// }
-/// assert_eq!(last_fence(LockState::Free { fence: 3 }), 3);
-/// ```
-#[derive(Clone, Copy, Debug, PartialEq, Eq)]
-pub enum LockState {
-    /// Nobody holds it.
-    Free {
-        /// The last fence, 0 where it was never granted.
-        fence: u64,
-    },
-    /// One client holds it alone.
-    Held {
-        /// Who holds it.
-        holder: ClientId,
-        /// The fence at which it is held.
-        fence: u64,
-    },
-    /// Several clients share it, or one that others may join.
-    HeldShared {
-        /// How many hold it, 1 to 8.
-        holders: u8,
-        /// The fence at which it is held.
-        fence: u64,
-    },
-}
 
 /// One client of a cluster, with one socket. It serves one thread at a time, and the process that
 /// made it alone: after a fork the child is refused.
@@ -77,32 +38,16 @@ pub enum LockState {
 /// ```
 #[derive(Debug)]
 pub struct Client {
-    pub(crate) seals: Seals,
-    pub(crate) addresses: Vec<SocketAddr>,
-    // where nodes live that other nodes name
-    pub(crate) hosts: HashMap<u32, IpAddr>,
-    pub(crate) numbers: Numbers,
+    pub(crate) session: Session,
     pub(crate) patience: Duration,
     pub(crate) drop_patience: Duration,
     pub(crate) socket: UdpSocket,
-    // which of `addresses` is asked next
-    pub(crate) turn: usize,
-    // where the last answer came from
-    pub(crate) leader: Option<SocketAddr>,
-    pub(crate) open: Option<Open>,
-    pub(crate) log: Log,
 }
 
-/// Where a client that asks there listens: on loopback where all are 127.0.0.1, else anywhere in
-/// their family.
-fn own_address(addresses: &[SocketAddr]) -> IpAddr {
-    if addresses.iter().all(|address| address.ip() == Ipv4Addr::LOCALHOST) {
-        return Ipv4Addr::LOCALHOST.into();
-    }
-    match addresses[0] {
-        SocketAddr::V4(_) => Ipv4Addr::UNSPECIFIED.into(),
-        SocketAddr::V6(_) => Ipv6Addr::UNSPECIFIED.into(),
-    }
+/// The addresses of those ports of 127.0.0.1.
+fn local(ports: &[u16]) -> Vec<SocketAddr> {
+    let at = |port: &u16| SocketAddr::from((Ipv4Addr::LOCALHOST, *port));
+    ports.iter().map(at).collect()
 }
 
 impl Client {
@@ -117,9 +62,7 @@ impl Client {
         ports: &[u16],
         numbers: Numbers,
     ) -> Result<Client, Error> {
-        let at = |port: &u16| SocketAddr::from((Ipv4Addr::LOCALHOST, *port));
-        let addresses: Vec<SocketAddr> = ports.iter().map(at).collect();
-        Client::at(cluster, client, &addresses, numbers)
+        Client::at(cluster, client, &local(ports), numbers)
     }
 
     /// The same of a client that asks nodes at these addresses and ports, all of one family.
@@ -135,7 +78,7 @@ impl Client {
     /// let numbers = Numbers::from_first(milliseconds())?;
     /// let mut client = Client::at(ClusterId::new(5), ClientId::new(7)?, &addresses, numbers)?;
     /// client.set_key(Keys::read(&key)?);
-    /// client.set_hosts([(1, "10.0.0.1".parse()?), (2, "10.0.0.2".parse()?)]);
+    /// client.set_hosts([(1, "10.0.0.1".parse()?), (2, "10.0.0.2".parse()?)])?;
     /// # Ok(())
     /// # }
     /// ```
@@ -145,50 +88,81 @@ impl Client {
         addresses: &[SocketAddr],
         numbers: Numbers,
     ) -> Result<Client, Error> {
-        if addresses.is_empty() || addresses.iter().any(|address| address.port() == 0) {
-            let ports: Vec<u16> = addresses.iter().map(SocketAddr::port).collect();
-            return Err(Error::malformed(
-                "ports",
-                format_args!("{ports:?}"),
-                "1 to 65535, at least one",
-            ));
-        }
-        numbers.of_this_process()?;
-        let keys = None;
+        let session = Session::new(cluster, client, addresses, numbers)?;
+        let socket = UdpSocket::bind(session.own_address()).map_err(Error::Socket)?;
         Ok(Client {
-            seals: Seals {
-                cluster,
-                client,
-                keys,
-            },
-            addresses: addresses.to_vec(),
-            hosts: HashMap::new(),
-            numbers,
+            session,
             patience: PATIENCE,
             drop_patience: DROP_PATIENCE,
-            socket: UdpSocket::bind((own_address(addresses), 0)).map_err(Error::Socket)?,
-            turn: 0,
-            leader: None,
-            open: None,
-            log: Log::default(),
+            socket,
         })
     }
 
     /// The client's number.
     pub fn id(&self) -> ClientId {
-        self.seals.client
+        self.session.id()
+    }
+
+    /// Replaces the ports of 127.0.0.1 at which nodes are asked, as after a join or a leave.
+    ///
+    /// [`Error::Malformed`] as for [`Client::new`]; then nothing changes.
+    pub fn set_ports(&mut self, ports: &[u16]) -> Result<(), Error> {
+        self.set_addresses(&local(ports))
+    }
+
+    /// Replaces the addresses of the nodes, by others of the same family.
+    ///
+    /// [`Error::Malformed`] as for [`Client::at`]; then nothing changes.
+    pub fn set_addresses(&mut self, addresses: &[SocketAddr]) -> Result<(), Error> {
+        self.session.set_addresses(addresses)?;
+        self.rebind()
+    }
+
+    /// Where its socket is bound.
+    pub fn own_address(&self) -> Result<SocketAddr, Error> {
+        self.socket.local_addr().map_err(Error::Socket)
+    }
+
+    /// Makes another socket if this one does not reach the nodes.
+    fn rebind(&mut self) -> Result<(), Error> {
+        let own = self.session.own_address();
+        if self.own_address()?.ip() != own.ip() {
+            self.socket = UdpSocket::bind(own).map_err(Error::Socket)?;
+        }
+        Ok(())
+    }
+
+    /// The locks that this run holds as far as it knows, each with its fence.
+    pub fn holds(&self) -> impl Iterator<Item = (&str, u64)> {
+        self.session.holds()
+    }
+
+    /// Sends the Ask that begins a run now rather than before the first request, to check that a node
+    /// answers and that the numbers are new.
+    ///
+    /// [`Error::Passed`] or [`Error::OtherAnswer`] if the numbers were used before. If a request has no
+    /// answer yet, this resumes that one instead.
+    pub fn open(&mut self) -> Result<(), Error> {
+        self.session.open(Instant::now(), self.patience)?;
+        self.driven().map(drop)
     }
 
     /// Sets the key of this client: what it asks is sealed from now on, and of what comes it takes
     /// what nodes have sealed for it alone.
     pub fn set_key(&mut self, keys: Keys) {
-        self.seals.keys = Some(keys);
+        self.session.set_key(keys);
     }
 
-    /// Sets where nodes live that other nodes name. One that does not stand there is asked at the
-    /// address of the node that names it.
-    pub fn set_hosts(&mut self, hosts: impl IntoIterator<Item = (u32, IpAddr)>) {
-        self.hosts = hosts.into_iter().collect();
+    /// Sets the hosts of nodes that other nodes name. A node without an entry is asked at the address
+    /// of the node that named it.
+    ///
+    /// [`Error::Malformed`] if an address is of another family than those of the client.
+    pub fn set_hosts(
+        &mut self,
+        hosts: impl IntoIterator<Item = (u32, IpAddr)>,
+    ) -> Result<(), Error> {
+        self.session.set_hosts(hosts)?;
+        self.rebind()
     }
 
     /// Sets how long a request waits for its answer, at first ten seconds.
@@ -202,7 +176,8 @@ impl Client {
         self.drop_patience = patience;
     }
 
-    /// Sets what is called for each [`Event`]. A panic of the callback is caught.
+    /// Sets the callback for each [`Event`], which has the level, target and fields of a logging
+    /// library. A panic of the callback is caught.
     ///
     /// ```
     /// # use locks_client::*;
@@ -210,23 +185,26 @@ impl Client {
     /// # let numbers = Numbers::from_first(milliseconds())?;
     /// # let mut client = Client::new(ClusterId::new(5), ClientId::new(7)?, &[7001], numbers)?;
     /// client.set_log(|event| {
-    ///     if let Event::NotReleased { .. } = event {
-    ///         eprintln!("{event}");
+    ///     if event.level() == Level::Warn {
+    ///         eprintln!("{}: {event}", event.target());
     ///     }
     /// });
     /// # Ok(())
     /// # }
     /// ```
     pub fn set_log(&mut self, callback: impl FnMut(&Event<'_>) + Send + Sync + 'static) {
-        self.log = Log::new(callback);
+        self.session.set_log(callback);
     }
 
-    /// Goes on with request number `first`, or with the next one where that is greater: the way out
-    /// where each request ends with [`Error::Passed`], since the last number was lost.
+    /// Continues with request number `first`, or with the next one if that is greater: the remedy if
+    /// every request ends with [`Error::Passed`] because the last number was lost.
     ///
-    /// `first` has to be above all numbers that the client has used. The `last` of a Passed does
-    /// not tell that, since the node that sends it may be behind.
-    /// [`milliseconds`](crate::milliseconds) does, where the client always began so.
+    /// `first` must exceed every number that the client has used. The `last` of a Passed may be too
+    /// small, since its node may be behind, so add a million: the text of the error names that number.
+    /// [`milliseconds`](crate::milliseconds) suffices only if no clock was ever ahead. If `last` is
+    /// above 2^48 - 2^32, use another client number.
+    ///
+    /// [`Error::Malformed`] if `first` is out of range, or not above every `last` received so far.
     ///
     #[doc = asks_a_node!()]
     /// # mod support { include!(concat!(env!("CARGO_MANIFEST_DIR"), "/tests/support/cluster.rs")); }
@@ -235,7 +213,7 @@ impl Client {
     /// # let cluster = support::Cluster::start(1);
     /// # cluster.client_from(7, 1_000).acquire("other")?;
     /// # let mut client = cluster.client_from(7, 1);
-    /// if let Err(Error::Passed(_)) = client.acquire("db") {
+    /// if let Err(Error::Passed { .. }) = client.acquire("db") {
     ///     client.skip_to(milliseconds())?;
     ///     client.acquire("db")?;
     /// }
@@ -244,13 +222,13 @@ impl Client {
     /// # }
     /// ```
     pub fn skip_to(&mut self, first: u64) -> Result<(), Error> {
-        self.numbers.skip_to(first)
+        self.session.skip_to(first)
     }
 
     /// Takes the lock. Its fence; [`Error::Busy`], [`Error::NoRoom`] or [`Error::Spent`] where it
     /// is not granted.
     pub fn acquire(&mut self, name: &str) -> Result<u64, Error> {
-        granted(self.request(Op::Acquire(name), Use::Request)?)
+        granted(self.request(Op::Acquire(name.to_owned()))?)
     }
 
     /// Takes the lock, and asks again for it while another client holds it, as long as `wait`. Its
@@ -260,6 +238,9 @@ impl Client {
     /// (since an earlier run); [`Error::NoAnswer`] where the last request has no answer: it may still
     /// be granted, so call [`Client::withdraw`] or [`Client::again`]. It returns half a second after
     /// `wait` at the latest, or within its patience where that is longer.
+    ///
+    /// If a release of this client has no answer yet, it is resumed first. If the same acquire has
+    /// none, this resumes it. Any other open request is [`Error::Unanswered`].
     ///
     /// Between two requests it waits 50 ms at first, and then longer, at most a second. It begins
     /// anew where the fence has changed, and waits up to four seconds where it stays for longer than
@@ -275,15 +256,15 @@ impl Client {
     /// # cluster.client(8).acquire("db")?;
     /// match client.acquire_within("db", Duration::from_millis(200)) {
     ///     Ok(fence) => println!("granted at {fence}"),
-    ///     Err(Error::Busy { holder, fence }) => println!("client {holder} holds it at {fence}"),
-    ///     Err(Error::NoAnswer) => println!("withdrawn: {}", client.withdraw()?),
+    ///     Err(Error::Busy { holder, .. }) => println!("client {holder} holds it"),
+    ///     Err(Error::NoAnswer { .. }) => println!("withdrawn: {}", client.withdraw()?),
     ///     Err(error) => return Err(error),
     /// }
     /// # Ok(())
     /// # }
     /// ```
     pub fn acquire_within(&mut self, name: &str, wait: Duration) -> Result<u64, Error> {
-        self.fence_within(Op::Acquire(name), wait)
+        self.fence_within(Op::Acquire(name.to_owned()), wait)
     }
 
     /// Holds the lock as long as the value lives, whose limits are those of a [`Lock`]. It asks for
@@ -291,6 +272,29 @@ impl Client {
     pub fn lock(&mut self, name: &str, wait: Duration) -> Result<Lock<'_>, Error> {
         let fence = self.acquire_within(name, wait)?;
         Ok(Lock::new(self, name, fence))
+    }
+
+    /// Takes the lock if it is free, and returns `None` if another client holds it.
+    ///
+    /// [`Error::Busy`] if this client itself holds it. The other errors are those of
+    /// [`Client::acquire_within`].
+    ///
+    #[doc = asks_a_node!()]
+    /// # mod support { include!(concat!(env!("CARGO_MANIFEST_DIR"), "/tests/support/cluster.rs")); }
+    /// # use locks_client::*;
+    /// # fn main() -> Result<(), Error> {
+    /// # let cluster = support::Cluster::start(1);
+    /// # let mut client = cluster.client(7);
+    /// match client.try_lock("db")? {
+    ///     Some(lock) => lock.release()?,
+    ///     None => println!("another client holds it"),
+    /// }
+    /// # Ok(())
+    /// # }
+    /// ```
+    pub fn try_lock(&mut self, name: &str) -> Result<Option<Lock<'_>>, Error> {
+        let found = self.acquire_within(name, Duration::ZERO);
+        self.tried(name, found)
     }
 
     /// Holds the lock while a block runs, and releases it after that.
@@ -329,28 +333,17 @@ impl Client {
 
     /// Gives the lock back; [`Error::NotHeld`] where this client does not hold it at that fence.
     pub fn release(&mut self, name: &str, fence: u64) -> Result<(), Error> {
-        self.request(Op::Release(name, fence), Use::Freeing)
-            .map(drop)
+        self.request(Op::Release(name.to_owned(), fence)).map(drop)
     }
 
     /// Who holds the name.
     pub fn ask(&mut self, name: &str) -> Result<LockState, Error> {
-        self.lock_state(name, Use::Request)
+        self.lock_state(Use::Request, name)
     }
 
     /// Whether the name was held at that fence when this was executed.
     pub fn check(&mut self, name: &str, fence: u64) -> Result<bool, Error> {
-        let answer = self.request(Op::Check(name, fence), Use::Request)?;
+        let answer = self.request(Op::Check(name.to_owned(), fence))?;
         Ok(answer == Answer::Valid)
-    }
-
-    /// Who holds the name.
-    pub(crate) fn lock_state(&mut self, name: &str, used_for: Use) -> Result<LockState, Error> {
-        match self.request(Op::Ask(name), used_for)? {
-            Answer::Free(fence) => Ok(LockState::Free { fence }),
-            Answer::Held { holder, fence } => Ok(LockState::Held { holder, fence }),
-            Answer::HeldShared { holders, fence } => Ok(LockState::HeldShared { holders, fence }),
-            other => Err(Error::OtherAnswer(other)),
-        }
     }
 }

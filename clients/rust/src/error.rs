@@ -1,7 +1,7 @@
 //! Errors of the client, and refusals by the service.
 
-use crate::{Answer, ClientId};
-use std::path::{Path, PathBuf};
+use crate::{Answer, ClientId, Op, StateFault};
+use std::path::PathBuf;
 use std::{fmt, io};
 
 /// Why a call failed: the client refused it, the service did, or no answer came.
@@ -16,23 +16,50 @@ use std::{fmt, io};
 #[derive(Debug)]
 #[non_exhaustive]
 pub enum Error {
-    /// No answer came in time. The request may have taken effect, or still may: see
-    /// [`Client::again`], [`Client::withdraw`] and [`Client::give_up`].
+    /// No answer came in time: see [`Client::again`], [`Client::withdraw`] and [`Client::give_up`].
     ///
     /// [`Client::again`]: crate::Client::again
     /// [`Client::withdraw`]: crate::Client::withdraw
     /// [`Client::give_up`]: crate::Client::give_up
-    NoAnswer,
+    NoAnswer {
+        /// What was asked.
+        op: Op,
+        /// Whether it was sent: then it may have taken effect, or still may. If not, only the Ask
+        /// before it was sent.
+        is_sent: bool,
+        /// How many frames arrived meanwhile that the client's key does not open.
+        closed: u32,
+    },
     /// An earlier request has no answer yet.
-    Unanswered,
-    /// No request is open.
+    Unanswered {
+        /// What it asked.
+        op: Op,
+    },
+    /// No request is open, or none that [`Client::withdraw`](crate::Client::withdraw) withdraws.
     NothingAsked,
-    /// A request with this greater number of the client was executed, and this one no longer will
-    /// be. Another process uses the client number, or the last number was lost: then
+    /// A request with the greater number `last` of the client was executed, and this one no longer
+    /// will be. Another process uses the client number, or the last number was lost: then
     /// [`Client::skip_to`](crate::Client::skip_to) helps.
-    Passed(u64),
-    /// This answers another request: the number was used before.
-    OtherAnswer(Answer),
+    Passed {
+        /// What was asked.
+        op: Op,
+        /// Whether it was sent: then it may have taken effect before.
+        is_sent: bool,
+        /// The greater number.
+        last: u64,
+    },
+    /// An acquire or a share was passed or given up, so it is unknown whether it was granted.
+    Unknown {
+        /// The lock's name.
+        name: String,
+    },
+    /// The answer belongs to another request: an earlier run or another process has used the number.
+    OtherAnswer {
+        /// What was asked.
+        op: Op,
+        /// The answer to the other request.
+        answer: Answer,
+    },
     /// The client, or its numbers, were made in another process, before a fork. Make them after it,
     /// and with another client number if the parent goes on to use this one.
     Forked {
@@ -61,110 +88,69 @@ pub enum Error {
     },
     /// The name is held, maybe by this client itself.
     Busy {
+        /// The lock's name.
+        name: String,
         /// Who holds it; the least client where several share it.
         holder: ClientId,
         /// The fence at which it is held.
         fence: u64,
+        /// Whether the holder is this client itself.
+        is_own: bool,
+    },
+    /// This client shares the name, but an earlier run may have taken that share, which stays. See
+    /// [`Client::adopt`](crate::Client::adopt).
+    SharedBefore {
+        /// The lock's name.
+        name: String,
+        /// The fence at which it is shared.
+        fence: u64,
     },
     /// This client does not hold the name at that fence.
-    NotHeld,
+    NotHeld {
+        /// The lock's name.
+        name: String,
+        /// The fence.
+        fence: u64,
+    },
     /// The table has 512 other names.
-    NoRoom,
+    NoRoom {
+        /// The lock's name.
+        name: String,
+    },
     /// The table does not know the request: it was not raised.
-    Bad,
+    Bad {
+        /// What was asked.
+        op: Op,
+    },
     /// The fence of this name has reached 2^48.
-    Spent,
+    Spent {
+        /// The lock's name.
+        name: String,
+    },
     /// A member has or had this node number, or a greater one.
-    Used,
+    Used {
+        /// The node.
+        node: u32,
+    },
     /// The cluster has seven members.
-    Full,
+    Full {
+        /// The node that was to join.
+        node: u32,
+    },
     /// The node is no member.
-    NotMember,
+    NotMember {
+        /// The node.
+        node: u32,
+    },
     /// The node is the only member.
-    Last,
+    Last {
+        /// The node.
+        node: u32,
+    },
     /// An argument is out of its range; nothing was sent.
     Malformed(String),
     /// The socket could not be used.
     Socket(io::Error),
-}
-
-/// What is wrong with a state file.
-///
-/// ```
-/// use locks_client::{Error, Numbers, StateFault};
-///
-/// match Numbers::kept_in("no-such-file") {
-///     Err(Error::State { fault: StateFault::Missing, path }) => {
-///         println!("{} is missing", path.display());
-///     }
-///     other => panic!("{other:?}"),
-/// }
-/// ```
-#[derive(Debug)]
-#[non_exhaustive]
-pub enum StateFault {
-    /// There is no file.
-    Missing,
-    /// The file does not hold one decimal number, 1 to 2^48 - 2^32, and a newline, but this at most
-    /// at its front. Where the newline is missing, digits may be missing too.
-    NoNumber(Vec<u8>),
-    /// The path leads to something else than a regular file.
-    NotAFile,
-    /// The file has a second name (a hard link), which would part from it at the next write.
-    Linked,
-    /// Another client uses the file, in this process or in another one.
-    InUse,
-    /// Another program has written the file since this client opened it.
-    Changed,
-    /// The file, its folder or the lock file beside it cannot be read or written.
-    Io(io::Error),
-}
-
-/// What to do where the number is not there.
-const BEGIN: &str = "begin with a first number above all that this client used, as milliseconds()";
-
-impl StateFault {
-    /// The error of the file at that path.
-    pub(crate) fn of(self, path: &Path) -> Error {
-        Error::State {
-            path: path.to_path_buf(),
-            fault: self,
-        }
-    }
-}
-
-impl fmt::Display for StateFault {
-    fn fmt(&self, f: &mut fmt::Formatter<'_>) -> fmt::Result {
-        match self {
-            StateFault::Missing => {
-                write!(
-                    f,
-                    "it is not there; if this client is new or the file was lost, {BEGIN}"
-                )
-            }
-            StateFault::NoNumber(text) => {
-                let text = text.escape_ascii();
-                write!(
-                    f,
-                    "it keeps no number but b'{text}'; remove it, and {BEGIN}"
-                )
-            }
-            StateFault::NotAFile => f.write_str("it is not a regular file; name another one"),
-            StateFault::Linked => {
-                f.write_str("it has a second name (a hard link); remove that, and use one")
-            }
-            StateFault::InUse => f.write_str(
-                "another client uses it; give each client a number and a file of its own",
-            ),
-            StateFault::Changed => {
-                f.write_str("another program has written it; end that one, and open it again")
-            }
-            StateFault::Io(error) => write!(
-                f,
-                "{error}; see that its folder is there, may be written and has room"
-            ),
-        }
-    }
 }
 
 impl Error {
@@ -173,71 +159,57 @@ impl Error {
         Error::Malformed(format!("invalid {what} {value}: must be {range}"))
     }
 
-    /// The refusal that an answer is, if it is one.
-    pub(crate) fn refusal(answer: &Answer) -> Option<Error> {
+    /// The refusal of an op that an answer is, if it is one.
+    pub(crate) fn refusal(op: &Op, answer: &Answer) -> Option<Error> {
+        let name = || op.name().unwrap_or_default().to_owned();
+        let node = op.node();
         Some(match *answer {
-            Answer::Busy { holder, fence } => Error::Busy { holder, fence },
-            Answer::NotHeld => Error::NotHeld,
-            Answer::NoRoom => Error::NoRoom,
-            Answer::Bad => Error::Bad,
-            Answer::Spent => Error::Spent,
-            Answer::Used => Error::Used,
-            Answer::Full => Error::Full,
-            Answer::NotMember => Error::NotMember,
-            Answer::Last => Error::Last,
+            Answer::Busy { holder, fence } => Error::busy(&name(), holder, fence),
+            Answer::NotHeld => Error::not_held(&name(), op.fence().unwrap_or_default()),
+            Answer::NoRoom => Error::NoRoom { name: name() },
+            Answer::Bad => Error::Bad { op: op.clone() },
+            Answer::Spent => Error::Spent { name: name() },
+            Answer::Used => Error::Used { node },
+            Answer::Full => Error::Full { node },
+            Answer::NotMember => Error::NotMember { node },
+            Answer::Last => Error::Last { node },
             _ => return None,
         })
     }
 
-    /// The text of an error without fields.
-    fn text(&self) -> &'static str {
-        match self {
-            Error::NoAnswer => {
-                "no answer: the request may have taken effect, or still may; \
-                 call again, withdraw or give_up"
-            }
-            Error::Unanswered => {
-                "the last request has no answer yet; call again, withdraw or give_up"
-            }
-            Error::NothingAsked => "no request is open",
-            Error::OutOfNumbers => {
-                "the numbers of this client are used up: use another client number"
-            }
-            Error::NotHeld => "not held",
-            Error::NoRoom => "no room",
-            Error::Bad => "bad",
-            Error::Spent => "spent",
-            Error::Used => "used",
-            Error::Full => "full",
-            Error::NotMember => "not a member",
-            Error::Last => "last",
-            _ => "",
+    /// A lock that a client holds.
+    pub(crate) fn busy(name: &str, holder: ClientId, fence: u64) -> Error {
+        Error::Busy {
+            name: name.to_owned(),
+            holder,
+            fence,
+            is_own: false,
         }
     }
-}
 
-impl fmt::Display for Error {
-    fn fmt(&self, f: &mut fmt::Formatter<'_>) -> fmt::Result {
+    /// A lock that this client does not hold at that fence.
+    pub(crate) fn not_held(name: &str, fence: u64) -> Error {
+        Error::NotHeld {
+            name: name.to_owned(),
+            fence,
+        }
+    }
+
+    /// The same error, marked as the client's own where its number is that of the holder.
+    pub(crate) fn seen_by(self, client: ClientId) -> Error {
         match self {
-            Error::Passed(last) => write!(
-                f,
-                "passed {last}: another process uses this client number, or its last number was \
-                 lost; end that process, or skip_to a number above all that were used"
-            ),
-            Error::OtherAnswer(answer) => write!(f, "{answer}: this number was used before"),
-            Error::Forked { opened, here } => write!(
-                f,
-                "this client was opened in process {opened}, not in {here}: open another one, \
-                 with another client number"
-            ),
-            Error::State { path, fault } => write!(f, "state file {}: {fault}", path.display()),
-            Error::NotReleased { name, fence, cause } => {
-                write!(f, "{name} was not released at {fence}: {cause}")
-            }
-            Error::Busy { holder, fence } => write!(f, "busy {holder} {fence}"),
-            Error::Malformed(what) => f.write_str(what),
-            Error::Socket(error) => write!(f, "socket: {error}"),
-            other => f.write_str(other.text()),
+            Error::Busy {
+                name,
+                holder,
+                fence,
+                ..
+            } => Error::Busy {
+                name,
+                holder,
+                fence,
+                is_own: holder == client,
+            },
+            other => other,
         }
     }
 }

@@ -1,132 +1,256 @@
-//! How a client sends a request, and waits for its answer.
+//! Sends, resends and waits of one request.
 
-use crate::numbers::Use;
-use crate::op::{Kind, Op};
 use crate::reply::{Label, Reply};
-use crate::{Answer, Client, Error, Event, Waits};
-use std::io::ErrorKind;
+use crate::request::Open;
+use crate::{Answer, Error, Event, Session, Waits};
+use std::collections::VecDeque;
 use std::net::SocketAddr;
-use std::thread;
 use std::time::{Duration, Instant};
 
 /// The Elsewheres that are followed between two waits: a cluster has no more members.
 const FOLLOWED: u32 = 7;
-/// The wait after a socket that could not be read.
-const PAUSE: Duration = Duration::from_millis(10);
-/// The bytes that are read of a datagram: more than any reply has.
-const LONGEST: usize = 100;
+/// The interval between two warnings that no node answers.
+const WARN_EACH: Duration = Duration::from_secs(5);
 
-/// A request that has no answer yet.
-#[derive(Clone, Debug)]
-pub(crate) struct Open {
-    label: Label,
-    pub(crate) kind: Kind,
-    // the lock that an acquire or a share asks for
-    pub(crate) name: Option<String>,
-    bytes: Vec<u8>,
+/// What the caller of [`Session::step`] must do next.
+#[derive(Debug)]
+pub enum Step {
+    /// Send these bytes, then step again. A datagram that cannot be sent counts as lost.
+    Send {
+        /// The datagram.
+        bytes: Vec<u8>,
+        /// The node's address.
+        to: SocketAddr,
+    },
+    /// Wait for a datagram, pass it to [`Session::take`] if one arrives, then step again.
+    Wait {
+        /// The end of the wait.
+        until: Instant,
+    },
+    /// The request has been answered or refused, or its patience has run out.
+    Done(Result<Answer, Error>),
 }
 
-impl Open {
-    pub(crate) fn number(&self) -> u64 {
-        self.label.number
+/// The sends and waits of a request.
+#[derive(Debug)]
+pub(crate) struct Exchange {
+    start: Instant,
+    // none: no limit
+    end: Option<Instant>,
+    waits: Waits,
+    until: Instant,
+    // the node whose turn it is, and those to which the request is sent next
+    address: SocketAddr,
+    to_send: VecDeque<SocketAddr>,
+    asked: Vec<SocketAddr>,
+    followed: u32,
+    // frames that no key opens
+    closed: u32,
+    warn_at: Instant,
+    done: Option<Result<Answer, Error>>,
+}
+
+impl Exchange {
+    pub(crate) fn new(address: SocketAddr, now: Instant, patience: Duration) -> Exchange {
+        let mut exchange = Exchange {
+            start: now,
+            end: now.checked_add(patience),
+            waits: Waits::default(),
+            until: now,
+            address,
+            to_send: VecDeque::new(),
+            asked: Vec::new(),
+            followed: 0,
+            closed: 0,
+            warn_at: now + WARN_EACH,
+            done: None,
+        };
+        exchange.restart(address, now);
+        exchange
+    }
+
+    /// Sends to that node next, with the waits of a new request.
+    fn restart(&mut self, address: SocketAddr, now: Instant) {
+        self.waits = Waits::default();
+        self.send_to(address, now);
+    }
+
+    fn send_to(&mut self, address: SocketAddr, now: Instant) {
+        self.until = now + self.waits.next().unwrap_or(WARN_EACH);
+        self.followed = 0;
+        self.address = address;
+        self.to_send = VecDeque::from([address]);
+    }
+
+    fn is_over(&self, now: Instant) -> bool {
+        self.end.is_some_and(|end| now >= end)
+    }
+
+    /// The time of the next step if no datagram arrives.
+    fn wake(&self) -> Instant {
+        let wake = self.until.min(self.warn_at);
+        self.end.map_or(wake, |end| wake.min(end))
+    }
+
+    /// Whether the request was sent to that address.
+    fn has_asked(&self, from: SocketAddr) -> bool {
+        let is_it = |asked: &SocketAddr| (asked.ip(), asked.port()) == (from.ip(), from.port());
+        self.asked.iter().any(is_it)
     }
 }
 
-/// The answer to a request of that kind; a refusal is an error.
-fn judged(kind: Kind, answer: Answer) -> Result<Answer, Error> {
-    if !kind.fits(&answer) {
-        return Err(Error::OtherAnswer(answer));
-    }
-    match Error::refusal(&answer) {
-        Some(error) => Err(error),
-        None => Ok(answer),
-    }
-}
-
-impl Client {
-    /// The answer to an op under a new number.
-    pub(crate) fn request(&mut self, op: Op<'_>, used_for: Use) -> Result<Answer, Error> {
-        self.begin(op, used_for)?;
-        self.answer_of_open(self.patience)
-    }
-
-    /// Makes an op the open request, under a new number.
-    pub(crate) fn begin(&mut self, op: Op<'_>, used_for: Use) -> Result<(), Error> {
-        if self.is_waiting() {
-            return Err(Error::Unanswered);
+impl Session {
+    /// Returns what to do now for the open request.
+    pub fn step(&mut self, now: Instant) -> Step {
+        let Some(mut exchange) = self.exchange.take() else {
+            return Step::Done(Err(Error::NothingAsked));
+        };
+        if let Some(done) = exchange.done.take() {
+            return Step::Done(done);
         }
-        op.write(&mut Vec::new())?; // so that nothing malformed uses a number up
-        let label = Label {
+        let step = self.next(&mut exchange, now);
+        if !matches!(step, Step::Done(_)) {
+            self.exchange = Some(exchange);
+        }
+        step
+    }
+
+    fn next(&mut self, exchange: &mut Exchange, now: Instant) -> Step {
+        if let Err(forked) = self.numbers.of_this_process() {
+            return Step::Done(Err(forked));
+        }
+        if let Some(address) = exchange.to_send.pop_front() {
+            return self.sent(exchange, address);
+        }
+        if exchange.is_over(now) {
+            return Step::Done(Err(self.unanswered(exchange.closed)));
+        }
+        self.warn(exchange, now);
+        if now < exchange.until {
+            let until = exchange.wake();
+            return Step::Wait { until };
+        }
+        let address = self.address_after(exchange.address);
+        exchange.send_to(address, now);
+        self.next(exchange, now)
+    }
+
+    /// Sends the request there.
+    fn sent(&mut self, exchange: &mut Exchange, to: SocketAddr) -> Step {
+        let Some(open) = &self.open else {
+            return Step::Done(Err(Error::NothingAsked));
+        };
+        let number = open.number();
+        let bytes = match self.label(number).request(&open.asked()) {
+            Ok(bytes) => self.seals.sealed(bytes),
+            Err(error) => return Step::Done(Err(error)),
+        };
+        if !exchange.has_asked(to) {
+            exchange.asked.push(to);
+        }
+        let port = to.port();
+        self.log.tell(&Event::Sent { number, port });
+        Step::Send { bytes, to }
+    }
+
+    fn label(&self, number: u64) -> Label {
+        Label {
             cluster: self.seals.cluster.get(),
             client: self.seals.client.get(),
-            number: self.numbers.take(used_for)?,
-        };
-        self.open = Some(Open {
-            label,
-            kind: op.kind(),
-            name: op.wanted().map(str::to_owned),
-            bytes: self.seals.sealed(label.request(&op)?),
-        });
-        Ok(())
+            number,
+        }
     }
 
-    /// The answer to the request that is open, if it comes within the patience.
-    pub(crate) fn answer_of_open(&mut self, patience: Duration) -> Result<Answer, Error> {
-        let Some(open) = self.open.clone() else {
-            return Err(Error::NothingAsked);
-        };
-        self.numbers.of_this_process()?;
-        let answer = self.exchange(&open, patience)?;
-        self.open = None;
-        judged(open.kind, answer)
+    /// Logs every few seconds that no node answers.
+    fn warn(&mut self, exchange: &mut Exchange, now: Instant) {
+        if now < exchange.warn_at {
+            return;
+        }
+        exchange.warn_at = now + WARN_EACH;
+        if let Some(open) = &self.open {
+            self.log.tell(&Event::Unreachable {
+                op: &open.op,
+                since: now.saturating_duration_since(exchange.start),
+            });
+        }
     }
 
-    /// Sends a request to one node after the other until its answer comes.
-    fn exchange(&mut self, open: &Open, patience: Duration) -> Result<Answer, Error> {
-        let start = Instant::now();
-        let mut address = self.leader.unwrap_or(self.addresses[self.turn]);
-        for wait in Waits::default() {
-            self.send(open, address);
-            let left = patience.saturating_sub(start.elapsed());
-            if let Some(answer) = self.answer_by(open, Instant::now() + wait.min(left))? {
-                return Ok(answer);
-            }
-            if start.elapsed() >= patience {
+    /// The error of a request whose patience is over.
+    fn unanswered(&mut self, closed: u32) -> Error {
+        let Some(open) = &self.open else {
+            return Error::NothingAsked;
+        };
+        let number = open.number();
+        self.log.tell(&Event::Unanswered { number });
+        Error::NoAnswer {
+            op: open.op.clone(),
+            is_sent: open.is_sent(),
+            closed,
+        }
+    }
+
+    /// The next address in turn, other than the silent one if possible.
+    fn address_after(&mut self, silent: SocketAddr) -> SocketAddr {
+        self.leader = None;
+        for _ in 0..self.addresses.len() {
+            self.turn = (self.turn + 1) % self.addresses.len();
+            if self.addresses[self.turn] != silent {
                 break;
             }
-            address = self.address_after(address);
         }
-        let number = open.label.number;
-        self.log.tell(&Event::Unanswered { number });
-        Err(Error::NoAnswer)
+        self.addresses[self.turn]
     }
 
-    /// The answer that comes by then. A few Elsewheres are followed.
-    fn answer_by(&mut self, open: &Open, until: Instant) -> Result<Option<Answer>, Error> {
-        let mut followed = 0;
-        while let Some((reply, from)) = self.receive(&open.label, until)? {
-            self.tell(open.label.number, from.port(), &reply);
-            match reply {
-                Reply::Answer(answer) => {
+    /// Takes a datagram from that address. Drops whatever is no reply to the open request, and
+    /// without a key also replies from addresses to which the request was not sent.
+    pub fn take(&mut self, datagram: &[u8], from: SocketAddr, now: Instant) {
+        let Some(mut exchange) = self.exchange.take() else {
+            return;
+        };
+        if self.seals.is_closed(datagram) {
+            exchange.closed = exchange.closed.saturating_add(1);
+        }
+        let is_known = self.seals.keys.is_some() || exchange.has_asked(from);
+        if let Some(reply) = self.reply(datagram).filter(|_| is_known)
+            && exchange.done.is_none()
+        {
+            self.follow(&mut exchange, reply, from, now);
+        }
+        self.exchange = Some(exchange);
+    }
+
+    /// What a datagram replies to the open request.
+    fn reply(&self, datagram: &[u8]) -> Option<Reply> {
+        let number = self.open.as_ref()?.number();
+        self.label(number).reply(self.seals.opened(datagram)?)
+    }
+
+    fn follow(&mut self, exchange: &mut Exchange, reply: Reply, from: SocketAddr, now: Instant) {
+        self.tell(from.port(), &reply);
+        match reply {
+            Reply::Answer(answer) => {
+                if exchange.has_asked(from) {
                     self.leader = Some(from);
-                    return Ok(Some(answer));
                 }
-                Reply::Passed(last) => {
-                    self.open = None;
-                    return Err(Error::Passed(last));
+                let next = self.leader.unwrap_or(exchange.address);
+                match self.answered(answer) {
+                    Some(done) => exchange.done = Some(done),
+                    None => exchange.restart(next, now), // with the next part of the request
                 }
-                Reply::Elsewhere { node, port } if followed < FOLLOWED => {
-                    followed += 1;
-                    self.send(open, self.address_of(node, port, from));
-                }
-                Reply::Elsewhere { .. } => {}
             }
+            Reply::Passed(last) => exchange.done = self.passed_by(last).map(Err),
+            Reply::Elsewhere { node, port } if exchange.followed < FOLLOWED => {
+                exchange.followed += 1;
+                let host = self.hosts.get(&node).copied().unwrap_or(from.ip());
+                exchange.to_send.push_back(SocketAddr::new(host, port));
+            }
+            Reply::Elsewhere { .. } => {}
         }
-        Ok(None)
     }
 
-    /// Tells the log of a reply.
-    fn tell(&mut self, number: u64, port: u16, reply: &Reply) {
+    /// Logs a reply.
+    fn tell(&mut self, port: u16, reply: &Reply) {
+        let number = self.open.as_ref().map_or(0, Open::number);
         self.log.tell(&match *reply {
             Reply::Answer(answer) => Event::Answered {
                 number,
@@ -141,56 +265,7 @@ impl Client {
             },
         });
     }
-
-    /// Where a node lives that an Elsewhere names: where the hosts say, else at the address of who
-    /// told it.
-    fn address_of(&self, node: u32, port: u16, teller: SocketAddr) -> SocketAddr {
-        let host = self.hosts.get(&node).copied().unwrap_or(teller.ip());
-        SocketAddr::new(host, port)
-    }
-
-    /// The next address in turn, another one than the silent one where there is one.
-    fn address_after(&mut self, silent: SocketAddr) -> SocketAddr {
-        self.leader = None;
-        for _ in 0..self.addresses.len() {
-            self.turn = (self.turn + 1) % self.addresses.len();
-            if self.addresses[self.turn] != silent {
-                break;
-            }
-        }
-        self.addresses[self.turn]
-    }
-
-    /// Sends the request. One that cannot be sent counts as lost.
-    fn send(&mut self, open: &Open, address: SocketAddr) {
-        let (number, port) = (open.label.number, address.port());
-        self.log.tell(&Event::Sent { number, port });
-        let _ = self.socket.send_to(&open.bytes, address);
-    }
-
-    /// The first reply to the request that comes by then, with the address it came from. All else is
-    /// dropped.
-    fn receive(&self, label: &Label, until: Instant) -> Result<Option<(Reply, SocketAddr)>, Error> {
-        let mut buffer = [0; LONGEST];
-        loop {
-            let left = until.saturating_duration_since(Instant::now());
-            if left.is_zero() {
-                return Ok(None);
-            }
-            self.socket
-                .set_read_timeout(Some(left))
-                .map_err(Error::Socket)?;
-            match self.socket.recv_from(&mut buffer) {
-                Ok((length, from)) => {
-                    let datagram = self.seals.opened(&buffer[..length]);
-                    if let Some(reply) = datagram.and_then(|it| label.reply(it)) {
-                        return Ok(Some((reply, from)));
-                    }
-                }
-                Err(error)
-                    if matches!(error.kind(), ErrorKind::WouldBlock | ErrorKind::TimedOut) => {}
-                Err(_) => thread::sleep(PAUSE.min(left)),
-            }
-        }
-    }
 }
+
+#[cfg(test)]
+mod tests;

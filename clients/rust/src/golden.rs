@@ -39,15 +39,15 @@ fn label(words: &[String]) -> Label {
     }
 }
 
-fn op(words: &[String]) -> Op<'_> {
+fn op(words: &[String]) -> Op {
     let number = |at: usize| words[at].parse().unwrap();
     match words[0].as_str() {
-        "acquire" => Op::Acquire(&words[1]),
-        "release" => Op::Release(&words[1], number(2)),
-        "ask" => Op::Ask(&words[1]),
-        "check" => Op::Check(&words[1], number(2)),
-        "share" => Op::Share(&words[1]),
-        "break" => Op::Break(&words[1], number(2)),
+        "acquire" => Op::Acquire(words[1].clone()),
+        "release" => Op::Release(words[1].clone(), number(2)),
+        "ask" => Op::Ask(words[1].clone()),
+        "check" => Op::Check(words[1].clone(), number(2)),
+        "share" => Op::Share(words[1].clone()),
+        "break" => Op::Break(words[1].clone(), number(2)),
         "join" => Op::Join(number(1) as u32, number(2) as u16),
         "leave" => Op::Leave(number(1) as u32),
         "raise" => Op::Raise,

@@ -76,12 +76,7 @@ pub(crate) struct Seals {
 
 impl Seals {
     /// The frame of a datagram under a key.
-    fn frame(
-        &self,
-        (head, label): ([u8; HEAD], &[u8; 16]),
-        key: &Mac,
-        datagram: &[u8],
-    ) -> Vec<u8> {
+    fn frame(&self, (head, label): ([u8; HEAD], &[u8; 16]), key: &Mac, datagram: &[u8]) -> Vec<u8> {
         let cluster = self.cluster.get().to_be_bytes();
         let client = u32::from(self.client.get()).to_be_bytes();
         let message = [label, cluster.as_slice(), &NO_GENESIS, &client, datagram].concat();
@@ -96,6 +91,14 @@ impl Seals {
         }
     }
 
+    /// Whether a datagram is a frame that this client has no key for.
+    pub(crate) fn is_closed(&self, frame: &[u8]) -> bool {
+        match self.keys {
+            Some(_) => self.opened(frame).is_none(),
+            None => frame.starts_with(&REPLY.0),
+        }
+    }
+
     /// The datagram that a node has sealed for this client; what came, where it has no key.
     pub(crate) fn opened<'a>(&self, frame: &'a [u8]) -> Option<&'a [u8]> {
         let Some(keys) = &self.keys else {
@@ -104,6 +107,15 @@ impl Seals {
         let datagram = frame.get(HEAD + DIGEST..)?;
         let is_its = |key| is_same(&self.frame(REPLY, key, datagram), frame);
         keys.keys.iter().any(is_its).then_some(datagram)
+    }
+}
+
+#[cfg(test)]
+impl Seals {
+    /// What a node sends of a reply to this client.
+    pub(crate) fn replied(&self, datagram: &[u8]) -> Vec<u8> {
+        let keys = self.keys.as_ref().unwrap();
+        self.frame(REPLY, &keys.keys[0], datagram)
     }
 }
 

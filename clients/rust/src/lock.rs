@@ -21,18 +21,17 @@ use crate::{Client, Error};
 ///
 /// # Limits
 ///
-/// - **The fence is what protects the resource**, and not the value. While the value lives,
-///   somebody may break the lock, and nobody tells the client. So pass [`Lock::fence`] with each
-///   write, and let the resource refuse a smaller one than it has seen.
-/// - **A lock does not expire.** It stays held where the value is not dropped: after `kill -9`, a
+/// - **The fence protects the resource**, and the value does not. While the value lives, somebody may
+///   break the lock. [`Lock::watch`] notices that a second later, which is too late to be safe. So
+///   pass [`Lock::fence`] with each write, and let the resource reject a smaller one than it has seen.
+/// - **A lock does not expire.** It stays held if the value is not dropped: after `kill -9`, a
 ///   power cut, an abort (a panic under `panic = "abort"`, or a second one), `std::process::exit`,
-///   or `std::mem::forget`. The next run is answered `Busy` with its own client number.
-///   [`Client::ask`] then tells the fence to release it at, once nothing of the old run works any
-///   more.
-/// - **A drop is bounded and silent.** It waits for the answer to its release two seconds at most,
-///   or as [`Client::set_drop_patience`] says, and tells a failure to the log callback alone. The
-///   lock may then stay held, and the release is open: [`Client::again`] asks for its answer. Call
-///   [`Lock::release`], or use [`Client::hold`], to be told.
+///   or `std::mem::forget`. The next run is answered [`Error::Busy`] with its own client number and the
+///   fence. [`Client::adopt`] then takes it over, once nothing of the old run works any more.
+/// - **A drop is bounded and silent.** It waits for the answer to its release for two seconds, or as
+///   [`Client::set_drop_patience`] says, and only logs a failure. The lock may then stay held, and the
+///   release is open: [`Client::again`] asks for its answer. [`Lock::release`] and [`Client::hold`]
+///   return the error.
 /// - **A drop also happens while a panic unwinds**, and neither hides the panic nor raises another
 ///   one.
 /// - **A release gives up a request that is open**: once it is answered, that one has taken effect
@@ -79,20 +78,12 @@ impl<'a> Lock<'a> {
     /// as the cause, [`Client::again`] asks for the answer once more; else release it by
     /// [`Client::release`].
     pub fn release(mut self) -> Result<(), Error> {
-        match self.end() {
-            Ok(()) => Ok(()),
-            Err(Error::NotHeld) => Err(Error::NotHeld),
-            Err(cause) => Err(Error::NotReleased {
-                name: self.name.clone(),
-                fence: self.fence,
-                cause: Box::new(cause),
-            }),
-        }
+        self.end()
     }
 
     fn end(&mut self) -> Result<(), Error> {
         self.is_released = true;
-        self.client.free(&self.name, self.fence)
+        self.client.freed(&self.name, self.fence)
     }
 }
 

@@ -1,12 +1,12 @@
-//! What a client tells of itself while it works.
+//! The events that a client logs.
 
-use crate::{Answer, ClientId, Error};
+use crate::{Answer, ClientId, Error, Op};
 use std::fmt;
 use std::panic::{AssertUnwindSafe, catch_unwind};
 use std::time::Duration;
 
-/// What happens in a client, for the callback that [`Client::set_log`](crate::Client::set_log)
-/// takes.
+/// Something that happened in a client, for the callback of
+/// [`Client::set_log`](crate::Client::set_log).
 ///
 /// ```
 /// use locks_client::Event;
@@ -61,8 +61,17 @@ pub enum Event<'a> {
         /// The lock that it asked for, which it may have been granted.
         name: Option<&'a str>,
     },
+    /// No node has answered for a while. Logged every five seconds.
+    Unreachable {
+        /// What was asked.
+        op: &'a Op,
+        /// For how long.
+        since: Duration,
+    },
     /// A lock is held, and is asked for again after a pause.
     Waiting {
+        /// The lock's name.
+        name: &'a str,
         /// Who holds it.
         holder: ClientId,
         /// The fence at which it is held.
@@ -78,6 +87,22 @@ pub enum Event<'a> {
         fence: u64,
         /// Why the release failed.
         cause: &'a Error,
+    },
+    /// A watched lock could not be checked. It may be held or lost.
+    Unwatched {
+        /// The lock's name.
+        name: &'a str,
+        /// The fence at which it was granted.
+        fence: u64,
+        /// Why the check failed.
+        cause: &'a Error,
+    },
+    /// The client was dropped while it held a lock, which stays held.
+    LeftHeld {
+        /// The lock's name.
+        name: &'a str,
+        /// The fence at which it is held.
+        fence: u64,
     },
 }
 
@@ -104,14 +129,41 @@ impl fmt::Display for Event<'_> {
                     "request {number} for {name} was given up without an answer"
                 )
             }
+            Event::Unreachable { op, since } => write!(
+                f,
+                "no node has answered `{op}` for {} s; check that nodes run at the given addresses",
+                since.as_secs()
+            ),
+            other => other.fmt_lock(f),
+        }
+    }
+}
+
+impl Event<'_> {
+    /// The text of an event that is about a lock.
+    fn fmt_lock(&self, f: &mut fmt::Formatter<'_>) -> fmt::Result {
+        match self {
             Event::Waiting {
+                name,
                 holder,
                 fence,
                 pause,
-            } => write!(f, "busy {holder} {fence}: asks again in {pause:?}"),
+            } => write!(
+                f,
+                "{name} is held at fence {fence} by client {holder}: asks again in {pause:?}"
+            ),
             Event::NotReleased { name, fence, cause } => {
-                write!(f, "{name} was not released at {fence}: {cause}")
+                write!(f, "{name} was not released at fence {fence}: {cause}")
             }
+            Event::Unwatched { name, fence, cause } => {
+                write!(f, "{name} could not be checked at fence {fence}: {cause}")
+            }
+            Event::LeftHeld { name, fence } => write!(
+                f,
+                "{name} is still held at fence {fence}, as far as its client knew when it was \
+                 dropped; release it at that fence in the next run"
+            ),
+            _ => Ok(()),
         }
     }
 }

@@ -1,8 +1,6 @@
 //! The members of the cluster.
 
-use crate::numbers::Use;
-use crate::op::Op;
-use crate::{Client, Error};
+use crate::{Client, Error, Op};
 
 impl Client {
     /// Makes a node a member; [`Error::Used`] or [`Error::Full`] where it is not made one.
@@ -25,13 +23,13 @@ impl Client {
     /// # }
     /// ```
     pub fn join(&mut self, node: u32, port: u16) -> Result<(), Error> {
-        self.request(Op::Join(node, port), Use::Request).map(drop)
+        self.request(Op::Join(node, port)).map(drop)
     }
 
     /// Ends a node's membership; [`Error::NotMember`] or [`Error::Last`] where it is not ended.
     ///
     /// Its process may end some requests later.
     pub fn leave(&mut self, node: u32) -> Result<(), Error> {
-        self.request(Op::Leave(node), Use::Request).map(drop)
+        self.request(Op::Leave(node)).map(drop)
     }
 }

@@ -76,6 +76,13 @@ pub fn milliseconds() -> u64 {
         .clamp(1, MAX_NUMBER)
 }
 
+/// A first number that is surely above one that was used, if there is one. A node that tells of a
+/// used one may be behind, by less than this.
+pub(crate) fn beyond(used: u64) -> Option<u64> {
+    let first = used.saturating_add(1_000_000);
+    (first < MAX_NUMBER).then_some(first)
+}
+
 /// A number that a caller tells.
 fn told(number: u64) -> Result<u64, Error> {
     if !(1..=MAX_NUMBER).contains(&number) {

@@ -1,32 +1,37 @@
 //! What a request asks.
 
+use crate::numbers::Use;
 use crate::{Answer, Error, MAX_COUNT, MAX_NODE};
+use std::fmt;
 
-/// What a request asks.
-#[derive(Clone, Copy, Debug)]
-pub(crate) enum Op<'a> {
-    Acquire(&'a str),
-    Release(&'a str, u64),
-    Ask(&'a str),
-    Check(&'a str, u64),
-    Share(&'a str),
-    Break(&'a str, u64),
+/// An operation that a request asks for, in [`Session::begin`](crate::Session::begin) and in errors.
+///
+/// ```
+/// use locks_client::Op;
+///
+/// assert_eq!(Op::Release("db".to_owned(), 3).to_string(), "release db at fence 3");
+/// assert_eq!(Op::Join(4, 7004).to_string(), "join of node 4 at port 7004");
+/// ```
+#[derive(Clone, Debug, PartialEq, Eq, Hash)]
+#[non_exhaustive]
+pub enum Op {
+    /// Takes this lock alone.
+    Acquire(String),
+    /// Gives this lock back, at this fence.
+    Release(String, u64),
+    /// Asks who holds this lock.
+    Ask(String),
+    /// Asks whether this lock is held at this fence.
+    Check(String, u64),
+    /// Takes this lock together with others, in a raised table.
+    Share(String),
+    /// Frees this lock of whoever holds it at this fence, in a raised table.
+    Break(String, u64),
+    /// Makes this node, which listens at this port, a member.
     Join(u32, u16),
+    /// Ends the membership of this node.
     Leave(u32),
-    Raise,
-}
-
-/// Which answers fit: those to an op of the same kind.
-#[derive(Clone, Copy, Debug, PartialEq, Eq)]
-pub(crate) enum Kind {
-    Acquire,
-    Release,
-    Ask,
-    Check,
-    Share,
-    Break,
-    Join,
-    Leave,
+    /// Raises the table.
     Raise,
 }
 
@@ -96,24 +101,24 @@ fn write_table(which: u8, name: &str, fence: Option<u64>, out: &mut Vec<u8>) -> 
     Ok(())
 }
 
-impl Op<'_> {
+impl Op {
     /// Adds the op's bytes. Where it is malformed, what was added is of no use.
     pub(crate) fn write(&self, out: &mut Vec<u8>) -> Result<(), Error> {
-        match *self {
+        match self {
             Op::Acquire(name) => write_table(1, name, None, out),
-            Op::Release(name, fence) => write_table(2, name, Some(fence), out),
+            Op::Release(name, fence) => write_table(2, name, Some(*fence), out),
             Op::Ask(name) => write_table(3, name, None, out),
-            Op::Check(name, fence) => write_table(4, name, Some(fence), out),
+            Op::Check(name, fence) => write_table(4, name, Some(*fence), out),
             Op::Share(name) => write_table(5, name, None, out),
-            Op::Break(name, fence) => write_table(6, name, Some(fence), out),
+            Op::Break(name, fence) => write_table(6, name, Some(*fence), out),
             Op::Join(node, port) => {
                 out.push(1);
-                write_node(node, out)?;
-                write_port(port, out)
+                write_node(*node, out)?;
+                write_port(*port, out)
             }
             Op::Leave(node) => {
                 out.push(2);
-                write_node(node, out)
+                write_node(*node, out)
             }
             Op::Raise => {
                 out.extend_from_slice(&[3, RAISED_VERSION]);
@@ -130,35 +135,79 @@ impl Op<'_> {
         }
     }
 
-    pub(crate) fn kind(&self) -> Kind {
+    /// The lock that it names; none if it concerns members or the table.
+    pub fn name(&self) -> Option<&str> {
         match self {
-            Op::Acquire(_) => Kind::Acquire,
-            Op::Release(_, _) => Kind::Release,
-            Op::Ask(_) => Kind::Ask,
-            Op::Check(_, _) => Kind::Check,
-            Op::Share(_) => Kind::Share,
-            Op::Break(_, _) => Kind::Break,
-            Op::Join(_, _) => Kind::Join,
-            Op::Leave(_) => Kind::Leave,
-            Op::Raise => Kind::Raise,
+            Op::Acquire(name) | Op::Share(name) | Op::Ask(name) => Some(name),
+            Op::Release(name, _) | Op::Check(name, _) | Op::Break(name, _) => Some(name),
+            Op::Join(..) | Op::Leave(_) | Op::Raise => None,
+        }
+    }
+
+    /// The fence that it names, if it names one.
+    pub fn fence(&self) -> Option<u64> {
+        match self {
+            Op::Release(_, fence) | Op::Check(_, fence) | Op::Break(_, fence) => Some(*fence),
+            _ => None,
+        }
+    }
+
+    /// The node that it names, or 0.
+    pub(crate) fn node(&self) -> u32 {
+        match self {
+            Op::Join(node, _) | Op::Leave(node) => *node,
+            _ => 0,
+        }
+    }
+
+    /// What its number is taken for.
+    pub(crate) fn used_for(&self) -> Use {
+        match self {
+            Op::Release(..) | Op::Break(..) => Use::Freeing,
+            _ => Use::Request,
+        }
+    }
+
+    /// Whether it may be answered so.
+    pub(crate) fn fits(&self, answer: &Answer) -> bool {
+        use Answer::*;
+        match self {
+            Op::Acquire(_) => matches!(answer, Granted(_) | Busy { .. } | NoRoom | Spent | Bad),
+            Op::Share(_) => matches!(answer, Shared(_) | Busy { .. } | NoRoom | Spent | Bad),
+            Op::Release(..) => matches!(answer, Released | NotHeld | Bad),
+            Op::Ask(_) => matches!(answer, Free(_) | Held { .. } | HeldShared { .. } | Bad),
+            Op::Check(..) => matches!(answer, Valid | Stale | Bad),
+            Op::Break(..) => matches!(answer, Broken | Stale | Bad),
+            Op::Join(..) => matches!(answer, Joined | Used | Full),
+            Op::Leave(_) => matches!(answer, Left | NotMember | Last),
+            Op::Raise => matches!(answer, Raised | AlreadyRaised),
+        }
+    }
+
+    /// The answer to it; a refusal is an error.
+    pub(crate) fn judged(self, answer: Answer) -> Result<Answer, Error> {
+        if !self.fits(&answer) {
+            return Err(Error::OtherAnswer { op: self, answer });
+        }
+        match Error::refusal(&self, &answer) {
+            Some(error) => Err(error),
+            None => Ok(answer),
         }
     }
 }
 
-impl Kind {
-    /// Whether an op of this kind may be answered so.
-    pub(crate) fn fits(self, answer: &Answer) -> bool {
-        use Answer::*;
+impl fmt::Display for Op {
+    fn fmt(&self, f: &mut fmt::Formatter<'_>) -> fmt::Result {
         match self {
-            Kind::Acquire => matches!(answer, Granted(_) | Busy { .. } | NoRoom | Spent | Bad),
-            Kind::Share => matches!(answer, Shared(_) | Busy { .. } | NoRoom | Spent | Bad),
-            Kind::Release => matches!(answer, Released | NotHeld | Bad),
-            Kind::Ask => matches!(answer, Free(_) | Held { .. } | HeldShared { .. } | Bad),
-            Kind::Check => matches!(answer, Valid | Stale | Bad),
-            Kind::Break => matches!(answer, Broken | Stale | Bad),
-            Kind::Join => matches!(answer, Joined | Used | Full),
-            Kind::Leave => matches!(answer, Left | NotMember | Last),
-            Kind::Raise => matches!(answer, Raised | AlreadyRaised),
+            Op::Acquire(name) => write!(f, "acquire {name}"),
+            Op::Release(name, fence) => write!(f, "release {name} at fence {fence}"),
+            Op::Ask(name) => write!(f, "ask {name}"),
+            Op::Check(name, fence) => write!(f, "check {name} at fence {fence}"),
+            Op::Share(name) => write!(f, "share {name}"),
+            Op::Break(name, fence) => write!(f, "break {name} at fence {fence}"),
+            Op::Join(node, port) => write!(f, "join of node {node} at port {port}"),
+            Op::Leave(node) => write!(f, "leave of node {node}"),
+            Op::Raise => f.write_str("raise"),
         }
     }
 }
@@ -167,29 +216,35 @@ impl Kind {
 mod tests {
     use super::Op;
 
-    fn bytes(op: Op<'_>) -> Option<Vec<u8>> {
+    fn bytes(op: &Op) -> Option<Vec<u8>> {
         let mut out = Vec::new();
         op.write(&mut out).ok().map(|()| out)
     }
 
     #[test]
     fn each_op_has_its_bytes() {
-        let rows: [(Op<'_>, &[u8]); 9] = [
-            (Op::Acquire("db"), b"\x00\x04\x01\x02db"),
+        let rows: [(Op, &[u8]); 9] = [
+            (Op::Acquire("db".into()), b"\x00\x04\x01\x02db"),
             (
-                Op::Release("db", 258),
+                Op::Release("db".into(), 258),
                 b"\x00\x0c\x02\x02db\0\0\0\0\0\0\x01\x02",
             ),
-            (Op::Ask("db"), b"\x00\x04\x03\x02db"),
-            (Op::Check("db", 1), b"\x00\x0c\x04\x02db\0\0\0\0\0\0\0\x01"),
-            (Op::Share("db"), b"\x00\x04\x05\x02db"),
-            (Op::Break("db", 1), b"\x00\x0c\x06\x02db\0\0\0\0\0\0\0\x01"),
+            (Op::Ask("db".into()), b"\x00\x04\x03\x02db"),
+            (
+                Op::Check("db".into(), 1),
+                b"\x00\x0c\x04\x02db\0\0\0\0\0\0\0\x01",
+            ),
+            (Op::Share("db".into()), b"\x00\x04\x05\x02db"),
+            (
+                Op::Break("db".into(), 1),
+                b"\x00\x0c\x06\x02db\0\0\0\0\0\0\0\x01",
+            ),
             (Op::Join(4, 7004), b"\x01\x00\x00\x00\x04\x1b\x5c"),
             (Op::Leave(1), b"\x02\x00\x00\x00\x01"),
             (Op::Raise, b"\x03\x02"),
         ];
         for (op, expected) in rows {
-            assert_eq!(bytes(op).as_deref(), Some(expected), "{op:?}");
+            assert_eq!(bytes(&op).as_deref(), Some(expected), "{op:?}");
         }
     }
 
@@ -197,17 +252,17 @@ mod tests {
     fn what_is_out_of_range_has_no_bytes() {
         let long = "x".repeat(33);
         let rows = [
-            Op::Acquire(""),
-            Op::Acquire("DB"),
-            Op::Acquire(&long),
-            Op::Release("db", 0),
-            Op::Check("db", (1 << 48) + 1),
+            Op::Acquire("".into()),
+            Op::Acquire("DB".into()),
+            Op::Acquire(long),
+            Op::Release("db".into(), 0),
+            Op::Check("db".into(), (1 << 48) + 1),
             Op::Join(0, 7001),
             Op::Join(1, 0),
             Op::Leave((1 << 31) + 1),
         ];
         for op in rows {
-            assert_eq!(bytes(op), None, "{op:?}");
+            assert_eq!(bytes(&op), None, "{op:?}");
         }
     }
 }

@@ -2,13 +2,13 @@
 
 use crate::holding::granted;
 use crate::numbers::Use;
-use crate::op::Kind;
-use crate::{Answer, Client, Error, LockState};
+use crate::{Answer, Client, Error, LockState, Op};
+use std::time::Instant;
 
 /// A lock that was granted, and is not held any more; somebody may have broken it meanwhile.
 fn given_back(released: Result<(), Error>) -> Result<bool, Error> {
     match released {
-        Ok(()) | Err(Error::NotHeld) => Ok(true),
+        Ok(()) | Err(Error::NotHeld { .. }) => Ok(true),
         Err(error) => Err(error),
     }
 }
@@ -16,7 +16,7 @@ fn given_back(released: Result<(), Error>) -> Result<bool, Error> {
 impl Client {
     /// Whether a request has no answer yet.
     pub fn is_waiting(&self) -> bool {
-        self.open.is_some()
+        self.session.is_waiting()
     }
 
     /// Asks once more for the answer of the request that has none yet. It takes effect at most
@@ -32,7 +32,7 @@ impl Client {
     /// # client.ask("db")?;
     /// # cluster.down(1);
     /// # client.set_patience(Duration::from_millis(100));
-    /// if let Err(Error::NoAnswer) = client.acquire("db") {
+    /// if let Err(Error::NoAnswer { .. }) = client.acquire("db") {
     ///     # cluster.up(1);
     ///     # client.set_patience(Duration::from_secs(30));
     ///     assert_eq!(client.again()?, Answer::Granted(1));
@@ -42,7 +42,8 @@ impl Client {
     /// # }
     /// ```
     pub fn again(&mut self) -> Result<Answer, Error> {
-        self.answer_of_open(self.patience)
+        self.session.resume(Instant::now(), self.patience)?;
+        self.driven()
     }
 
     /// Gives up the request that has no answer yet: after `Ok` it has taken effect or never will.
@@ -61,7 +62,7 @@ impl Client {
     /// # client.ask("db")?;
     /// # cluster.down(1);
     /// # client.set_patience(Duration::from_millis(100));
-    /// if let Err(Error::NoAnswer) = client.check("db", 3) {
+    /// if let Err(Error::NoAnswer { .. }) = client.check("db", 3) {
     ///     # cluster.up(1);
     ///     # client.set_patience(Duration::from_secs(30));
     ///     println!("{:?}", client.give_up("db")?);
@@ -71,16 +72,20 @@ impl Client {
     /// # }
     /// ```
     pub fn give_up(&mut self, name: &str) -> Result<LockState, Error> {
-        self.forget_open();
-        self.lock_state(name, Use::Freeing)
+        self.session.forget();
+        self.lock_state(Use::Freeing, name)
     }
 
     /// Gives up an acquire or a share that has no answer, and releases the lock where it was
     /// granted by it. Whether it was.
     ///
-    /// It asks for the answer once more, since that alone tells this grant from one of an earlier
-    /// run, or from a share that others have. After [`Error::NoAnswer`] call it again;
-    /// [`Error::NothingAsked`] where no such request is open.
+    /// It asks for the answer once more, since only that distinguishes this grant from one of an
+    /// earlier run, or from the share of another client. `Ok(false)` means that nothing was granted
+    /// and nothing will be.
+    ///
+    /// After [`Error::NoAnswer`] call it again. [`Error::Unknown`] if the request was passed or given
+    /// up, [`Error::SharedBefore`] if the share may be that of an earlier run, [`Error::NothingAsked`]
+    /// if no such request is open.
     ///
     #[doc = asks_a_node!()]
     /// # mod support { include!(concat!(env!("CARGO_MANIFEST_DIR"), "/tests/support/cluster.rs")); }
@@ -92,7 +97,7 @@ impl Client {
     /// # client.ask("db")?;
     /// # cluster.down(1);
     /// # client.set_patience(Duration::from_millis(100));
-    /// if let Err(Error::NoAnswer) = client.acquire("db") {
+    /// if let Err(Error::NoAnswer { .. }) = client.acquire("db") {
     ///     # cluster.up(1);
     ///     # client.set_patience(Duration::from_secs(30));
     ///     client.withdraw()?;
@@ -102,11 +107,21 @@ impl Client {
     /// # }
     /// ```
     pub fn withdraw(&mut self) -> Result<bool, Error> {
-        let open = self.open.as_ref().ok_or(Error::NothingAsked)?;
-        match (open.kind, open.name.clone()) {
-            (_, Some(name)) => self.withdraw_grant(&name),
+        let Some(open) = &self.session.open else {
+            let unknown = self.session.unknown.clone();
+            return Err(unknown.map_or(Error::NothingAsked, |name| Error::Unknown { name }));
+        };
+        match (&open.op, open.is_sent()) {
+            (Op::Acquire(_) | Op::Share(_), false) => {
+                self.session.forget();
+                Ok(false)
+            }
+            (Op::Acquire(name) | Op::Share(name), true) => {
+                let name = name.clone();
+                self.withdraw_grant(&name)
+            }
             // the release of a withdraw that had no answer
-            (Kind::Release, None) => given_back(self.again().map(drop)),
+            (Op::Release(..), _) => given_back(self.again().map(drop)),
             _ => Err(Error::NothingAsked),
         }
     }
@@ -115,7 +130,9 @@ impl Client {
     fn withdraw_grant(&mut self, name: &str) -> Result<bool, Error> {
         match self.again().and_then(granted) {
             Ok(fence) => given_back(self.release(name, fence)),
-            Err(Error::Busy { .. } | Error::NoRoom | Error::Spent | Error::Bad) => Ok(false),
+            Err(
+                Error::Busy { .. } | Error::NoRoom { .. } | Error::Spent { .. } | Error::Bad { .. },
+            ) => Ok(false),
             Err(error) => Err(error),
         }
     }

@@ -42,7 +42,7 @@ impl Label {
     }
 
     /// The bytes of the request.
-    pub(crate) fn request(&self, op: &Op<'_>) -> Result<Vec<u8>, Error> {
+    pub(crate) fn request(&self, op: &Op) -> Result<Vec<u8>, Error> {
         let mut out = self.header(REQUEST, 0);
         op.write(&mut out)?;
         Ok(out)
@@ -104,7 +104,7 @@ mod tests {
 
     #[test]
     fn the_exchange_of_the_page() {
-        let request = LABEL.request(&Op::Acquire("db")).unwrap();
+        let request = LABEL.request(&Op::Acquire("db".into())).unwrap();
         assert_eq!(
             request,
             hex("4c4b0109 0000000000000005 00000000 0007 0000000000000001 00 04 01026462")

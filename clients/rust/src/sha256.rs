@@ -176,7 +176,10 @@ mod tests {
             (&[0xaa; 131], longer, "9b09ffa71b942fcb27635fbcd5b0e944bfdc63644f0713938a7f51535c3a35e2"),
         ];
         for (key, message, expected) in rows {
-            assert!(Mac::new(key).tag(message).starts_with(&hex(expected)), "{expected}");
+            assert!(
+                Mac::new(key).tag(message).starts_with(&hex(expected)),
+                "{expected}"
+            );
         }
     }
 }

@@ -38,10 +38,22 @@ pub struct Waits {
     step: usize,
 }
 
-/// Waits between two requests for a lock that is held, scattered too. They begin at 50 ms, anew
-/// after each change of the fence, and stay below a second for half a minute.
+/// Waits between two requests for a lock that another client holds, scattered too, for programs that
+/// drive a [`Session`](crate::Session).
+///
+/// They begin at 50 ms, start afresh when the fence changes, and stay below a second for half a
+/// minute.
+///
+/// ```
+/// use locks_client::BusyWaits;
+/// use std::time::Duration;
+///
+/// let mut waits = BusyWaits::default();
+/// assert!(waits.after(3) < Duration::from_millis(63)); // after Busy at fence 3
+/// assert!(waits.after(3) > Duration::from_millis(74));
+/// ```
 #[derive(Clone, Debug, Default)]
-pub(crate) struct BusyWaits {
+pub struct BusyWaits {
     step: usize,
     fence: Option<u64>,
 }
@@ -52,7 +64,8 @@ fn random() -> f64 {
     (bits >> 11) as f64 / (1_u64 << 53) as f64
 }
 
-fn scattered(wait: Duration) -> Duration {
+/// The wait times a random 0.75 to 1.25.
+pub(crate) fn scattered(wait: Duration) -> Duration {
     wait.mul_f64(0.75 + 0.5 * random())
 }
 
@@ -67,8 +80,8 @@ impl Iterator for Waits {
 }
 
 impl BusyWaits {
-    /// How long to wait where the lock is held at that fence.
-    pub(crate) fn after(&mut self, fence: u64) -> Duration {
+    /// How long to wait if the lock is held at that fence.
+    pub fn after(&mut self, fence: u64) -> Duration {
         if self.fence.replace(fence) != Some(fence) {
             self.step = 0;
         }

@@ -3,8 +3,10 @@
 #[path = "support/cluster.rs"]
 mod support;
 
-use locks_client::{Client, ClientId, ClusterId, Error, LockState, Numbers};
+use locks_client::{Client, ClientId, ClusterId, Error, LockState, Numbers, milliseconds};
+use std::sync::atomic::{AtomicU32, Ordering};
 use std::time::Duration;
+use std::{env, fs, process};
 use support::{Cluster, free_ports};
 
 #[test]
@@ -18,11 +20,15 @@ fn a_lock_goes_from_hand_to_hand() {
         fence: 1,
     };
     let refused = two.acquire("db").unwrap_err();
-    assert_eq!(refused.to_string(), "busy 1 1");
+    assert!(
+        refused
+            .to_string()
+            .starts_with("db is held at fence 1 by client 1; ")
+    );
     assert_eq!(two.ask("db").unwrap(), held);
     assert!(two.check("db", 1).unwrap());
     one.release("db", 1).unwrap();
-    assert!(matches!(one.release("db", 1), Err(Error::NotHeld)));
+    assert!(matches!(one.release("db", 1), Err(Error::NotHeld { .. })));
     let lock = two.lock("db", Duration::from_secs(5)).unwrap();
     assert_eq!(lock.fence(), 2);
     assert!(!one.check("db", 1).unwrap());
@@ -61,11 +67,11 @@ fn the_death_of_each_node_is_survived() {
 fn members_join_and_leave() {
     let mut cluster = Cluster::start(3);
     let (mut client, port) = (cluster.client(1), free_ports(1)[0]);
-    assert!(matches!(client.join(3, port), Err(Error::Used)));
+    assert!(matches!(client.join(3, port), Err(Error::Used { .. })));
     client.join(4, port).unwrap();
     cluster.add(port);
     client.leave(4).unwrap();
-    assert!(matches!(client.leave(9), Err(Error::NotMember)));
+    assert!(matches!(client.leave(9), Err(Error::NotMember { .. })));
 }
 
 #[test]
@@ -73,7 +79,7 @@ fn members_join_and_leave() {
 fn a_raised_table_is_shared_and_broken() {
     let cluster = Cluster::start(3);
     let (mut one, mut two) = (cluster.client(1), cluster.client(2));
-    assert!(matches!(one.share("db"), Err(Error::Bad)));
+    assert!(matches!(one.share("db"), Err(Error::Bad { .. })));
     assert!(one.raise_table().unwrap());
     assert!(!two.raise_table().unwrap());
     assert_eq!(one.share("db").unwrap(), 1);
@@ -93,35 +99,84 @@ fn a_raised_table_is_shared_and_broken() {
 #[cfg_attr(not(locks_program), ignore = "LOCKS_PROGRAM names no program")]
 fn a_number_that_was_used_is_noticed() {
     let cluster = Cluster::start(3);
+    // number 1 is the Ask with which the run begins, and number 2 the acquire
     assert_eq!(cluster.client_from(1, 1).acquire("db").unwrap(), 1);
-    let mut again = cluster.client_from(1, 1);
-    assert!(matches!(again.check("db", 1), Err(Error::OtherAnswer(_))));
+    let mut again = cluster.client_from(1, 2);
+    let refused = again.acquire("other").unwrap_err();
+    assert!(matches!(refused, Error::OtherAnswer { .. }), "{refused}");
+    assert_eq!(again.ask("other").unwrap(), LockState::Free { fence: 0 });
     assert!(again.check("db", 1).unwrap());
     assert!(matches!(
         cluster.client_from(1, 1).ask("db"),
-        Err(Error::Passed(2))
+        Err(Error::Passed { last: 5, .. })
     ));
 }
 
 #[test]
 #[cfg_attr(not(locks_program), ignore = "LOCKS_PROGRAM names no program")]
-fn a_share_that_has_no_answer_is_withdrawn_alone() {
+fn a_share_that_was_not_sent_is_withdrawn_alone() {
     let mut cluster = Cluster::start(1);
     let (mut one, mut two) = (cluster.client(1), cluster.client(2));
     one.raise_table().unwrap();
     assert_eq!(one.share("db").unwrap(), 1);
     cluster.down(1);
     two.set_patience(Duration::from_millis(100));
-    assert!(matches!(two.share("db"), Err(Error::NoAnswer)));
-    assert!(matches!(two.withdraw(), Err(Error::NoAnswer)));
+    assert!(matches!(
+        two.share("db"),
+        Err(Error::NoAnswer { is_sent: false, .. })
+    ));
+    assert!(!two.withdraw().unwrap());
     cluster.up(1);
     two.set_patience(Duration::from_secs(30));
-    assert!(two.withdraw().unwrap());
     let alone = LockState::HeldShared {
         holders: 1,
         fence: 1,
     };
     assert_eq!(two.ask("db").unwrap(), alone);
+}
+
+#[test]
+#[cfg_attr(not(locks_program), ignore = "LOCKS_PROGRAM names no program")]
+fn a_share_of_an_earlier_run_is_left_until_it_is_adopted() {
+    let cluster = Cluster::start(1);
+    let (mut other, mut earlier) = (cluster.client(2), cluster.client_from(1, 1_000));
+    other.raise_table().unwrap();
+    assert_eq!(earlier.share("db").unwrap(), 1);
+    assert_eq!(other.share("db").unwrap(), 1);
+    let mut later = cluster.client(1);
+    let refused = later.lock_shared("db", Duration::MAX).unwrap_err();
+    assert!(matches!(refused, Error::SharedBefore { fence: 1, .. }));
+    let both = LockState::HeldShared {
+        holders: 2,
+        fence: 1,
+    };
+    assert_eq!(other.ask("db").unwrap(), both);
+    later.adopt("db", 1).unwrap().release().unwrap();
+    let mut lock = later.lock_shared("db", Duration::MAX).unwrap();
+    assert_eq!(lock.client().ask("db").unwrap(), both);
+    lock.release().unwrap();
+}
+
+#[test]
+#[cfg_attr(not(locks_program), ignore = "LOCKS_PROGRAM names no program")]
+fn a_restored_state_file_gives_no_lock() {
+    let cluster = Cluster::start(1);
+    let folder = env::temp_dir().join(format!("locks-restored-{}", process::id()));
+    fs::create_dir_all(&folder).unwrap();
+    let (path, copy) = (folder.join("number"), folder.join("copy"));
+    let numbers = Numbers::begun_in(&path, milliseconds()).unwrap();
+    cluster.client_of(7, numbers).open().unwrap();
+    fs::copy(&path, &copy).unwrap();
+    let mut killed = cluster.client_of(7, Numbers::kept_in(&path).unwrap());
+    killed.acquire("ra").unwrap();
+    let mut restored = cluster.client_of(7, Numbers::kept_in(&copy).unwrap());
+    let refused = restored.acquire("rb").unwrap_err();
+    assert!(matches!(refused, Error::Passed { is_sent: false, .. }));
+    assert_eq!(restored.holds().count(), 0);
+    let rb = cluster.client(8).ask("rb").unwrap();
+    assert_eq!(rb, LockState::Free { fence: 0 });
+    drop((killed, restored));
+    fs::remove_dir_all(folder).unwrap();
 }
 
 #[test]
@@ -133,7 +188,7 @@ fn a_grant_of_an_earlier_run_is_not_withdrawn() {
     later.ask("db").unwrap();
     cluster.down(1);
     later.set_patience(Duration::from_millis(100));
-    assert!(matches!(later.acquire("db"), Err(Error::NoAnswer)));
+    assert!(matches!(later.acquire("db"), Err(Error::NoAnswer { .. })));
     cluster.up(1);
     later.set_patience(Duration::from_secs(30));
     assert!(!later.withdraw().unwrap());
@@ -146,8 +201,35 @@ fn a_lost_number_has_a_way_out() {
     let cluster = Cluster::start(1);
     assert_eq!(cluster.client_from(1, 5_000).acquire("db").unwrap(), 1);
     let mut lost = cluster.client_from(1, 1);
-    assert!(matches!(lost.release("db", 1), Err(Error::Passed(5_000))));
-    assert!(matches!(lost.release("db", 1), Err(Error::Passed(5_000))));
-    lost.skip_to(5_001).unwrap();
+    assert!(matches!(
+        lost.release("db", 1),
+        Err(Error::Passed { last: 5_001, .. })
+    ));
+    assert!(matches!(
+        lost.release("db", 1),
+        Err(Error::Passed { last: 5_001, .. })
+    ));
+    lost.skip_to(5_002).unwrap();
     lost.release("db", 1).unwrap();
+}
+
+#[test]
+#[cfg_attr(not(locks_program), ignore = "LOCKS_PROGRAM names no program")]
+fn a_lock_that_is_broken_is_noticed_by_its_watch() {
+    let cluster = Cluster::start(1);
+    let (mut client, mut other) = (cluster.client(1), cluster.client(2));
+    other.raise_table().unwrap();
+    let mut lock = client.lock("db", Duration::ZERO).unwrap();
+    let losses = AtomicU32::new(0);
+    let on_lost = || {
+        losses.fetch_add(1, Ordering::SeqCst);
+    };
+    let lost = lock.watch_every(Duration::from_millis(50), on_lost, |watch| {
+        let is_lost_before = watch.wait_lost(Duration::from_millis(200));
+        assert!(other.break_lock("db", watch.fence()).unwrap());
+        (is_lost_before, watch.wait_lost(Duration::from_secs(30)))
+    });
+    assert_eq!(lost.unwrap(), (false, true));
+    assert_eq!(losses.into_inner(), 1);
+    assert!(matches!(lock.release(), Err(Error::NotHeld { .. })));
 }

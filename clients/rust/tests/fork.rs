@@ -4,9 +4,9 @@
 #[allow(dead_code)]
 mod support;
 
-use locks_client::{Client, ClientId, ClusterId, Error, Numbers};
+use locks_client::{Client, ClientId, ClusterId, Error, Numbers, Session, Step};
 use std::panic::{AssertUnwindSafe, catch_unwind};
-use std::time::Duration;
+use std::time::{Duration, Instant};
 use std::{env, fs, process};
 use support::{GRANTED, Node, RELEASED, answer, client, client_of, op};
 
@@ -34,7 +34,7 @@ fn is_refused<T>(result: Result<T, Error>, parent: u32) -> bool {
 
 #[test]
 fn a_child_is_refused() {
-    let node = Node::new(vec![vec![answer(1, GRANTED)]]);
+    let node = Node::new(vec![vec![answer(2, GRANTED)]]);
     let (mut client, parent) = (client(&[node.port]), process::id());
     assert!(in_a_child(|| is_refused(client.acquire("db"), parent)));
     assert!(in_a_child(|| is_refused(client.skip_to(9), parent)));
@@ -43,15 +43,30 @@ fn a_child_is_refused() {
 
 #[test]
 fn a_child_is_refused_the_answer_of_an_open_request() {
-    let node = Node::new(vec![vec![], vec![answer(1, GRANTED)]]);
+    let node = Node::new(vec![vec![], vec![answer(2, GRANTED)]]);
     let (mut client, parent) = (client(&[node.port]), process::id());
     client.set_patience(Duration::from_millis(100));
-    assert!(matches!(client.acquire("db"), Err(Error::NoAnswer)));
+    assert!(matches!(client.acquire("db"), Err(Error::NoAnswer { .. })));
     assert!(in_a_child(|| is_refused(client.again(), parent)));
     assert!(in_a_child(|| is_refused(client.withdraw(), parent)));
     assert!(in_a_child(|| is_refused(client.give_up("db"), parent)));
     client.again().unwrap();
     assert_eq!(node.heard().len(), 2);
+}
+
+#[test]
+fn a_child_takes_no_step_of_a_session_of_its_parent() {
+    let numbers = Numbers::from_first(1).unwrap();
+    let id = ClientId::new(7).unwrap();
+    let node = ([127, 0, 0, 1], 7001).into();
+    let mut session = Session::new(ClusterId::new(5), id, &[node], numbers).unwrap();
+    let (now, parent) = (Instant::now(), process::id());
+    session.open(now, Duration::MAX).unwrap();
+    assert!(in_a_child(|| match session.step(now) {
+        Step::Done(refused) => is_refused(refused, parent),
+        _ => false,
+    }));
+    assert!(matches!(session.step(now), Step::Send { .. }));
 }
 
 #[test]
@@ -68,7 +83,7 @@ fn a_child_makes_no_client_of_numbers_of_its_parent() {
 fn a_child_leaves_the_state_file_as_it_is() {
     let path = env::temp_dir().join(format!("locks-fork-{}", process::id()));
     let numbers = Numbers::begun_in(&path, 1).unwrap();
-    let node = Node::new(vec![vec![answer(1, GRANTED)]]);
+    let node = Node::new(vec![vec![answer(2, GRANTED)]]);
     let mut client = Some(client_of(&[node.port], numbers));
     client.as_mut().unwrap().acquire("db").unwrap();
     assert!(in_a_child(|| {
@@ -78,14 +93,14 @@ fn a_child_leaves_the_state_file_as_it_is() {
     assert_eq!(fs::read_to_string(&path).unwrap(), "1000\n");
     assert!(matches!(Numbers::kept_in(&path), Err(Error::State { .. })));
     drop(client);
-    assert_eq!(fs::read_to_string(&path).unwrap(), "1\n");
+    assert_eq!(fs::read_to_string(&path).unwrap(), "2\n");
     fs::remove_file(format!("{}.lock", path.display())).unwrap();
     fs::remove_file(path).unwrap();
 }
 
 #[test]
 fn a_child_does_not_release_a_lock_of_its_parent() {
-    let node = Node::new(vec![vec![answer(1, GRANTED)], vec![answer(2, RELEASED)]]);
+    let node = Node::new(vec![vec![answer(2, GRANTED)], vec![answer(3, RELEASED)]]);
     let mut client = client(&[node.port]);
     let lock = client.lock("db", Duration::ZERO).unwrap();
     let mut lock = Some(lock);

@@ -8,7 +8,7 @@ use locks_client::{Client, Error, Event};
 use std::panic::{AssertUnwindSafe, catch_unwind};
 use std::sync::{Arc, Mutex};
 use std::time::{Duration, Instant};
-use support::{GRANTED, Node, RELEASED, answer, client, op, reply};
+use support::{FREE, GRANTED, Node, RELEASED, answer, client, op, reply};
 
 const NOT_HELD: &str = "04";
 
@@ -26,13 +26,13 @@ fn failures(client: &mut Client) -> Arc<Mutex<Vec<String>>> {
 
 /// A node that grants number 1, and answers number 2 so.
 fn granting(second: &str) -> Node {
-    Node::new(vec![vec![answer(1, GRANTED)], vec![answer(2, second)]])
+    Node::new(vec![vec![answer(2, GRANTED)], vec![answer(3, second)]])
 }
 
 /// A node that grants number 1, and is silent from then on.
 fn silent() -> Node {
     let mut rows = vec![vec![]; 9];
-    rows[0] = vec![answer(1, GRANTED)];
+    rows[0] = vec![answer(2, GRANTED)];
     Node::new(rows)
 }
 
@@ -49,27 +49,31 @@ fn a_lock_is_held_while_a_value_lives() {
 #[test]
 fn a_shared_lock_is_held_while_a_value_lives() {
     let node = Node::new(vec![
-        vec![answer(1, "0c 0000000000000004")],
-        vec![answer(2, RELEASED)],
+        vec![answer(2, FREE)],
+        vec![answer(3, "0c 0000000000000004")],
+        vec![answer(4, RELEASED)],
     ]);
     let mut client = client(&[node.port]);
     let lock = client.lock_shared("db", Duration::ZERO).unwrap();
     lock.release().unwrap();
-    assert_eq!(node.ops(), [op(5, None), op(2, Some(4))]);
+    assert_eq!(node.ops(), [op(3, None), op(5, None), op(2, Some(4))]);
 }
 
 #[test]
 fn a_lock_is_released_though_a_request_has_no_answer() {
     // the node replies to no request of the block
     let node = Node::new(vec![
-        vec![answer(1, GRANTED)],
+        vec![answer(2, GRANTED)],
         vec![],
-        vec![answer(3, RELEASED)],
+        vec![answer(4, RELEASED)],
     ]);
     let mut client = client(&[node.port]);
     let mut lock = client.lock("db", Duration::ZERO).unwrap();
     lock.client().set_patience(Duration::from_millis(100));
-    assert!(matches!(lock.client().ask("db"), Err(Error::NoAnswer)));
+    assert!(matches!(
+        lock.client().ask("db"),
+        Err(Error::NoAnswer { .. })
+    ));
     lock.release().unwrap();
     assert_eq!(node.ops()[2], op(2, Some(1)));
 }
@@ -77,9 +81,9 @@ fn a_lock_is_released_though_a_request_has_no_answer() {
 #[test]
 fn a_request_that_a_release_gives_up_is_told() {
     let node = Node::new(vec![
-        vec![answer(1, GRANTED)],
+        vec![answer(2, GRANTED)],
         vec![],
-        vec![answer(3, RELEASED)],
+        vec![answer(4, RELEASED)],
     ]);
     let mut client = client(&[node.port]);
     let told = Arc::new(Mutex::new(Vec::new()));
@@ -93,8 +97,9 @@ fn a_request_that_a_release_gives_up_is_told() {
     lock.client().set_patience(Duration::from_millis(100));
     assert!(lock.client().acquire("other").is_err());
     lock.release().unwrap();
-    let expected = "request 2 for other was given up without an answer";
+    let expected = "request 3 for other was given up without an answer";
     assert_eq!(*told.lock().unwrap(), [expected]);
+    assert!(matches!(client.withdraw(), Err(Error::Unknown { name }) if name == "other"));
 }
 
 #[test]
@@ -108,15 +113,15 @@ fn a_drop_is_bounded_and_tells_the_log() {
     assert!((300..2_000).contains(&start.elapsed().as_millis()));
     let told = events.lock().unwrap().clone();
     assert_eq!(told.len(), 1);
-    assert!(told[0].starts_with("db was not released at 1: no answer"));
+    assert!(told[0].starts_with("db was not released at fence 1: no answer"));
     assert!(client.is_waiting());
 }
 
 #[test]
 fn a_drop_leaves_the_patience_as_it_was() {
     let node = Node::new(vec![
-        vec![answer(1, GRANTED)],
-        vec![answer(2, RELEASED)],
+        vec![answer(2, GRANTED)],
+        vec![answer(3, RELEASED)],
         vec![],
         vec![],
     ]);
@@ -125,7 +130,7 @@ fn a_drop_leaves_the_patience_as_it_was() {
     client.set_drop_patience(Duration::from_millis(100));
     drop(client.lock("db", Duration::ZERO).unwrap());
     let start = Instant::now();
-    assert!(matches!(client.ask("db"), Err(Error::NoAnswer)));
+    assert!(matches!(client.ask("db"), Err(Error::NoAnswer { .. })));
     assert!(start.elapsed() >= Duration::from_millis(700));
 }
 
@@ -140,13 +145,13 @@ fn a_release_that_fails_names_the_lock() {
     assert!(
         refused
             .to_string()
-            .starts_with("db was not released at 1: no answer")
+            .starts_with("db was not released at fence 1: no answer")
     );
     let Error::NotReleased { name, fence, cause } = refused else {
         panic!("{refused}");
     };
     assert_eq!((name.as_str(), fence), ("db", 1));
-    assert!(matches!(*cause, Error::NoAnswer));
+    assert!(matches!(*cause, Error::NoAnswer { .. }));
 }
 
 #[test]
@@ -154,20 +159,21 @@ fn a_lock_that_was_broken_is_not_held() {
     let node = granting(NOT_HELD);
     let mut client = client(&[node.port]);
     let lock = client.lock("db", Duration::ZERO).unwrap();
-    assert!(matches!(lock.release(), Err(Error::NotHeld)));
+    assert!(matches!(lock.release(), Err(Error::NotHeld { .. })));
 }
 
 #[test]
 fn a_release_that_was_passed_is_told() {
     let node = Node::new(vec![
-        vec![answer(1, GRANTED)],
-        vec![reply(12, 2, "0000000000000009")],
-        vec![answer(10, RELEASED)],
+        vec![answer(2, GRANTED)],
+        vec![reply(12, 3, "0000000000000009")],
+        vec![answer(10, FREE)],
+        vec![answer(11, RELEASED)],
     ]);
     let mut client = client(&[node.port]);
     let lock = client.lock("db", Duration::ZERO).unwrap();
     let refused = lock.release().unwrap_err().to_string();
-    assert!(refused.starts_with("db was not released at 1: passed 9: "));
+    assert!(refused.starts_with("db was not released at fence 1: passed 9: "));
     client.skip_to(10).unwrap();
     client.release("db", 1).unwrap();
 }
@@ -183,17 +189,16 @@ fn the_error_of_a_block_comes_first() {
         |_| -> Result<(), Box<dyn std::error::Error>> { Err("the block's own".into()) },
     );
     assert_eq!(done.unwrap_err().to_string(), "the block's own");
-    assert_eq!(
-        *events.lock().unwrap(),
-        ["db was not released at 1: not held"]
-    );
+    let told = events.lock().unwrap().clone();
+    assert_eq!(told.len(), 1);
+    assert!(told[0].starts_with("db was not released at fence 1: db is not held at fence 1"));
 }
 
 #[test]
 fn the_error_of_a_release_comes_where_the_block_succeeds() {
     let node = granting(NOT_HELD);
     let done = client(&[node.port]).hold("db", Duration::ZERO, |lock| Ok(lock.fence()));
-    assert!(matches!(done, Err(Error::NotHeld)));
+    assert!(matches!(done, Err(Error::NotHeld { .. })));
     let node = granting(RELEASED);
     let done: Result<u64, Error> =
         client(&[node.port]).hold("db", Duration::ZERO, |lock| Ok(lock.fence()));

@@ -54,8 +54,8 @@ fn a_client_is_answered_by_its_own_key_alone() {
     assert_eq!(client.acquire("db").unwrap(), 1);
     let mut other = cluster.client(8);
     other.set_patience(Duration::from_secs(1));
-    assert!(matches!(other.acquire("db"), Err(Error::NoAnswer)));
+    assert!(matches!(other.acquire("db"), Err(Error::NoAnswer { .. })));
     other.set_key(client_key(&master, 7));
-    assert!(matches!(other.again(), Err(Error::NoAnswer)));
+    assert!(matches!(other.again(), Err(Error::NoAnswer { .. })));
     fs::remove_dir_all(&folder).unwrap();
 }

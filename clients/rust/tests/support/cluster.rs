@@ -4,19 +4,20 @@ use locks_client::{Client, ClientId, ClusterId, Numbers, milliseconds};
 use std::net::UdpSocket;
 use std::path::PathBuf;
 use std::process::{Child, Command, Stdio};
-use std::sync::atomic::{AtomicU32, Ordering};
+use std::sync::atomic::{AtomicU16, AtomicU32, Ordering};
 use std::time::Duration;
-use std::{env, fs, process};
+use std::{env, fs, iter, process};
 
 static CLUSTERS: AtomicU32 = AtomicU32::new(0);
+static PORTS: AtomicU16 = AtomicU16::new(0);
 
-/// Ports of 127.0.0.1 that nothing is bound to now.
+/// Ports of 127.0.0.1 that nothing is bound to now, below those that the system gives to whoever asks for any port.
 pub fn free_ports(count: usize) -> Vec<u16> {
-    let sockets: Vec<_> = (0..count)
-        .map(|_| UdpSocket::bind("127.0.0.1:0").unwrap())
-        .collect();
-    let port = |socket: &UdpSocket| socket.local_addr().unwrap().port();
-    sockets.iter().map(port).collect()
+    let first = 20_000 + (process::id() % 60) as u16 * 200;
+    iter::repeat_with(|| first + PORTS.fetch_add(1, Ordering::Relaxed) % 200)
+        .filter(|port| UdpSocket::bind(("127.0.0.1", *port)).is_ok())
+        .take(count)
+        .collect()
 }
 
 /// Processes of `locks node`, numbered from 1, whose stores stand in a folder of their own.

@@ -5,6 +5,7 @@ use std::net::UdpSocket;
 use std::thread::{self, JoinHandle};
 use std::time::Duration;
 
+pub const FREE: &str = "05 0000000000000000";
 pub const GRANTED: &str = "01 0000000000000001";
 pub const RELEASED: &str = "03";
 pub const BUSY: &str = "02 0008 0000000000000003";
@@ -28,7 +29,7 @@ pub fn answer(number: u64, fields: &str) -> Vec<u8> {
 }
 
 pub fn elsewhere(port: u16) -> Vec<u8> {
-    reply(11, 1, &format!("00000002 {port:04x}"))
+    reply(11, 2, &format!("00000002 {port:04x}"))
 }
 
 /// What stands behind the number of a request for the lock `db`: its body's kind, and its fence if
@@ -92,11 +93,21 @@ fn serve(socket: &UdpSocket, rows: Vec<Vec<Vec<u8>>>) -> Vec<Vec<u8>> {
     heard
 }
 
-/// Client 7 of cluster 5, whose requests are numbered from 1.
+/// Client 7 of cluster 5, whose requests are numbered from 2: number 1 was the Ask with which its
+/// run began.
 pub fn client(ports: &[u16]) -> Client {
     client_of(ports, Numbers::from_first(1).unwrap())
 }
 
 pub fn client_of(ports: &[u16], numbers: Numbers) -> Client {
+    let node = Node::new(vec![vec![answer(1, FREE)]]);
+    let mut client = new_client(&[node.port], numbers);
+    client.open().unwrap();
+    client.set_ports(ports).unwrap();
+    client
+}
+
+/// The same client before its first request.
+pub fn new_client(ports: &[u16], numbers: Numbers) -> Client {
     Client::new(ClusterId::new(5), ClientId::new(7).unwrap(), ports, numbers).unwrap()
 }
