@@ -13,6 +13,7 @@ from scripting import TOP, parser
 PAGES = ("docs/OPERATING.md", "docs/SECURITY.md", "docs/WIRE.md", "docs/FORMATS.md", "docs/PROVED.md")
 OF_PYTHON = ("python/locks_client/**/*", "python/backend/*.py", "python/pyproject.toml", "python/README.md")
 OF_RUST = ("rust/Cargo.*", "rust/build.rs", "rust/src/**/*", "rust/README.md")
+OF_GO = ("go/go.mod", "go/README.md", "go/**/*.go")
 UNIT = "tools/systemd/locks@.service"
 STATUS = """.SH EXIT STATUS
 .TP
@@ -94,9 +95,9 @@ def contents(program):
     """The files of the package: their bytes by their names."""
     files = {"locks": program.read_bytes(), "locks.1": manual(program).encode()}
     files["README.md"] = (TOP / "docs/PACKAGE.md").read_bytes()
-    clients = [it for name in OF_PYTHON + OF_RUST for it in (TOP / "clients").glob(name)]
+    clients = [it for name in OF_PYTHON + OF_RUST + OF_GO for it in (TOP / "clients").glob(name)]
     for it in [TOP / it for it in (*PAGES, UNIT)] + clients:
-        if it.is_file() and it.suffix != ".pyc":
+        if it.is_file() and it.suffix != ".pyc" and not it.name.endswith("_test.go"):
             files[str(it.relative_to(TOP))] = it.read_bytes()
     sums = "".join(f"{hashlib.sha256(files[name]).hexdigest()}  {name}\n" for name in sorted(files))
     return {**files, "SHA256SUMS": sums.encode()}

@@ -14,6 +14,7 @@ HINTS = {
     "rt": "it is the command of the Rattle kit",
     "cc": "it is a C compiler; Debian: apt-get install gcc",
     "cargo": "it builds Rust; Debian: apt-get install cargo",
+    "go": "it builds Go; Debian: apt-get install golang-go",
     "man": "it shows manual pages; Debian: apt-get install man-db",
     "valgrind": "it counts instructions; Debian: apt-get install valgrind",
     "chromium": "it shows pages; Debian: apt-get install chromium",

@@ -1,0 +1,85 @@
+package locks
+
+import (
+	"errors"
+	"net"
+	"net/netip"
+	"time"
+
+	"locks/internal/core"
+)
+
+const (
+	// longest is how many bytes are read of a datagram: more than any reply has.
+	longest = 100
+	// waiting is how many datagrams are kept until a call reads them. Further ones are lost.
+	waiting = 64
+	// pause follows a read that failed.
+	pause = 10 * time.Millisecond
+)
+
+// A socket sends and receives the datagrams of one client.
+type socket struct {
+	connection *net.UDPConn
+	came       chan core.Datagram
+}
+
+// listen opens a socket that can reach the nodes: on loopback if they all are at 127.0.0.1.
+func listen(nodes []netip.AddrPort) (*socket, error) {
+	network := "udp4"
+	if nodes[0].Addr().Is6() {
+		network = "udp6"
+	}
+	connection, err := net.ListenUDP(network, net.UDPAddrFromAddrPort(netip.AddrPortFrom(ownAddress(nodes), 0)))
+	if err != nil {
+		return nil, err
+	}
+	made := &socket{connection, make(chan core.Datagram, waiting)}
+	go made.read()
+	return made, nil
+}
+
+var loopback = netip.AddrFrom4([4]byte{127, 0, 0, 1})
+
+func ownAddress(nodes []netip.AddrPort) netip.Addr {
+	if nodes[0].Addr().Is6() {
+		return netip.IPv6Unspecified()
+	}
+	for _, node := range nodes {
+		if node.Addr() != loopback {
+			return netip.IPv4Unspecified()
+		}
+	}
+	return loopback
+}
+
+// read keeps what comes until the socket is closed.
+func (s *socket) read() {
+	buffer := make([]byte, longest)
+	for {
+		length, from, err := s.connection.ReadFromUDPAddrPort(buffer)
+		if errors.Is(err, net.ErrClosed) {
+			return
+		}
+		if err != nil {
+			time.Sleep(pause)
+			continue
+		}
+		payload := append([]byte(nil), buffer[:length]...)
+		select {
+		case s.came <- core.Datagram{Payload: payload, Address: netip.AddrPortFrom(from.Addr().Unmap(), from.Port())}:
+		default:
+		}
+	}
+}
+
+// send sends each datagram. One that cannot be sent counts as lost.
+func (s *socket) send(datagrams []core.Datagram) {
+	for _, it := range datagrams {
+		s.connection.WriteToUDPAddrPort(it.Payload, it.Address)
+	}
+}
+
+func (s *socket) close() {
+	s.connection.Close()
+}
