@@ -10,21 +10,25 @@ than it has seen, and so a late one of a holder that lost the lock.
 A client number belongs to one client alone, and each request has a number greater than all before. So a client is told
 where its numbers go on: by `state`, a file that keeps them, or by `first`, the number of its first request.
 
-`AsyncClient` is the same client for asyncio. `python -m locks_client` is the program; `--help` tells its words.
+`AsyncClient` is the same client for asyncio. `Election` and `AsyncElection` elect one of several clients.
+`python -m locks_client` is the program; `--help` lists its options.
 """
 import logging
 from typing import TYPE_CHECKING
 
 from .client import Client
+from .election import AsyncElection, Election
 from .errors import (
     Bad,
     Busy,
+    Changed,
     Closed,
     Forked,
     Full,
     InUse,
     Last,
     LocksError,
+    Misnumbered,
     NoAnswer,
     NoRoom,
     NotHeld,
@@ -36,19 +40,25 @@ from .errors import (
     Spent,
     StateError,
     Unanswered,
+    Unknown,
     Used,
 )
 from .numbers import milliseconds
 from .results import Free, Held, HeldShared
 from .wire import Answer
 
+__version__ = "0.3.0"
+
 __all__ = [
     "Answer",
     "AsyncClient",
+    "AsyncElection",
     "Bad",
     "Busy",
+    "Changed",
     "Client",
     "Closed",
+    "Election",
     "Forked",
     "Free",
     "Full",
@@ -57,6 +67,7 @@ __all__ = [
     "InUse",
     "Last",
     "LocksError",
+    "Misnumbered",
     "NoAnswer",
     "NoRoom",
     "NotHeld",
@@ -68,6 +79,7 @@ __all__ = [
     "Spent",
     "StateError",
     "Unanswered",
+    "Unknown",
     "Used",
     "milliseconds",
 ]

@@ -1,50 +1,73 @@
 """The client of asyncio."""
 import asyncio
+import collections
 import contextlib
+import functools
+import inspect
+import logging
 import math
-from collections.abc import AsyncIterator
+import socket
+from collections.abc import AsyncIterator, Callable, Iterable
 from types import TracebackType
 from typing import Any, Self, TypeVar
 
-from .base import Base
-from .core import Datagram, Effect, Listen, Plan, Send, Sleep
-from .errors import Unanswered
+from .base import LONGEST, WATCH_EVERY, Base
 from .endpoints import address_of, endpoint_at
+from .errors import LocksError, Unanswered
+from .plans import Datagram, Effect, Listen, Mark, Plan, Send, Sleep
 from .results import Free, Held, HeldShared, result
-from .wire import Answer, Op, join_op, leave_op, raise_op, table_op
+from .waits import wait_of
+from .watch import ENDING, Watch
+from .wire import Answer, Op, join_op, leave_op, names_of, raise_op, table_op
 
-MOST_WAITING = 256  # datagrams that are kept until a call reads them
+BESIDE = "another call of this client is under way: await one call after the other, or use a client for each task"
 T = TypeVar("T")
 
-
-class Inbox(asyncio.DatagramProtocol):
-    """Keeps what comes until it is read. What comes to a full inbox is lost."""
-
-    def __init__(self) -> None:
-        self.queue: asyncio.Queue[Datagram] = asyncio.Queue(MOST_WAITING)
-
-    def datagram_received(self, data: bytes, endpoint: tuple[str | Any, int]) -> None:
-        """A datagram came."""
-        with contextlib.suppress(asyncio.QueueFull):
-            self.queue.put_nowait(Datagram(data, endpoint_at(endpoint[0], endpoint[1])))
+log = logging.getLogger("locks_client")
 
 
 class AsyncClient(Base):
     """The same client for asyncio: each call is a coroutine, for one task at a time.
 
-    A call while another one is under way raises Unanswered. A state file is written within a call, once a block of
-    numbers. Use it in an `async with`, or call `close`.
+    A call while another one is under way raises Unanswered, but a release waits for it, at most `patience`, and so does
+    each call while a lock is watched. A state file is written within a call, once a block of numbers. It belongs to no
+    event loop: a later `asyncio.run` may go on with it. Use it in an `async with`, or call `close`.
+
+    A cancelled acquire is withdrawn before the cancellation goes on: at once if nothing was sent, else for at most
+    `cleanup` seconds, 2 at first; then the log and a note on the CancelledError say that the lock may stay held. The
+    TimeoutError of an `asyncio.timeout` has that CancelledError as its `__cause__`. A cancelled block releases its
+    lock, for at most `patience`.
     """
 
-    inbox: Inbox | None = None
-    transport: asyncio.DatagramTransport | None = None
     is_running = False
+    stop_reading: Callable[[], None] | None = None
+
+    @functools.cached_property
+    def turns(self) -> "collections.deque[asyncio.Future[None]]":
+        """The calls that wait for the one that is under way."""
+        return collections.deque()
+
+    @functools.cached_property
+    def telling(self) -> "set[asyncio.Task[None]]":
+        """The tasks that call back for a loss."""
+        return set()
+
+    def bound(self, own: str) -> socket.socket:
+        """A socket that is never waited for."""
+        made = super().bound(own)
+        made.setblocking(False)
+        return made
+
+    def close_socket(self) -> None:
+        """Closes the socket. A call that waits for it goes on."""
+        if self.stop_reading:
+            self.stop_reading()
+        self.socket.close()
 
     def close(self) -> None:
-        """Closes the socket and the state file."""
-        if self.transport:
-            self.transport.close()
-        self.socket.close()
+        """Closes the socket and the state file. A ResourceWarning names each lock that is still held."""
+        self.tell_held()
+        self.close_socket()
         self.numbers.close()
 
     async def __aenter__(self) -> Self:
@@ -55,47 +78,125 @@ class AsyncClient(Base):
     ) -> None:
         self.close()
 
-    async def acquire(self, name: str, wait: float = 0.0) -> int:
+    async def acquire(self, name: str, wait: float = 0.0, blocking: bool | None = None) -> int:
         """Takes the lock, and gives its fence, as `Client.acquire` does."""
-        return await self.run(self.core.poll("acquire", name, wait))
+        return await self.run(self.core.poll("acquire", name, wait_of(wait, blocking)))
 
-    async def share(self, name: str, wait: float = 0.0) -> int:
-        """The same for a shared hold in a raised table."""
-        return await self.run(self.core.poll("share", name, wait))
+    async def share(self, name: str, wait: float = 0.0, blocking: bool | None = None, adopt: bool = False) -> int:
+        """The same for a shared hold in a raised table, as `Client.share` does."""
+        return await self.run(self.core.share(name, wait_of(wait, blocking), adopt))
 
     @contextlib.asynccontextmanager
-    async def lock(self, name: str, wait: float = math.inf, shared: bool = False) -> AsyncIterator[int]:
-        """Context manager: holds the lock and yields its fence, as `Client.lock` does. A cancelled task releases."""
-        if shared:
-            self.refuse_nested(name)
-        fence = None
-        try:
-            fence = await (self.share(name, wait) if shared else self.acquire(name, wait))
+    async def lock(
+        self,
+        name: str,
+        wait: float = math.inf,
+        shared: bool = False,
+        blocking: bool | None = None,
+        adopt: bool = False,
+        on_lost: Callable[[str, int], object] | None = None,
+    ) -> AsyncIterator[int]:
+        """Context manager: holds the lock and yields its fence, as `Client.lock` does. A cancelled task releases.
+
+        on_lost may be a function or a coroutine function; a task of its own calls it.
+        """
+        seconds = wait_of(wait, blocking)
+        watch = None
+        if on_lost:
+            watch = Watch(self.core.is_valid, on_lost, WATCH_EVERY)
+        async with self.holding(name, self.core.granting(name, seconds, shared, adopt), watch) as fence:
             yield fence
-            self.core.drop_open()
-            await self.release(name, fence)
+
+    @contextlib.asynccontextmanager
+    async def lock_all(
+        self,
+        names: Iterable[str],
+        wait: float = math.inf,
+        blocking: bool | None = None,
+        on_lost: Callable[[str, int], object] | None = None,
+    ) -> AsyncIterator[dict[str, int]]:
+        """Context manager: holds all these locks or none, and yields the fence of each, as `Client.lock_all` does."""
+        first, *rest = names_of(names)
+        end = self.core.clock() + wait_of(wait, blocking)
+        async with self.lock(first, max(0.0, end - self.core.clock()), on_lost=on_lost) as fence:
+            if not rest:
+                yield {first: fence}
+                return
+            async with self.lock_all(rest, max(0.0, end - self.core.clock()), on_lost=on_lost) as others:
+                yield {first: fence} | others
+
+    @contextlib.asynccontextmanager
+    async def holding(self, name: str, plan: Plan[int], watch: Watch | None = None) -> AsyncIterator[int]:
+        """Holds what a plan is granted while a block runs."""
+        mark, fence = Mark(), None
+        try:
+            fence = await self.run(self.core.marked(plan, mark))
+            async with self.watching(name, fence, watch):
+                yield fence
+            await self.run(self.core.end_hold(name, fence), self.patience)
         except BaseException as error:
-            if not self.is_unheld(fence, error):
-                await self.undo(name, fence, error)
+            undoing = self.undoing(name, fence, mark, error)
+            if undoing:
+                await self.undo(undoing, name, fence, error)
             raise
 
-    async def undo(self, name: str, fence: int | None, error: BaseException) -> None:
+    async def undo(self, plan: Plan[bool], name: str, fence: int | None, error: BaseException) -> None:
         """Gives the lock back after an error, which stays the one that is raised."""
         try:
-            await self.run(self.core.withdraw(name) if fence is None else self.core.give_back(name, fence))
+            await self.run(plan, self.patience)
         except Exception as failed:
-            self.tell_kept(name, error, failed)
+            self.tell_kept(name, fence, error, failed)
         except BaseException as second:
-            self.tell_kept(name, second, second)
+            self.tell_kept(name, fence, second, second)
             raise
 
+    @contextlib.asynccontextmanager
+    async def watching(self, name: str, fence: int, watch: Watch | None) -> AsyncIterator[None]:
+        """Watches in a task while the block runs."""
+        if watch is None:
+            yield
+            return
+        self.watches += 1
+        task = asyncio.create_task(self.keep_watch(name, fence, watch))
+        try:
+            yield
+        finally:
+            self.watches -= 1
+            task.cancel()
+
+    async def keep_watch(self, name: str, fence: int, watch: Watch) -> None:
+        """Carries the steps out until one says that the lock is lost."""
+        is_held = True
+        while is_held:
+            await asyncio.sleep(watch.every)
+            try:
+                is_held = await self.run(watch.step(name, fence), self.patience)
+            except ENDING as error:
+                log.warning("%s at fence %d is not watched any more: %s", name, fence, error)
+                return
+            except LocksError as error:
+                log.debug("%s at fence %d could not be checked: %s", name, fence, error)
+        log.warning("%s is no longer held at fence %d", name, fence)
+        telling = asyncio.create_task(self.tell_lost(name, fence, watch))  # which the end of the block does not cancel
+        self.telling.add(telling)
+        telling.add_done_callback(self.telling.discard)
+
+    async def tell_lost(self, name: str, fence: int, watch: Watch) -> None:
+        """Calls back."""
+        try:
+            told = watch.lost(name, fence) if watch.lost else None
+            if inspect.isawaitable(told):
+                await told
+        except Exception:
+            log.exception("what was to be called for the loss of %s failed", name)
+
     async def withdraw(self, name: str) -> bool:
-        """Gives up an acquire or share that was interrupted or has no answer, and releases what it was granted."""
-        return await self.run(self.core.withdraw(name))
+        """Gives up an acquire or share without an answer, and releases what it was granted, as `Client.withdraw`."""
+        return await self.run(self.core.withdraw(name), self.patience)
 
     async def release(self, name: str, fence: int) -> None:
         """Gives the lock back; NotHeld if this client does not hold it at that fence."""
-        await self.run(self.core.release(name, fence))
+        await self.run(self.core.release(name, fence), self.patience)
 
     async def ask(self, name: str) -> Free | Held | HeldShared:
         """Who holds the name."""
@@ -138,11 +239,10 @@ class AsyncClient(Base):
         """Gives up the request that has no answer yet, as `Client.give_up` does."""
         return await self.run(self.core.give_up(name))
 
-    async def run(self, plan: Plan[T]) -> T:
-        """Carries a plan out."""
-        if self.is_running:
-            raise Unanswered("another call of this client is under way")
-        self.is_running, heard = True, None
+    async def run(self, plan: Plan[T], wait: float = 0.0) -> T:
+        """Carries a plan out. Another call is waited for so long; then Unanswered."""
+        await self.enter(wait or (self.patience if self.watches else 0.0))
+        heard = None
         try:
             while True:
                 heard = await self.perform(plan.send(heard))
@@ -151,31 +251,80 @@ class AsyncClient(Base):
             return value
         finally:
             plan.close()
-            self.is_running = False
+            self.leave_turn()
+
+    async def enter(self, wait: float) -> None:
+        """Begins a call, once no other call is under way. Those that wait go in turn."""
+        if not self.is_running:
+            self.is_running = True
+            return
+        if wait <= 0:
+            raise Unanswered(BESIDE)
+        turn: asyncio.Future[None] = asyncio.get_running_loop().create_future()
+        self.turns.append(turn)
+        try:
+            async with asyncio.timeout(wait):
+                await turn
+        except BaseException as error:
+            if turn in self.turns:
+                self.turns.remove(turn)
+            elif turn.done() and not turn.cancelled():
+                self.leave_turn()
+            if isinstance(error, TimeoutError):
+                raise Unanswered(BESIDE) from None
+            raise
+
+    def leave_turn(self) -> None:
+        """Ends a call: the next one that waits goes on."""
+        while self.turns:
+            turn = self.turns.popleft()
+            if not turn.done() and not turn.get_loop().is_closed():
+                turn.set_result(None)
+                return
+        self.is_running = False
 
     async def perform(self, effect: Effect) -> Datagram | None:
         """Does what a plan yields."""
-        if isinstance(effect, Sleep):
-            await asyncio.sleep(effect.seconds)
-            return None
-        transport, inbox = await self.opened()
+        if isinstance(effect, Listen):
+            return await self.receive(effect.until)
         if isinstance(effect, Send):
-            transport.sendto(effect.data, address_of(effect.port))
-            return None
-        return await self.receive(inbox, effect)
-
-    async def receive(self, inbox: Inbox, effect: Listen) -> Datagram | None:
-        """The next datagram that comes by then."""
-        left = effect.until - self.core.clock()
-        if left <= 0:
-            return None
-        with contextlib.suppress(TimeoutError):
-            return await asyncio.wait_for(inbox.queue.get(), left)
+            with contextlib.suppress(OSError):
+                self.socket.sendto(effect.data, address_of(effect.port))
+        elif isinstance(effect, Sleep):
+            await asyncio.sleep(effect.seconds)
         return None
 
-    async def opened(self) -> tuple[asyncio.DatagramTransport, Inbox]:
-        """The transport and the inbox, made at the first call."""
-        if self.transport is None or self.inbox is None:
-            loop = asyncio.get_running_loop()
-            self.transport, self.inbox = await loop.create_datagram_endpoint(Inbox, sock=self.socket)
-        return self.transport, self.inbox
+    async def receive(self, until: float) -> Datagram | None:
+        """The next datagram that comes by then."""
+        while (left := until - self.core.clock()) > 0:
+            try:
+                data, (address, port, *_) = self.socket.recvfrom(LONGEST)
+                return Datagram(data, endpoint_at(address, port))
+            except BlockingIOError:
+                await self.readable(left)
+            except OSError:
+                self.numbers.check()
+                await asyncio.sleep(min(0.01, left))
+        return None
+
+    async def readable(self, seconds: float) -> None:
+        """Waits until a datagram is there, at most so long. It is read after that, so a cancellation loses none."""
+        loop, number = asyncio.get_running_loop(), self.socket.fileno()
+        ready: asyncio.Future[None] = loop.create_future()
+
+        def stop() -> None:
+            self.stop_reading = None
+            loop.remove_reader(number)
+            if not ready.done():
+                ready.set_result(None)
+
+        self.stop_reading = stop
+        loop.add_reader(number, stop)
+        try:
+            async with asyncio.timeout(seconds):
+                await ready
+        except TimeoutError:
+            pass
+        finally:
+            if self.stop_reading is stop:
+                stop()

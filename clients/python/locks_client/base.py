@@ -3,15 +3,20 @@ import logging
 import os
 import socket
 import threading
+import warnings
 from collections.abc import Iterable
 
-from .core import Core
-from .errors import Busy, Forked, LocksError
+from .calls import Calls
+from .errors import Forked, LocksError
 from .numbers import Numbers
-from .endpoints import Endpoint, own_address, read_hosts
+from .endpoints import Endpoint, endpoint_of, own_address, read_hosts
+from .plans import Mark, Plan
 from .seals import read_keys
+from .waits import seconds_of
 
 LONGEST = 100  # bytes that are read of a datagram: more than any reply has
+CLEANUP = 2.0  # seconds that the withdrawal of an acquire is tried that an interrupt or a cancellation has ended
+WATCH_EVERY = 1.0  # seconds between two checks of a lock that is watched
 
 log = logging.getLogger("locks_client")
 
@@ -37,12 +42,25 @@ class Base:
         key: str | os.PathLike[str] | None = None,
     ) -> None:
         known = read_hosts(hosts) if hosts else None
-        self.core = Core(cluster, client, ports, patience, hosts=known, keys=read_keys(key) if key else ())
+        self.core = Calls(cluster, client, ports, patience, hosts=known, keys=read_keys(key) if key else ())
+        own = own_address(self.core.ports, self.core.hosts.values())
         self.guard = threading.RLock()  # one that an interrupt leaves locked does not lock its own thread out
+        self.releasing: set[int] = set()  # threads that wait to release: other calls let them go first
+        self.watches = 0  # locks that are watched now: as long as there is one, calls wait for each other
+        self.cleanup = CLEANUP
         self.numbers = self.core.numbers = Numbers(first, state)
-        own = own_address(self.core.ports)
-        self.socket = socket.socket(socket.AF_INET6 if ":" in own else socket.AF_INET, socket.SOCK_DGRAM)
-        self.socket.bind((own, 0))
+        self.socket = self.bound(own)
+
+    def bound(self, own: str) -> socket.socket:
+        """A socket at that address of this machine."""
+        made = socket.socket(socket.AF_INET6 if ":" in own else socket.AF_INET, socket.SOCK_DGRAM)
+        made.bind((own, 0))
+        self.own = own
+        return made
+
+    def close_socket(self) -> None:
+        """Closes the socket."""
+        self.socket.close()
 
     @property
     def cluster(self) -> int:
@@ -71,27 +89,56 @@ class Base:
 
     @patience.setter
     def patience(self, seconds: float) -> None:
-        self.core.patience = seconds
+        self.core.patience = seconds_of(seconds, "patience")
 
     def skip_to(self, number: int) -> None:
         """The next request has this number, or a greater one that is due: the way out after Passed.
 
-        Give a number above all that the client ever used, as `milliseconds()`. ValueError above 2^48 - 2^32.
+        Give a number above all that the client ever used; `Passed.next_number` is one. `milliseconds()` does not help
+        where a clock was ahead. ValueError above 2^48 - 2^32: then only another client number helps.
         """
         self.numbers.skip_to(number)
+        self.core.has_begun = False
 
-    def tell_kept(self, name: str, error: BaseException, failed: BaseException) -> None:
-        """Says beside the error of a block that its lock was not given back."""
+    def set_key(self, key: str | os.PathLike[str]) -> None:
+        """Seals with the keys of this file from now on, an open request too. ValueError as at the start."""
+        self.core.set_keys(read_keys(key))
+
+    def set_ports(self, ports: Iterable[Endpoint]) -> None:
+        """Asks these nodes from now on, an open request too. ValueError as at the start."""
+        given = [endpoint_of(port) for port in ports]
+        own = own_address(given, self.core.hosts.values()) if given else self.own
+        self.core.set_ports(given)
+        if own != self.own:
+            self.close_socket()
+            self.socket = self.bound(own)
+
+    def tell_held(self) -> None:
+        """Warns at `close` of each lock that this run holds. A forked child holds none."""
+        if self.numbers.is_closed or os.getpid() != self.numbers.process:
+            return
+        for name, grant in self.core.grants.items():
+            how = f"it stays held until a client {self.client} releases it at that fence"
+            text = f"client {self.client} is closed while it holds {name} at fence {grant.fence}: {how}"
+            warnings.warn(text, ResourceWarning, stacklevel=4)
+            log.warning("%s", text)
+
+    def tell_kept(self, name: str, fence: int | None, error: BaseException, failed: BaseException) -> None:
+        """Notes on the error of a block, and logs, that its lock was not released."""
         where = "in a forked child, which holds nothing" if isinstance(failed, Forked) else "it may stay held"
-        note = f"{name} was not released by client {self.client}: {failed or type(failed).__name__}; {where}"
+        at = f" at fence {fence}" if fence else ""
+        note = f"{name} was not released{at} by client {self.client}: {failed or type(failed).__name__}; {where}"
         error.add_note(note)
         log.warning("%s", note)
 
-    def refuse_nested(self, name: str) -> None:
-        """Busy if this run holds the name: a second Share is answered as the first, and one release ends both."""
-        if name in self.core.grants:
-            raise Busy(self.client, self.core.grants[name].fence)
+    def undoing(self, name: str, fence: int | None, mark: Mark, error: BaseException) -> Plan[bool] | None:
+        """The plan that gives a lock back after an error, None if nothing is to be given back.
 
-    def is_unheld(self, fence: int | None, error: BaseException) -> bool:
-        """Whether nothing is to be undone: the lock was refused, or its request stays open for `withdraw`."""
-        return fence is None and isinstance(error, LocksError)
+        That is so where nothing was asked, where the lock was refused or its request stays open for `withdraw`, and
+        where the lock was released.
+        """
+        if fence is not None:
+            return self.core.give_back(name, fence) if self.core.is_held(name, fence) else None
+        if not mark.has_begun or isinstance(error, LocksError):
+            return None
+        return self.core.abandon(name, mark, self.cleanup)

@@ -1,6 +1,7 @@
 """Where nodes live."""
 import ipaddress
 import os
+from collections.abc import Iterable
 
 from .seals import lines
 from .wire import MAX_NODE, MAX_PORT, ranged
@@ -27,12 +28,25 @@ def address_of(endpoint: Endpoint) -> tuple[str, int]:
     return endpoint if isinstance(endpoint, tuple) else (LOOPBACK, endpoint)
 
 
-def own_address(endpoints: list[Endpoint]) -> str:
-    """Where a client that asks these listens: on loopback if they all are 127.0.0.1, else anywhere in their family."""
+def family_of(address: str) -> str:
+    """The family of an address."""
+    return "IPv6" if ":" in address else "IPv4"
+
+
+def own_address(endpoints: list[Endpoint], hosts: Iterable[str] = ()) -> str:
+    """Where a client that asks these listens: on loopback if they all are 127.0.0.1, else anywhere in their family.
+
+    ValueError if the nodes do not all live in one family, since one socket reaches only one.
+    """
     addresses = [address_of(endpoint)[0] for endpoint in endpoints]
+    first = addresses[0]
+    for other in [*addresses, *hosts]:
+        if family_of(other) != family_of(first):
+            both = f"{first} is {family_of(first)} and {other} is {family_of(other)}"
+            raise ValueError(f"{both}: give all nodes addresses of one family")
     if set(addresses) == {LOOPBACK}:
         return LOOPBACK
-    return "::" if ":" in addresses[0] else "0.0.0.0"
+    return "::" if ":" in first else "0.0.0.0"
 
 
 def host_of(line: str) -> tuple[int, str]:

@@ -7,9 +7,10 @@ import subprocess
 import sys
 from collections.abc import Callable, Iterator
 
+from .calls import ANSWER_TIME
 from .client import Client
-from .core import ANSWER_TIME
-from .errors import Busy, LocksError, NoAnswer, Passed
+from .core import GRANTING
+from .errors import Bad, Busy, LocksError, Misnumbered, NoAnswer
 from .statuses import CANNOT_START, NOT_FOUND, NOT_RELEASED, SIGNAL, status_of
 
 # What is forwarded to the command, and what wakes whoever waits for it.
@@ -60,23 +61,45 @@ def remedy(client: Client, name: str) -> str:
 
 def explained(client: Client, name: str, error: LocksError) -> str:
     """The error of an acquire, and what can be done about it."""
-    if isinstance(error, Busy) and error.holder == client.client:
+    if isinstance(error, Busy):
+        if error.holder != client.client:
+            return f"{error.brief}: client {error.holder} holds {name} at fence {error.fence}"
         free = f"`release {name} {error.fence}` with client number {client.client} frees it"
-        return f"{error}: an earlier run of this client holds {name}; once nothing of that runs, {free}"
+        return f"{error.brief}: an earlier run of this client holds {name}; once nothing of that runs, {free}"
     if isinstance(error, NoAnswer):
-        return f"{error}: the acquire of {name} may still take effect; {remedy(client, name)}"
-    if isinstance(error, Passed):
-        others = f"another process uses client number {client.client}"
-        return f"{error}: {others}, or its last number was lost; then give --first $(date +%s%3N)"
+        return f"{error.brief}: {fate(client, error)}"
+    if isinstance(error, Misnumbered):
+        return f"{error.brief}: {error.cause}; if no other process does, {way_on(error)}{doubt(client, error)}"
+    if isinstance(error, Bad):
+        return f"{error.brief}: {error.asked} needs a raised table; `raise 2` raises it, once for the cluster"
     return str(error)
+
+
+def fate(client: Client, error: NoAnswer) -> str:
+    """What became of a request without an answer, and how to free what it may be granted."""
+    if error.is_sent and error.word in GRANTING:
+        return f"{error.asked} may still take effect; {remedy(client, error.name)}"
+    return error.fate
+
+
+def way_on(error: Misnumbered) -> str:
+    """How a client goes on whose number is not above all that it used."""
+    return f"give --first {error.next_number}" if error.next_number else "use another client number"
+
+
+def doubt(client: Client, error: Misnumbered) -> str:
+    """How to free what a request may have been granted whose answer is no longer kept."""
+    return f"; {remedy(client, error.name)}" if error.is_sent and error.word in GRANTING else ""
 
 
 def tried(plan: Callable[[], object]) -> str:
     """Calls it. Why it failed; empty if it did not."""
     try:
         plan()
-    except (LocksError, Stopped) as failed:
-        return str(failed)
+    except LocksError as failed:
+        return failed.brief
+    except Stopped as stopped:
+        return str(stopped)
     return ""
 
 
@@ -162,7 +185,7 @@ def released(client: Client, name: str, fence: int, seconds: float) -> str:
             client.release(name, fence)
         return ""
     except LocksError as error:
-        return str(error)
+        return error.brief
     except Stopped as stopped:
         problem = tried_last(client, lambda: client.run(client.core.give_back(name, fence)))
         return problem and f"{stopped}, then {problem}"

@@ -7,12 +7,11 @@ import time
 from collections.abc import Iterator
 from typing import TextIO
 
-from .errors import Closed, Forked, InUse, OutOfNumbers, StateError
-from .wire import MAX_COUNT, ranged
+from .errors import Changed, Closed, Forked, InUse, OutOfNumbers, StateError
+from .wire import MAX_NUMBER, ranged
 
 BLOCK = 1_000  # numbers that one write of the file reserves
 SPARE = 16  # reserved numbers that only a release takes, so that a full disk cannot keep it from being sent
-MAX_NUMBER = MAX_COUNT - (1 << 32)  # a greater one is never sent: after 2^48 a client number can ask nothing any more
 
 NEW = "begin with a first number above all that this client used, as `--first $(date +%s%3N)`"
 
@@ -33,6 +32,7 @@ class State:
     def __init__(self, path: str | os.PathLike[str]) -> None:
         self.path = os.path.realpath(path)
         self.lock: TextIO | None = None
+        self.greatest = 0  # of the numbers that this process has read or written
 
     def take(self) -> None:
         """Locks the file beside it, as long as this process uses the number."""
@@ -67,6 +67,18 @@ class State:
         if names > 1:
             raise StateError(self.path, "it has a second name (a hard link); remove that, and use one")
         return self.number_in(text)
+
+    def begin(self) -> int:
+        """The number that the file keeps once this process has locked it, 0 if there is no file."""
+        self.greatest = self.read() or 0
+        return self.greatest
+
+    def keep(self, number: int) -> None:
+        """Keeps a number, unless another program has kept a greater one meanwhile."""
+        if (self.read() or 0) > self.greatest:
+            raise Changed(self.path)
+        self.greatest = max(self.greatest, number)
+        self.write(number)
 
     def number_in(self, text: bytes) -> int:
         """The number that a line spells. A file that was cut has lost the end of its line."""
@@ -124,7 +136,7 @@ class Numbers:
             raise StateError(state.path, f"it is not there; if this client is new or the file was lost, {NEW}")
         state.take()
         try:
-            return state.read() or 0
+            return state.begin()
         except BaseException:
             state.close()
             raise
@@ -150,7 +162,7 @@ class Numbers:
     def keep(self, number: int) -> None:
         """Reserves the numbers up to this one."""
         if self.state:
-            self.state.write(number)
+            self.state.keep(number)
             self.kept = number
 
     def skip_to(self, number: int) -> None:

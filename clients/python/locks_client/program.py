@@ -4,9 +4,10 @@ import itertools
 import math
 import sys
 
+from . import __version__
 from .client import Client
 from .errors import LocksError, NoAnswer, Passed
-from .hold import hold, tell
+from .hold import explained, hold, tell
 from .endpoints import LOOPBACK, Endpoint
 from .results import FAILING, fitting
 from .statuses import INTERRUPTED, REFUSED, TABLE, status_of
@@ -38,10 +39,11 @@ def arguments() -> argparse.ArgumentParser:
     )
     add = parser.add_argument
     add("--cluster", type=int, required=True, help="the number of the cluster")
-    add("--port", type=int, action="append", required=True, help="a node's port; may be repeated")
+    add("--version", action="version", version=f"%(prog)s {__version__}")
+    add("--port", type=int, action="append", required=True, help="a node's port, or several; may be repeated")
     add("--address", action="append", help="the node's address, 127.0.0.1 if not given; one for all ports or one each")
     add("--hosts", help="a file of lines NODE ADDRESS: where each node lives")
-    add("--client-key", help="the file of this client's key")
+    add("--key", "--client-key", help="the file of this client's key")
     add("--client", type=int, required=True, help="the number of this client, 1 to 256, used by nobody else")
     add("--first", "--request", type=int, help="the first number, above all that this client used, as $(date +%%s%%3N)")
     add("--state", help="a file that keeps the numbers; a new one wants --first too; one of the two is needed")
@@ -51,6 +53,16 @@ def arguments() -> argparse.ArgumentParser:
     add("--release-wait", type=seconds, default=60.0, metavar="S", help="seconds that hold tries to release; 60")
     add("op", nargs="+", metavar="OP", help="the words of the request, or hold NAME -- COMMAND ..")
     return parser
+
+
+def spread(words: list[str]) -> list[str]:
+    """The words in which each port has an option of its own, as `--port 1 --port 2` for `--port 1 2`."""
+    end = words.index("--") if "--" in words else len(words)
+    spread_words, is_ports = [], False
+    for before, word in zip(["", *words], words[:end]):
+        is_ports = word.isdecimal() and (before == "--port" or is_ports)
+        spread_words += ["--port", word] if is_ports and before != "--port" else [word]
+    return spread_words + words[end:]
 
 
 def endpoints_of(ports: list[int], addresses: list[str]) -> list[Endpoint]:
@@ -64,12 +76,13 @@ def ask_once(client: Client, op: Op, is_strict: bool) -> int:
     """Prints what an op is answered, as `locks ask` does. The status."""
     try:
         answer = fitting(op.word, client.request(op))
-    except (NoAnswer, Passed) as told:
-        print(told)
-        return status_of(told)
     except LocksError as error:
-        tell(str(error))
+        if isinstance(error, (NoAnswer, Passed)):
+            print(error.brief, flush=True)
+        tell(explained(client, op.name, error))
         return status_of(error)
+    finally:
+        client.core.grants.clear()  # what a single request was granted is meant to stay held
     print(" ".join([answer.text, *map(str, answer.fields)]))
     return REFUSED if is_strict and answer.text in FAILING else 0
 
@@ -86,11 +99,11 @@ def op_in(words: list[str]) -> Op:
 def main() -> int:
     """Runs the command line. The status."""
     parser = arguments()
-    args = parser.parse_args()
+    args = parser.parse_args(spread(sys.argv[1:]))
     try:
         op = op_in(args.op)
         endpoints = endpoints_of(args.port, args.address or [LOOPBACK])
-        more = {"hosts": args.hosts, "key": args.client_key}
+        more = {"hosts": args.hosts, "key": args.key}
         client = Client(args.cluster, args.client, endpoints, args.first, args.state, args.patience, **more)
     except (OSError, ValueError) as error:
         parser.error(str(error))

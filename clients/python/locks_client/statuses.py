@@ -1,5 +1,5 @@
 """The statuses of the program, in one table."""
-from .errors import Busy, LocksError, NoAnswer, OtherAnswer, Passed, StateError
+from .errors import Busy, LocksError, Misnumbered, NoAnswer, StateError
 
 REFUSED = 1  # of a single request with --fail
 USAGE = 2
@@ -36,6 +36,6 @@ def status_of(error: LocksError) -> int:
         return STATE
     if isinstance(error, Busy):
         return BUSY
-    if isinstance(error, (Passed, OtherAnswer)):
+    if isinstance(error, Misnumbered):
         return PASSED
     return NO_ANSWER if isinstance(error, NoAnswer) else NOT_GRANTED

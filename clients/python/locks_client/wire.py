@@ -1,8 +1,10 @@
 """The bytes of docs/WIRE.md: requests, and the replies to them. Nothing here sends or waits."""
 import struct
+from collections.abc import Iterable
 from typing import NamedTuple
 
 MAX_COUNT = 1 << 48  # of numbers and fences
+MAX_NUMBER = MAX_COUNT - (1 << 32)  # a greater one is never sent: after 2^48 a client number can ask nothing any more
 MAX_CLIENT = 256
 MAX_NODE = 1 << 31
 MAX_PORT = 65535
@@ -87,10 +89,24 @@ def ranged(value: int, low: int, high: int, what: str) -> int:
 
 def name_bytes(name: str) -> bytes:
     """A name after its length."""
+    if not isinstance(name, str):
+        raise TypeError(f"invalid name {name!r}: must be a str of 1 to 32 of a-z 0-9 - . /")
     raw = name.encode()
     if not 1 <= len(raw) <= 32 or not LETTERS.issuperset(raw):
         raise ValueError(f"invalid name {name!r}: must be 1 to 32 of a-z 0-9 - . /")
     return bytes([len(raw)]) + raw
+
+
+def names_of(names: Iterable[str]) -> list[str]:
+    """The names, each once, in their order."""
+    if isinstance(names, str):
+        raise TypeError(f"invalid names {names!r}: must be a list of names, not a str")
+    found = set(names)
+    for name in found:
+        name_bytes(name)
+    if not found:
+        raise ValueError("invalid names: must be one at least")
+    return sorted(found)
 
 
 def table_op(word: str, name: str, fence: int | None = None) -> Op:

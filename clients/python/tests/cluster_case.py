@@ -6,6 +6,7 @@ import sys
 import tempfile
 import time
 import unittest
+import warnings
 
 from harness.cluster import Cluster
 from locks_client import Client, milliseconds
@@ -20,6 +21,8 @@ class ClusterCase(unittest.TestCase):
         self.folder = self.enterContext(tempfile.TemporaryDirectory())
         self.cluster = self.enterContext(Cluster(PROGRAM, self.folder))
         self.ports = list(self.cluster.ports.values())
+        self.enterContext(warnings.catch_warnings())
+        warnings.simplefilter("ignore", ResourceWarning)  # many of these tests leave their locks held
         # A shell lets what it runs in the background ignore an interrupt, and so would what the tests start.
         before = signal.signal(signal.SIGINT, signal.default_int_handler)
         self.addCleanup(signal.signal, signal.SIGINT, before)
@@ -32,9 +35,9 @@ class ClusterCase(unittest.TestCase):
         for it in self.cluster.processes.values():
             it.send_signal(number)
 
-    def run_program(self, number, *words, first=None, **how):
+    def run_program(self, number, *words, first=None, ports=None, **how):
         """Starts the client as a program."""
-        known = [word for port in self.ports for word in ("--port", str(port))]
+        known = ["--port", *map(str, ports or self.ports)]
         who = ["--cluster", "5", "--client", str(number), "--first", str(first or milliseconds())]
         command = [sys.executable, "-m", "locks_client", *known, *who, *words]
         process = subprocess.Popen(command, stdout=subprocess.PIPE, stderr=subprocess.PIPE, text=True, **how)

@@ -9,7 +9,9 @@ from locks_client import AsyncClient, Busy, NoAnswer, Unanswered
 class AsyncClientTest(unittest.IsolatedAsyncioTestCase):
     def client(self, *ports, patience=3.0):
         client = AsyncClient(5, 7, ports, first=1, patience=patience)
+        client.core.has_begun = True
         self.addCleanup(client.close)
+        self.addCleanup(client.core.grants.clear)  # before that, since some of these tests leave a lock held
         return client
 
     async def test_the_exchange_of_the_page(self):

@@ -47,11 +47,11 @@ class ClusterTest(ClusterCase):
     def test_a_number_that_was_used_is_noticed(self):
         self.assertEqual(self.client(1, first=1).acquire("db"), 1)
         with self.assertRaises(OtherAnswer):
-            self.client(1, first=1).check("db", 1)
+            self.client(1, first=2).check("db", 1)
         self.client(1, first=9).ask("db")
         with self.assertRaises(Passed) as passed:
             self.client(1, first=8).ask("db")
-        self.assertEqual(passed.exception.last, 9)
+        self.assertEqual(passed.exception.last, 10)
 
     def test_the_death_of_each_node_is_survived(self):
         client = self.client(1, patience=30.0)

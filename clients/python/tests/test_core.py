@@ -6,7 +6,8 @@ from unittest import mock
 
 from fake_node import ACQUIRE, BUSY, FREE, GRANTED, RELEASE, RELEASED, elsewhere, numbered, plain, waiting
 from locks_client import NoAnswer, StateError
-from locks_client.core import Core, Datagram, Listen, Send, Sleep
+from locks_client.calls import Calls
+from locks_client.plans import Datagram, Listen, Send, Sleep
 from locks_client.numbers import BLOCK, SPARE, Numbers
 from locks_client.waits import POLLS, Polls
 
@@ -23,9 +24,10 @@ class Clock:
 class CoreTest(unittest.TestCase):
     def setUp(self):
         self.enterContext(waiting(0.5))
-        self.clock, self.done = Clock(), []
-        self.core = Core(5, 7, [7001, 7002], patience=1.2, clock=self.clock)
+        self.clock, self.done, self.source = Clock(), [], None
+        self.core = Calls(5, 7, [7001, 7002], patience=1.2, clock=self.clock)
         self.core.numbers = Numbers(first=1)
+        self.core.has_begun = True
 
     def carry_out(self, plan, *heard):
         """Carries the plan out; each wait hears the next of these datagrams. The result; `done` has what was sent."""
@@ -44,14 +46,20 @@ class CoreTest(unittest.TestCase):
             return None
         text = next(replies, None) if isinstance(effect, Listen) else None
         if text:
-            return Datagram(bytes.fromhex(text), 7002)
+            return Datagram(bytes.fromhex(text), self.source or self.done[-1][1])
         self.clock.now = effect.until if isinstance(effect, Listen) else self.clock.now + effect.seconds
         return None
 
     def test_an_acquire_is_sent_and_answered(self):
         self.assertEqual(self.carry_out(self.core.poll("acquire", "db", 0.0), GRANTED), 1)
         self.assertEqual(self.done, [(0.0, 7001, plain(ACQUIRE))])
-        self.assertEqual((self.core.leader, self.core.grants), (7002, {"db": (1, 1)}))
+        self.assertEqual((self.core.leader, self.core.grants), (7001, {"db": (1, 1)}))
+
+    def test_a_reply_from_where_nothing_was_asked_is_dropped(self):
+        self.source = 7009
+        with self.assertRaises(NoAnswer):
+            self.carry_out(self.core.poll("acquire", "db", 0.0), GRANTED, elsewhere(7003))
+        self.assertEqual({it[1] for it in self.done}, {7001, 7002})
 
     def test_the_same_bytes_go_to_one_port_after_the_other(self):
         with self.assertRaises(NoAnswer):
@@ -73,7 +81,7 @@ class CoreTest(unittest.TestCase):
         heard = [numbered(BUSY, number) for number in range(1, 9)]
         with self.assertRaises(Exception) as raised:
             self.carry_out(self.core.poll("acquire", "db", 3.0), *heard)
-        self.assertEqual((str(raised.exception), self.clock.now, self.done[-1][0]), ("busy 8 3", 2.5, 2.5))
+        self.assertEqual((raised.exception.brief, self.clock.now, self.done[-1][0]), ("busy 8 3", 2.5, 2.5))
 
     def test_a_full_disk_keeps_no_lock_held(self):
         path = os.path.join(self.enterContext(tempfile.TemporaryDirectory()), "number")

@@ -51,7 +51,8 @@ class InstalledTest(unittest.TestCase):
     def test_the_examples_run_as_they_are_written(self):
         blocks = re.findall(r"```python\n(.*?)```", self.readme, re.DOTALL)
         outputs = [ran(self.python, "-c", self.with_ports(block), cwd=self.room) for block in blocks]
-        self.assertEqual(outputs, [(0, HELD), (0, HELD.replace("1", "3"))])
+        leads = HELD + "client 7 leads\n"
+        self.assertEqual(outputs, [(0, HELD), (0, HELD.replace("1", "3")), (0, HELD), (0, leads)])
 
     def test_the_program_runs_as_it_is_written(self):
         line = re.search(r"    locks-client (.*?)\n\n", self.readme, re.DOTALL)[1]

@@ -5,7 +5,7 @@ import tempfile
 import unittest
 from unittest import mock
 
-from locks_client import Client, Closed, InUse, OutOfNumbers, StateError, milliseconds
+from locks_client import Changed, Client, Closed, InUse, OutOfNumbers, StateError, milliseconds
 from locks_client.numbers import BLOCK, MAX_NUMBER, SPARE, Numbers
 
 FULL = OSError(errno.ENOSPC, "No space left on device")
@@ -125,6 +125,16 @@ class NumbersTest(unittest.TestCase):
         self.refused()
         self.path = os.path.join(self.folder, "missing", "number")
         self.assertIn("its folder is there", self.refused(first=1))
+
+    def test_a_file_that_another_program_has_raised_is_not_written_over(self):
+        numbers = self.numbers(first=1000, path=self.path)
+        numbers.take()
+        self.write("999999999\n")
+        with self.assertRaisesRegex(Changed, "another program has written it; end that one, and open it again"):
+            numbers.take(BLOCK)
+        with self.assertLogs("locks_client", "WARNING"):
+            numbers.close()
+        self.assertEqual(self.text(), "999999999\n")
 
     def test_a_file_has_one_owner(self):
         self.numbers(first=1, path=self.path)

@@ -3,10 +3,12 @@ import os
 import signal
 import sys
 import time
+import tomllib
 import unittest
 
 from cluster_case import PROGRAM, ClusterCase
-from locks_client import Client, Free, Held, milliseconds
+from fake_node import FREE, PASSED, Node, numbered
+from locks_client import Client, Free, Held, milliseconds, program
 
 STATUS_7 = [sys.executable, "-c", "import os, sys; print(os.environ['LOCKS_FENCE']); sys.exit(7)"]
 UP = "echo up; exec sleep 60"
@@ -26,6 +28,24 @@ class ProgramTest(ClusterCase):
         self.assertEqual(self.said(2, "acquire", "db"), (0, "busy 1 1\n", ""))
         self.assertEqual(self.said(2, "hold", "db")[0], 2)
 
+    def test_several_ports_follow_one_option(self):
+        known = ["--port", "1", "2", "3", "--client", "7", "--port", "4"]
+        spread = ["--port", "1", "--port", "2", "--port", "3", "--client", "7", "--port", "4"]
+        command = ["hold", "db", "--", "scan", "--port", "5", "6"]
+        self.assertEqual(program.spread([*known, *command]), [*spread, *command])
+        self.assertEqual(program.spread(["--port", "1", "2", "ask", "db"]), ["--port", "1", "--port", "2", "ask", "db"])
+
+    def test_the_version_is_that_of_the_package(self):
+        with open(os.path.join(os.path.dirname(__file__), "..", "pyproject.toml"), "rb") as file:
+            version = tomllib.load(file)["project"]["version"]
+        self.assertEqual(self.said(1, "--version"), (0, f"locks-client {version}\n", ""))
+
+    def test_a_key_file_is_named_as_in_the_library(self):
+        for option in ("--key", "--client-key"):
+            status, _, err = self.said(1, option, "/no/such/file", "ask", "db")
+            self.assertEqual(status, 2)
+            self.assertIn("/no/such/file", err)
+
     def test_a_refusal_has_a_status_where_that_is_asked(self):
         self.assertEqual(self.said(1, "--fail", "acquire", "db"), (0, "granted 1\n", ""))
         self.assertEqual(self.said(2, "--fail", "acquire", "db"), (1, "busy 1 1\n", ""))
@@ -35,9 +55,13 @@ class ProgramTest(ClusterCase):
     def test_a_number_that_was_used_has_a_status(self):
         now = milliseconds()
         self.assertEqual(self.said(1, "acquire", "db", first=now), (0, "granted 1\n", ""))
-        self.assertEqual(self.said(1, "acquire", "db", first=now - 1), (122, f"passed {now}\n", ""))
-        other = (122, "", "granted, to ask: this number was used before\n")
-        self.assertEqual(self.said(1, "ask", "db", first=now), other)
+        status, out, err = self.said(1, "acquire", "db", first=now - 1)
+        self.assertEqual((status, out), (122, f"passed {now + 1}\n"))
+        self.assertIn("the acquire of db was not sent; another process uses client number 1, or its last number", err)
+        self.assertIn(f"if no other process does, give --first {now + 1_000_001}\n", err)
+        status, out, err = self.said(1, "ask", "db", first=now + 1)
+        self.assertEqual((status, out, err.split(":")[0]), (122, "", "granted, to ask"))
+        self.assertIn(f"give --first {now + 1_000_002}\n", err)
         self.assertEqual(self.said(1, "ask", "db", first=2**48)[0], 2)
 
     def test_a_state_file_is_refused_without_a_traceback(self):
@@ -51,7 +75,8 @@ class ProgramTest(ClusterCase):
 
     def test_nobody_answers(self):
         self.all_nodes(signal.SIGSTOP)
-        self.assertEqual(self.said(1, "--patience", "0.3", "ask", "db"), (123, "no answer\n", ""))
+        unsent = "no answer: the ask of db was not sent\n"
+        self.assertEqual(self.said(1, "--patience", "0.3", "ask", "db"), (123, "no answer\n", unsent))
         self.all_nodes(signal.SIGCONT)
 
     def test_a_command_holds_a_lock(self):
@@ -70,7 +95,8 @@ class ProgramTest(ClusterCase):
     def test_a_command_waits_for_a_lock(self):
         client = self.client(3)
         client.acquire("db")
-        self.assertEqual(self.said(1, "--wait", "0.1", "hold", "db", "--", "true"), (121, "", "busy 3 1\n"))
+        busy = (121, "", "busy 3 1: client 3 holds db at fence 1\n")
+        self.assertEqual(self.said(1, "--wait", "0.1", "hold", "db", "--", "true"), busy)
         waiting = self.run_program(1, "hold", "db", "--", "true")
         time.sleep(0.3)
         client.release("db", 1)
@@ -83,9 +109,22 @@ class ProgramTest(ClusterCase):
         status, _, err = self.said(1, "--wait", "1", "hold", "db", "--", "true")
         self.assertLess(time.monotonic() - start, 3.0)
         self.all_nodes(signal.SIGCONT)
+        self.assertEqual((status, err), (123, "no answer: the acquire of db was not sent\n"))
+
+    def test_an_acquire_without_an_answer_says_how_to_free_the_lock(self):
+        node = Node([FREE], *[[]] * 9)
+        status, _, err = self.said(7, "--wait", "0.3", "hold", "db", "--", "true", first=1, ports=[node.port])
         self.assertEqual(status, 123)
-        self.assertIn("may still take effect; `ask db` tells whether client 1 holds it at a fence F", err)
-        self.assertIn("`release db F`, as client 1, frees it", err)
+        self.assertIn("may still take effect; `ask db` tells whether client 7 holds it at a fence F", err)
+        self.assertIn("`release db F`, as client 7, frees it", err)
+
+    def test_an_acquire_that_was_passed_says_how_to_free_the_lock_and_to_go_on(self):
+        for last, way in ((9, "give --first 1000009"), (2**48, "use another client number")):
+            node = Node([FREE], [f"{numbered(PASSED, 2)[:-16]}{last:016x}"])
+            status, _, err = self.said(7, "hold", "db", "--", "true", first=1, ports=[node.port])
+            self.assertEqual((status, err.split(":")[0]), (122, f"passed {last}"))
+            self.assertIn("whether the acquire of db took effect is unknown; another process uses client number 7", err)
+            self.assertIn(f"{way}; `ask db` tells whether client 7 holds it at a fence F", err)
 
     def test_signals_reach_a_command(self):
         process = self.holds(1, "trap 'echo told; exit 3' TERM; echo up; while :; do sleep 0.05; done")
@@ -131,15 +170,14 @@ class ProgramTest(ClusterCase):
         self.ended(process)
 
     def test_a_second_signal_is_not_silent(self):
-        self.client(3).ask("db")
-        self.all_nodes(signal.SIGSTOP)
-        process = self.run_program(1, "hold", "db", "--", "true")
-        self.wait_until_asking(process)
+        node = Node([FREE], *[[]] * 9)
+        process = self.run_program(7, "hold", "db", "--", "true", first=1, ports=[node.port])
+        while len(node.heard) < 2:
+            time.sleep(0.02)
         for _ in range(2):
             process.send_signal(signal.SIGTERM)
             time.sleep(0.3)
         status, _, err = self.ended(process)
-        self.all_nodes(signal.SIGCONT)
         self.assertEqual(status, 128 + signal.SIGTERM)
         self.assertIn(MAY_STAY_HELD, err)
 

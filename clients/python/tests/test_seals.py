@@ -3,7 +3,8 @@ import os
 import tempfile
 import unittest
 
-from locks_client import Client
+from fake_node import GRANTED, Node
+from locks_client import Client, NoAnswer
 from locks_client.endpoints import endpoint_of, own_address, read_hosts
 from locks_client.seals import Seals, client_key, read_keys
 
@@ -67,6 +68,18 @@ class FilesTest(unittest.TestCase):
         for text in [*wrong, "1 10.0.0.1\n2 fd00::2", "1  10.0.0.1", "1 10.0.0.1 "]:
             with self.subTest(text=text), self.assertRaisesRegex(ValueError, r"line \d is not NODE ADDRESS"):
                 read_hosts(self.file(text))
+
+    def test_datagrams_that_the_key_does_not_open_are_told(self):
+        node, key = Node([GRANTED], [GRANTED]), self.file(bytes(32).hex() + "\n")
+        with Client(5, 7, [node.port], first=1, key=key, patience=1.5) as client:
+            with self.assertRaisesRegex(NoAnswer, r"\d datagrams came that the client's key does not open: set_key"):
+                client.acquire("db")
+
+    def test_nodes_of_two_families_are_refused_by_name(self):
+        hosts = self.file("1 fd00::1\n")
+        for how in ({"ports": [("10.0.0.1", 7001), ("fd00::1", 7001)]}, {"ports": [7001], "hosts": hosts}):
+            with self.subTest(how=how), self.assertRaisesRegex(ValueError, "is IPv4 and fd00::1 is IPv6"):
+                Client(5, 7, first=1, **how)
 
     def test_places_are_ports_of_loopback_or_addresses_with_ports(self):
         self.assertEqual([endpoint_of(it) for it in (7001, ("127.0.0.1", 7001))], [7001, 7001])

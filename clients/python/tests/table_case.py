@@ -1,0 +1,142 @@
+"""A lock table in memory, asked by a client at once or through a socket: for tests that make many calls."""
+import socket
+import threading
+import unittest
+import warnings
+
+from locks_client import Client
+from locks_client.plans import Datagram, Send
+from locks_client.wire import HEADER
+
+
+def count(number):
+    """A fence or a number, as eight bytes."""
+    return number.to_bytes(8, "big")
+
+
+class Table:
+    """Holders and fences, by docs/WIRE.md, of a raised table."""
+
+    def __init__(self):
+        self.last, self.kept, self.holders, self.fences = {}, {}, {}, {}
+
+    def reply(self, data):
+        """The reply to a request."""
+        cluster, _, client, number = HEADER.unpack_from(data)[3:]
+        last = self.last.get(client, 0)
+        if number < last:
+            return self.framed(12, cluster, client, number, count(last))
+        if number > last:
+            self.last[client], self.kept[client] = number, self.answer(client, data[HEADER.size + 2:])
+        return self.framed(10, cluster, client, number, self.kept[client])
+
+    def framed(self, kind, cluster, client, number, rest):
+        return HEADER.pack(b"LK", 1, kind, cluster, 1, client, number) + rest
+
+    def answer(self, client, body):
+        """Executes a body. What shares a name is a list, what holds it alone a tuple."""
+        name, fence = body[2:2 + body[1]].decode(), int.from_bytes(body[2 + body[1]:], "big")
+        held, who = self.fences.get(name, 0), self.holders.get(name, ())
+        is_at = bool(who) and held == fence
+        if body[0] in (1, 5) and not who:
+            self.holders[name], self.fences[name] = (client,) if body[0] == 1 else [client], held + 1
+            return (b"\x01" if body[0] == 1 else b"\x0c") + count(held + 1)
+        if body[0] == 5 and isinstance(who, list):
+            who += [] if client in who else [client]
+            return b"\x0c" + count(held)
+        if body[0] == 2:
+            self.free(name, client) if is_at and client in who else None
+            return b"\x03" if is_at and client in who else b"\x04"
+        if body[0] == 3:
+            return self.told(held, who)
+        if body[0] == 4:
+            return b"\x07" if is_at else b"\x08"
+        if body[0] == 6:
+            self.holders.pop(name if is_at else "", None)
+            return b"\x0e" if is_at else b"\x08"
+        return b"\x02" + min(who).to_bytes(2, "big") + count(held)
+
+    def free(self, name, client):
+        """Ends the hold of a client."""
+        left = [it for it in self.holders[name] if it != client]
+        self.holders[name] = left
+        if not left:
+            del self.holders[name]
+
+    def told(self, held, who):
+        """The answer to an Ask."""
+        if not who:
+            return b"\x05" + count(held)
+        if isinstance(who, list):
+            return b"\x0d" + bytes([len(who)]) + count(held)
+        return b"\x06" + who[0].to_bytes(2, "big") + count(held)
+
+
+class TableClient(Client):
+    """A client that asks a table in memory, and is answered at once."""
+
+    def __init__(self, table, first=1):
+        super().__init__(5, 7, [1], first=first, patience=0.05)
+        self.table, self.waiting = table, []
+
+    def perform(self, effect):
+        """Answers what is sent."""
+        if isinstance(effect, Send):
+            self.waiting.append(self.table.reply(effect.data))
+            return None
+        return Datagram(self.waiting.pop(0), 1) if self.waiting else super().perform(effect)
+
+
+class TableNode(threading.Thread):
+    """A node that answers for a table in memory.
+
+    takes: whether a request arrives. replies: whether the reply to it does. Both are given the first byte of the body.
+    """
+
+    def __init__(self):
+        super().__init__(daemon=True)
+        self.table, self.heard = Table(), []
+        self.takes = self.replies = lambda body: True
+        self.socket = socket.socket(socket.AF_INET, socket.SOCK_DGRAM)
+        self.socket.bind(("127.0.0.1", 0))
+        self.port = self.socket.getsockname()[1]
+        self.start()
+
+    def run(self):
+        while True:
+            data, sender = self.socket.recvfrom(100)
+            if not data:
+                return self.socket.close()
+            body = data[HEADER.size + 2]
+            self.heard.append(body)
+            if self.takes(body):
+                reply = self.table.reply(data)
+                if self.replies(body):
+                    self.socket.sendto(reply, sender)
+
+    def stop(self):
+        with socket.socket(socket.AF_INET, socket.SOCK_DGRAM) as it:
+            it.sendto(b"", ("127.0.0.1", self.port))
+        self.join()
+
+
+ACQUIRE, RELEASE, ASK, CHECK, SHARE, BREAK = range(1, 7)
+
+
+class TableCase(unittest.TestCase):
+    """A node for a test, and clients that ask it."""
+
+    def setUp(self):
+        self.node = TableNode()
+        self.addCleanup(self.node.stop)
+        self.enterContext(warnings.catch_warnings())
+        warnings.simplefilter("ignore", ResourceWarning)  # many of these tests leave their locks held
+
+    def client(self, number=7, kind=Client, first=1, patience=5.0, **how):
+        client = kind(5, number, [self.node.port], first=first, patience=patience, **how)
+        self.addCleanup(client.close)
+        return client
+
+    def holders(self, name):
+        """Who holds a name."""
+        return list(self.node.table.holders.get(name, ()))
