@@ -60,15 +60,6 @@ impl<F: AppendFile + Drop> FailStopFile<F> {
         &self.file
     }
 
-    /// Unwraps the file, which may have failed.
-    pub fn into_file(self) -> F
-        ensures file { F.file result ≡ self.file }
-        ensures failures { F.failures result ≡ self.failures }
-    {
-        let FailStopFile { file, .. } = self;
-        file
-    }
-
     /// Returns how many bytes the file has. Fails after a failed append, flush, sync or shorten, and if `length` of the
     /// file itself fails.
     pub fn length(&mut self) -> Result<usize, FileFault>

@@ -61,17 +61,6 @@ impl<F: AppendFile + Drop> FileDisk<F> {
         }
     }
 
-    /// Takes the device apart, and returns its files, A first.
-    pub fn into_files(self) -> (F, F)
-        ensures a { F.file result.0 ≡ self.a.file }
-        ensures b { F.file result.1 ≡ self.b.file }
-        ensures failures_a { F.failures result.0 ≡ self.a.failures }
-        ensures failures_b { F.failures result.1 ≡ self.b.failures }
-    {
-        let FileDisk { a, b, failures: _ } = self;
-        (a.into_file(), b.into_file())
-    }
-
     // Counts a failure.
     fn fail(&mut self) -> DeviceFault
         ensures { self.new ≡ record self.old { failures = one_more self.old.failures } }

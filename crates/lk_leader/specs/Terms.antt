@@ -1,5 +1,6 @@
 -- What a contract sees of a leader.
 pub use Rattle.lk_types.specs.BallotValue.{BallotValue}
+use Rattle.lk_types.specs.Ballots.{is_below}
 pub use Rattle.lk_members.specs.Effects.{Command, RequestValue}
 pub use Rattle.lk_agreement_laws.specs.Soundness.{ReceivedPromise}
 use Rattle.std.specs.List.{list_any}
@@ -28,6 +29,11 @@ pub record LeaderValue : Type 0 where
 -- no ballot, and nothing waits
 abbrev pub new_leader : LeaderValue
 new_leader = record { term = None; waiting = [] }
+
+-- there is a term, of a smaller ballot
+abbrev pub is_term_below : BallotValue → Option TermValue → Bool
+is_term_below b None = false
+is_term_below b (Some t) = is_below t.ballot b
 
 -- a ballot in which nothing is promised or proposed
 abbrev pub begun : BallotValue → TermValue

@@ -1,11 +1,10 @@
 ghost use Rattle.std.specs.Prelude.{◌≡◌, ◌↔◌, ℕ, not, Option, Some, None, List, [], IsTrue, true, false, OnOk, OnErr};
-ghost use Rattle.std.specs.Prelude.{Ok, length, IfSome, MatchOption};
+ghost use Rattle.std.specs.Prelude.{Ok, length, IfSome, MatchOption, if◌then◌else◌};
 ghost use Rattle.std.specs.Option.{option_copied, option_map};
-ghost use Rattle.lk_types.specs.Ballots.{IsBelow};
 ghost use Rattle.lk_types.specs.declared.member.Member.{Member as MemberValue};
 ghost use Rattle.lk_leader.specs.Waits.{asked, waiting_of, number_up_to, left_by};
 ghost use Rattle.lk_leader.specs.Terms.{LeaderValue, TermValue, ProposalValue, Command as CommandValue, new_leader};
-ghost use Rattle.lk_leader.specs.Terms.{begun};
+ghost use Rattle.lk_leader.specs.Terms.{begun, is_term_below};
 ghost use Rattle.lk_leader.specs.Terms.{with_term, with_received, with_proposals, is_promiser, IsFirstOf, has_term};
 ghost use Rattle.lk_leader.specs.Terms.{has_promise_of, silent_among};
 ghost use Rattle.lk_leader.specs.Proposing.{Leads, LeaderProposes, proposed};
@@ -170,19 +169,21 @@ impl Leader {
         term.record_accepted(node, position, command, set)
     }
 
-    /// Ends the term, and forgets the waiting requests, if the ballot is above the term's.
-    pub fn yield_to(&mut self, ballot: Ballot)
-        ensures above { (t : TermValue) → self.old.term ≡ Some t → IsBelow t.ballot ballot → self.new ≡ new_leader }
-        ensures other { ((t : TermValue) → self.old.term ≡ Some t → IsBelow t.ballot ballot → ⊥) → self.new ≡ self.old }
+    /// Ends the term, and forgets the waiting requests, if the ballot is above the term's. Returns whether it has.
+    pub fn yield_to(&mut self, ballot: Ballot) -> bool
+        ensures yields { self.new ≡ if is_term_below ballot self.old.term then new_leader else self.old }
+        ensures ended { result ≡ is_term_below ballot self.old.term }
     {
-        if self.is_below(ballot) {
+        let ends = self.is_below(ballot);
+        if ends {
             self.leave();
         }
+        ends
     }
 
     // Whether there is a term, and its ballot is below this one.
     fn is_below(&self, ballot: Ballot) -> bool
-        ensures { IsTrue result ↔ ((t : TermValue) × (self.now.term ≡ Some t) × IsBelow t.ballot ballot) }
+        ensures { result ≡ is_term_below ballot self.now.term }
     {
         match &self.term {
             Some(term) => term.ballot().get().is_below(ballot),

@@ -22,7 +22,8 @@ use Rattle.lk_node.specs.Calls.{MayGo}
 use Rattle.lk_node.specs.Holdings.{Holding, HoldingFits}
 use Rattle.lk_node.specs.NodeValue.{NodeValue}
 use Rattle.lk_node.specs.SafeSteps.{IsCoveredLetter, Binds, IsSafeStep, ActsSafely}
-use Rattle.lk_node.specs.Yielding.{without_term, is_term_below, yielded}
+use Rattle.lk_leader.specs.Terms.{is_term_below}
+use Rattle.lk_node.specs.Yielding.{without_term, yielded}
 
 -- all that safety rests on is as it was
 pub record IsAlike (old new : NodeValue) : Type 0 where

@@ -37,7 +37,8 @@ use Rattle.lk_node.specs.NodeValue.{NodeValue}
 use Rattle.lk_node.specs.Reminding.{Ticks}
 use Rattle.lk_node.specs.Steps.{HandlesNode, Handles, HandlesBytes, Steps}
 use Rattle.lk_node.specs.Waiting.{ticked, BeginsWhereDue}
-use Rattle.lk_node.specs.Yielding.{without_term, is_term_below, yielded, with_round, seeing}
+use Rattle.lk_leader.specs.Terms.{is_term_below}
+use Rattle.lk_node.specs.Yielding.{without_term, yielded, with_round, seeing}
 
 -- nothing is left to execute, where nothing was left before
 abbrev LeavesNothing : NodeValue → NodeValue → Type 0

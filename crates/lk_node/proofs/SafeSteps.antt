@@ -119,7 +119,9 @@ heard_content h n whose msg bytes is spelled same heard = by_content msg.content
     cluster_is = same ∙ ap (λ (w : HeaderValue). w.cluster) is
 
     by_content : (c : Content) → Spells (record { cluster = msg.cluster; content = c }) bytes → WasHeard h c
-    by_content (content.Request r) k = heard.asked r msg.cluster k
+    by_content (content.Request r) k =
+        heard.asked r (subst
+        (λ (cluster : ℕ). Spells (record { cluster = cluster; content = content.Request r }) bytes) cluster_is k)
     by_content (content.Node from x) k =
         heard.said from x (subst
         (λ (cluster : ℕ). Spells (record { cluster = cluster; content = content.Node from x }) bytes) cluster_is k)

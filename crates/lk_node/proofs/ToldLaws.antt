@@ -55,7 +55,8 @@ use Rattle.lk_node.specs.Reaching.{StillRestoresNode}
 use Rattle.lk_node.specs.Reminding.{Ticks}
 use Rattle.lk_node.specs.Steps.{HandlesNode, Handles, HandlesBytes, Steps}
 use Rattle.lk_node.specs.Waiting.{ticked}
-use Rattle.lk_node.specs.Yielding.{without_term, is_term_below, yielded, with_round, seeing}
+use Rattle.lk_leader.specs.Terms.{is_term_below}
+use Rattle.lk_node.specs.Yielding.{without_term, yielded, with_round, seeing}
 use Rattle.lk_node.proofs.FewEntries.{ran_same, proposed_same, offered_same, fed_same, asked_few}
 use Rattle.lk_node.proofs.ReachLaws.{decided_here, tells_more, with_all_behind, near_behind}
 

@@ -38,7 +38,8 @@ use Rattle.lk_node.specs.NodeValue.{NodeValue}
 use Rattle.lk_node.specs.Reminding.{Ticks}
 use Rattle.lk_node.specs.Steps.{HandlesNode, Handles, HandlesBytes, Steps}
 use Rattle.lk_node.specs.Waiting.{ticked, BeginsWhereDue}
-use Rattle.lk_node.specs.Yielding.{without_term, is_term_below, yielded, with_round, seeing}
+use Rattle.lk_leader.specs.Terms.{is_term_below}
+use Rattle.lk_node.specs.Yielding.{without_term, yielded, with_round, seeing}
 
 -- it has halted exactly where it had
 abbrev Wakes : NodeValue → NodeValue → Type 0

@@ -43,8 +43,9 @@ pub record IsLawful (m : Meaning) (h : History) : Type 0 where
   pub parts : (n : ℕ) (p : PartValue) → HasSent h.genesis h.sent n (Part p)
       → IsSlice h.genesis h.sent (text m h.genesis) p.position p.total p.offset p.bytes
 
--- bytes that may arrive: what they say on behalf of a node, that node has sent, and what they ask was asked
+-- bytes that may arrive: what they say on behalf of a node of the cluster, that node has sent, and what they ask of the
+-- cluster was asked. Nothing is assumed of what they say or ask in another cluster
 pub record IsHeard (h : History) (bytes : List ℕ) : Type 0 where
   pub said : (n : ℕ) (m : NodeMessage) → Spells (said_by h.genesis n m) bytes → HasSent h.genesis h.sent n m
-  pub asked : (r : RequestValue) (cluster : ℕ)
-      → Spells (record { cluster = cluster; content = content.Request r }) bytes → Contains h.asked r
+  pub asked : (r : RequestValue)
+      → Spells (record { cluster = h.genesis.cluster; content = content.Request r }) bytes → Contains h.asked r

@@ -1,18 +1,12 @@
 -- When a node ends its term.
-use Rattle.std.specs.Prelude.{Bool, false, Option, Some, None, if◌then◌else◌, max}
+use Rattle.std.specs.Prelude.{if◌then◌else◌, max}
 use Rattle.lk_types.specs.BallotValue.{BallotValue}
-use Rattle.lk_types.specs.Ballots.{is_below}
-use Rattle.lk_leader.specs.Terms.{TermValue, new_leader}
+use Rattle.lk_leader.specs.Terms.{new_leader, is_term_below}
 use Rattle.lk_node.specs.NodeValue.{NodeValue}
 
 -- no term, nothing waits, and ticks count from the start
 abbrev pub without_term : NodeValue → NodeValue
 without_term node = record node { leader = new_leader; ticks = 0 }
-
--- there is a term, of a smaller ballot
-abbrev pub is_term_below : BallotValue → Option TermValue → Bool
-is_term_below b None = false
-is_term_below b (Some t) = is_below t.ballot b
 
 -- the node after it has recorded the ballot: if its term is of a smaller one, the term has ended
 abbrev pub yielded : BallotValue → NodeValue → NodeValue

@@ -119,11 +119,8 @@ impl<M: Machine> Node<M> {
     pub(crate) fn yield_to(&mut self, ballot: Ballot)
         ensures { self.new ≡ yielded ballot self.old }
     {
-        let Some(own) = self.leader.ballot() else {
-            return;
-        };
-        if own.get().is_below(ballot) {
-            self.leave_term();
+        if self.leader.yield_to(ballot) {
+            self.ticks.reset();
         }
     }
 

@@ -17,11 +17,6 @@ pub refused_by : {T : Type 0} (m n : Meter) (Goes : T → Type 0) (r : Result T 
 refused_by m n Goes (Ok x) f is by = absurd is
 refused_by m n Goes (Err e) f is by = subst (λ x. RefusedAfter (fault_number x) m n) (sym is) by
 
-pub errs_as : {T : Type 0} (r : Result T ReplicaFault) (f : ReplicaFault) (P : ReplicaFault → Type 0)
-    → IsErrAnd r (λ e. e ≡ f) → P f → IsErrAnd r P
-errs_as (Ok x) f P is p = absurd is
-errs_as (Err e) f P is p = subst P (sym is) p
-
 pub err_as : {T : Type 0} (P : ReplicaFault → Type 0) (r : Result T ReplicaFault) (f : ReplicaFault)
     → IsErrAnd r (λ e. e ≡ f) → P f → IfErr r P
 err_as P (Ok x) f is p = absurd is

@@ -2,13 +2,12 @@
 use Rattle.std.proofs.Common.{◌≡◌, ℕ, suc, ◌+◌, ◌*◌, ◌<◌, ◌≤◌, inl, inr, true, false, eqb, nat_lt, List, [], ◌∷◌}
 use Rattle.std.proofs.Common.{length, Contains, refl, ap, subst, arith}
 use Rattle.std.proofs.lemmas.Bool.{cases_Bool, cases_lt, and_parts, ltb-true, eqb-true, eqb-false}
-use Rattle.lk_types.specs.declared.vote.Vote.{Vote}
 use Rattle.lk_store_format.specs.Entries.{are_pairs_above}
 use Rattle.lk_store_format.specs.Values.{HeaderValue, StandingValue}
-use Rattle.lk_learner.specs.Learners.{Command, Pair}
+use Rattle.lk_learner.specs.Learners.{Pair}
 use Rattle.lk_learner.specs.Unpacking.{Unpacks}
 use Rattle.lk_state.specs.States.{WholeValue}
-use Rattle.lk_node.specs.Reaching.{IsDecidedAt, DecidesTo, LiesNear, AllLieNear}
+use Rattle.lk_node.specs.Reaching.{IsDecidedAt, LiesNear, AllLieNear}
 use Rattle.lk_node.proofs.Nodes.{cons_cases, contains_more}
 use Rattle.lk_recovery.specs.Revivals.{run_from, reached, MayRevive}
 

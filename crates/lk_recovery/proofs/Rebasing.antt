@@ -1,5 +1,5 @@
 -- What a rebase leaves of a node and its store: the new Base covers what the old entries covered, and fits as they did.
-use Rattle.std.proofs.Common.{◌≡◌, ℕ, ◌+◌, ◌*◌, ◌<◌, ◌≤◌, inl, inr, Bool, true, false, cond, List, [], ◌∷◌, ◌++◌, map}
+use Rattle.std.proofs.Common.{◌≡◌, ℕ, ◌+◌, ◌≤◌, inl, inr, Bool, true, false, cond, List, [], ◌∷◌, ◌++◌, map}
 use Rattle.std.proofs.Common.{length, take, Contains, refl, sym, ◌∙◌, ap, subst, subst₂, arith}
 use Rattle.std.specs.Prelude.{⊤}
 use Rattle.lk_types.specs.BallotValue.{BallotValue}
@@ -10,7 +10,6 @@ use Rattle.lk_messages.specs.declared.message.NodeMessage.{NodeMessage}
 use Rattle.lk_messages.specs.declared.message.NodeMessage.TheVariants as kinds
 use Rattle.lk_disk.specs.Disk.{Disk, contents}
 use Rattle.lk_disk.specs.Meters.{CallsSucceed}
-use Rattle.lk_disk.proofs.Devices.{passes_on}
 use Rattle.lk_store_format.specs.Standings.{greater, greatest_of, ballot_of, of_base, HasHeader, StandsFor}
 use Rattle.lk_store_format.specs.Entries.{plain}
 use Rattle.lk_store_format.specs.Values.{BaseValue}
@@ -21,7 +20,7 @@ use Rattle.lk_log.specs.Images.{IsLive}
 use Rattle.lk_log.specs.StoreValue.{StoreValue, pick, disks}
 use Rattle.lk_log.specs.Stores.{HoldsOn, HoldsEntries, FitsBase, next_base, KeepsOrIs}
 use Rattle.lk_log.specs.Rooms.{StaysWithin}
-use Rattle.lk_log.proofs.Room.{within_same, within_first}
+use Rattle.lk_log.proofs.Room.{within_same}
 use Rattle.lk_log.proofs.StoreLaws.{rising_stands, one_standing, one_header, of_every, plain_take, synced_live}
 use Rattle.lk_log.proofs.StoreLaws.{rebase_every}
 use Rattle.lk_state.specs.Meanings.{Meaning}
@@ -45,8 +44,8 @@ use Rattle.lk_node.specs.Reaching.{HoldsNear}
 use Rattle.lk_node.specs.BorneOut.{text}
 use Rattle.lk_node.proofs.Nodes.{contains_more, window_is}
 use Rattle.lk_recovery.proofs.Growing.{grown_base}
-use Rattle.lk_recovery.specs.Compacting.{AllStandAt, IsDue, IsSameStore}
-use Rattle.lk_recovery.specs.Rebased.{HasSwitchedFiles, StaysSafe, IsReadyToStep, LeavesDisks}
+use Rattle.lk_recovery.specs.Compacting.{AllStandAt, IsSameStore}
+use Rattle.lk_recovery.specs.Rebased.{HasSwitchedFiles, StaysSafe, LeavesDisks}
 use Rattle.lk_recovery.specs.Remembering.{ReplicaRemembers}
 use Rattle.lk_recovery.proofs.Images.{known_rest, grown_fit, held_fit, EntriesCover, entries_fit, cover_entries}
 use Rattle.lk_recovery.proofs.Images.{entries_cover, cover_disks, none_asked, cover_more}
@@ -359,54 +358,9 @@ module _ (m : Meaning) (old new : StoreValue) (same : IsSameStore old new) where
     header_is = subst (HasHeader ks) (sym same.header) h.header_is;
   }
 
-  abbrev pub same_remembers : (node : NodeValue) (genesis : Genesis) (n : ℕ) → ReplicaRemembers node old genesis n
-      → ReplicaRemembers node new genesis n
-  same_remembers node genesis n s = record {
-    whose = s.whose;
-    keeps = record {
-      entries = s.keeps.entries;
-      loose = s.keeps.loose;
-      holds = same_holds s.keeps.entries (plain s.keeps.loose) s.keeps.holds;
-      decided = s.keeps.decided;
-      header = s.keeps.header;
-      standing = s.keeps.standing;
-      stands = s.keeps.stands;
-      remembers = s.keeps.remembers;
-    };
-  }
-
-  pub same_stands : (node : NodeValue) (genesis : Genesis) (n : ℕ) (x : Holding) → ReplicaHolds m node old genesis n x
-      → ReplicaHolds m node new genesis n x
-  same_stands node genesis n x s = record {
-    whose = s.whose;
-    keeps = (same_remembers node genesis n (record { whose = s.whose; keeps = s.keeps })).keeps;
-    known = s.known;
-    held = s.held;
-    told = s.told;
-  }
-
-  pub same_fit : (h : History) (n : ℕ) → DisksFit m h n (disks old) → DisksFit m h n (disks new)
-  same_fit h n = subst (DisksFit m h n) (sym same_disks)
-
-  pub same_cover : (genesis : Genesis) (n : ℕ) (x : NodeMessage) → AllCover m genesis n (disks old) x
-      → AllCover m genesis n (disks new) x
-  same_cover genesis n x = subst (λ d. AllCover m genesis n d x) (sym same_disks)
-
   pub same_room : StaysWithin 49152 (disks old) (disks new)
   same_room = subst (λ d. StaysWithin 49152 (disks old) d) (sym same_disks)
       (within_same 49152 (disks old) (disks old) (λ s. refl))
-
-  pub same_node_fits : (node : NodeValue) (h : History) (n : ℕ)
-      → NodeFits m h n (ReplicaHolds m node old h.genesis n) (disks old)
-      → NodeFits m h n (ReplicaHolds m node new h.genesis n) (disks new)
-  same_node_fits node h n f =
-      record {
-        lawful = f.lawful;
-        holding = f.holding;
-        shown = same_stands node h.genesis n f.holding f.shown;
-        fits = f.fits;
-        left = same_fit h n f.left;
-      }
 
 -- a node that went on with nothing noted and nothing sent fits again
 pub goes_fits : (m : Meaning) (h : History) (n : ℕ) (node : NodeValue) (store : StoreValue) → IsLawful m h
@@ -470,69 +424,3 @@ leaves_safe m node old new safe = record {
   room = safe.room;
   grows = grown_base (disks old) (disks new) safe.room;
 }
-
--- ---- one that is made where it is due, once the store was asked how long its live file is
-
-module _ (m : Meaning) (node : NodeValue) (old mid : StoreValue) (same : IsSameStore old mid) where
-  pub ready_as_was : (Metered : Type 0) → (IsDue node old → ⊥) → (Metered → CallsSucceed old.meter mid.meter 0)
-      → length (contents mid.live_disk) < 131072 → IsReadyToStep m Metered node old node mid
-  ready_as_was Metered none calls short = record {
-    rebases = record { due = λ due. absurd (none due); rests = λ other. (refl, same) };
-    calls = λ metered. (0, record { due = λ due. absurd (none due); rests = λ other. refl }, calls metered);
-    short = short;
-    fits = λ h n f. same_node_fits m old mid same node h n f;
-    shows = λ genesis n held shown. (held, same_stands m old mid same node genesis n held shown);
-    remembers = λ genesis n shown. same_remembers m old mid same node genesis n shown;
-  }
-
-  pub leaves_as_was : LeavesDisks m (λ h. ⊤) 49152 node old (disks mid)
-  leaves_as_was = record {
-    ends = λ h n f heard. same_fit m old mid same h n f.left;
-    covers = λ genesis n x shown every. same_cover m old mid same genesis n x every;
-    room = same_room m old mid same;
-    grows = grown_base (disks old) (disks mid) (same_room m old mid same);
-  }
-
-  same_base : next_base mid (standing_of node) ≡ next_base old (standing_of node)
-  same_base = λ i. record {
-    generation = same.generation i + 1;
-    format = 2;
-    header = same.header i;
-    standing = standing_of node;
-  }
-
-  pub ready_by_rebase : (Metered : Type 0) (new : NodeValue) (after : StoreValue) → IsDue node old
-      → (Metered → CallsSucceed old.meter mid.meter 0) → HasSwitchedFiles m Metered node mid new after
-      → StaysSafe m node mid after → IsReadyToStep m Metered node old new after
-  ready_by_rebase Metered new after due calls done safe = record {
-    rebases = record {
-      due = λ _. record {
-        becomes = done.rebases.becomes;
-        generation = omega (arith, done.rebases.generation, same.generation);
-        writes = λ ks ls h. subst (λ (b : BaseValue). HoldsEntries after (Base b ∷ []) []) same_base
-            (done.rebases.writes ks ls (same_holds m old mid same ks ls h));
-      };
-      rests = λ other. absurd (other due);
-    };
-    calls = λ metered. (
-      rebase_calls,
-      record { due = λ _. refl; rests = λ other. absurd (other due) },
-      passes_on 0 (calls metered) rebase_calls (done.calls metered),
-    );
-    short = omega (arith, done.short);
-    fits = λ h n f. let between = same_node_fits m old mid same node h n f in
-        goes_fits m h n new after f.lawful (safe.fits h n (before_fits m h n node mid between)) (done.goes h n between);
-    shows = λ genesis n held shown. done.shows genesis n held (same_stands m old mid same node genesis n held shown);
-    remembers = λ genesis n shown. done.remembers genesis n (same_remembers m old mid same node genesis n shown);
-  }
-
-  pub leaves_by_rebase : (after : StoreValue) → StaysSafe m node mid after
-      → LeavesDisks m (λ h. ⊤) 49152 node old (disks after)
-  leaves_by_rebase after safe = record {
-    ends = λ h n f heard. safe.fits h n (before_fits m h n node mid (same_node_fits m old mid same node h n f));
-    covers = λ genesis n x shown every. safe.covers genesis n x
-        (same_remembers m old mid same node genesis n shown).keeps (same_cover m old mid same genesis n x every);
-    room = within_first 49152 (disks old) (disks mid) (disks after) (same_room m old mid same) safe.room;
-    grows = grown_base (disks old) (disks after)
-        (within_first 49152 (disks old) (disks mid) (disks after) (same_room m old mid same) safe.room);
-  }

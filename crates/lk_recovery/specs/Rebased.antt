@@ -21,7 +21,7 @@ use Rattle.lk_node.specs.Leavings.{header_of, DisksFit, AllCover}
 use Rattle.lk_node.specs.NodeValue.{NodeValue}
 use Rattle.lk_node.specs.NewBases.{standing_of, with_snapshot}
 use Rattle.lk_node_interface.specs.Faults.{IsStoreFault, fault_number, RefusedAfter, IfSpared}
-use Rattle.lk_recovery.specs.Compacting.{AllStandAt, AreSame, Rebases, RebasesWhereDue, CallsWhereDue}
+use Rattle.lk_recovery.specs.Compacting.{AllStandAt, AreSame, Rebases}
 use Rattle.lk_recovery.specs.Remembering.{ReplicaRemembers}
 use Rattle.lk_recovery.specs.Rooms.{GrowsFromBase}
 use Rattle.lk_node_interface.specs.declared.fault.ReplicaFault.{ReplicaFault}
@@ -93,21 +93,6 @@ pub record StaysAlive (node : NodeValue) (store : StoreValue) (new : NodeValue) 
   pub store_alive : after.failed ≡ false
   pub further : after.generation ≤ store.generation + 1
   pub runs : NothingToRun node → NothingToRun new
-
--- what was due was done, in the calls that this takes of a device that counts them (`Metered`), and the length of the
--- live file makes none due. The node fits each history that it fitted; it holds something if it did before, and the
--- store keeps what the acceptor holds if it did before
-pub record IsReadyToStep (m : Meaning) (Metered : Type 0) (node : NodeValue) (store : StoreValue) (new : NodeValue)
-    (after : StoreValue) : Type 0 where
-  pub rebases : RebasesWhereDue node store new after
-  pub calls : Metered → (k : ℕ) × CallsWhereDue node store k × CallsSucceed store.meter after.meter k
-  pub short : length (contents after.live_disk) < 131072
-  pub fits : (h : History) (n : ℕ) → NodeFits m h n (ReplicaHolds m node store h.genesis n) (disks store)
-      → NodeFits m h n (ReplicaHolds m new after h.genesis n) (disks after)
-  pub shows : (genesis : Genesis) (n : ℕ) (held : Holding) → ReplicaHolds m node store genesis n held
-      → (x : Holding) × ReplicaHolds m new after genesis n x
-  pub remembers : (genesis : Genesis) (n : ℕ) → ReplicaRemembers node store genesis n
-      → ReplicaRemembers new after genesis n
 
 -- ---- a call that may rebase
 

@@ -1,7 +1,6 @@
 // Rebasing: writing everything that a node holds as the Base of the other file, and when that is due.
-ghost use Rattle.std.specs.Prelude.{◌≡◌, ◌+◌, ◌≤◌, ◌<◌, length, List, false, ◌↔◌, IsTrue, OnOk, IfOk, IfErr, IsErrAnd};
-ghost use Rattle.std.specs.Prelude.{IsErrOf, ⊤};
-ghost use Rattle.lk_types.specs.Limits.{max_base, max_count};
+ghost use Rattle.std.specs.Prelude.{◌≡◌, ◌+◌, ◌≤◌, ◌<◌, length, List, false, ◌↔◌, IsTrue, OnOk, IfOk, IfErr, IsErrOf};
+ghost use Rattle.lk_types.specs.Limits.{max_count};
 ghost use Rattle.lk_disk.specs.Disk.{contents};
 ghost use Rattle.lk_store_format.specs.declared.stored.Stored.{Stored};
 ghost use Rattle.lk_log.specs.StoreValue.{disks};
@@ -9,8 +8,7 @@ ghost use Rattle.lk_log.specs.Stores.{HoldsEntries, KeepsItsFile, KeepsOrIs, nex
 ghost use Rattle.lk_node.specs.NewBases.{standing_of};
 ghost use Rattle.lk_node.specs.Reaching.{HoldsNear};
 ghost use Rattle.lk_recovery.specs.Compacting.{IsDue, IsSameStore};
-ghost use Rattle.lk_recovery.specs.Rebased.{MatchesBase, HasSwitchedFiles, StaysSafe, IsNotRebased, StaysAlive};
-ghost use Rattle.lk_recovery.specs.Rebased.{IsReadyToStep, LeavesDisks};
+ghost use Rattle.lk_recovery.specs.Rebased.{MatchesBase, HasSwitchedFiles, StaysSafe, IsNotRebased};
 ghost use Rattle.lk_node_interface.specs.Faults.{fault_number, CountsFailures, SucceedsOr, WantsNoMemory};
 
 use lk_disk::LogDisk;
@@ -75,31 +73,4 @@ pub fn is_rebase_due<M: Machine, D: LogDisk + Drop>(
 {
     let length = store.live_length()?;
     Ok(length >= 131_072 || node.is_snapshot_old())
-}
-
-/// Writes the node's Base if that is due, as `write_base` does.
-pub fn rebase_if_due<M: Machine, D: LogDisk + Drop>(
-    node: &mut Node<M>,
-    store: &mut Store<D>,
-) -> Result<(), ReplicaFault>
-    ensures done { D.is_honest
-        → OnOk result (IsReadyToStep M.meaning D.is_metered node.old store.old node.new store.new) }
-    ensures alive { OnOk result (StaysAlive node.old store.old node.new store.new) }
-    // What is on the disks, however it ends: neither file has grown, except up to the size of a Base.
-    ensures disks { D.is_honest → LeavesDisks M.meaning (λ h. ⊤) max_base node.old store.old (disks store.new) }
-    ensures halted { node.new.halted ≡ node.old.halted }
-    ensures format_stays { store.old.format ≡ 2 → store.new.format ≡ 2 }
-    ensures refused { IfErr result (IsNotRebased D.is_honest D.is_metered node.old store.old node.new store.new) }
-    // If a rebase is due at generation 2^48, it fails with `Failed`, even if it is out of memory, or with `Device` if
-    // the device fails.
-    ensures last { D.is_honest → max_count ≤ store.old.generation → IsDue node.old store.old
-        → IsErrAnd result (λ e. WantsNoMemory (fault_number e)) }
-    ensures cause { CountsFailures store.old.failures store.new.failures result }
-{
-    let due = is_rebase_due(node, store)?;
-    if !due {
-        return Ok(());
-    }
-    write_base(node, store)?;
-    Ok(())
 }

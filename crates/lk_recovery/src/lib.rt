@@ -8,7 +8,7 @@ mod relearning;
 mod renewing;
 mod restart;
 
-pub use base::{is_rebase_due, rebase_if_due, write_base};
+pub use base::{is_rebase_due, write_base};
 pub use fault::ReviveFault;
 pub use renewing::renew;
 pub use restart::{RestartedNode, restart_node};

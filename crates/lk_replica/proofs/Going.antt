@@ -1,24 +1,17 @@
 -- What a call leaves that steps, puts what the step writes, and then sends.
 use Rattle.std.proofs.Common.{◌≡◌, ℕ, Bool, true, false, List, [], ◌∷◌, ◌++◌, take, Contains, refl, sym, ◌∙◌, ap, subst}
-use Rattle.std.proofs.Common.{subst₂, arith, ◌⊎◌, inl, inr}
+use Rattle.std.proofs.Common.{arith, ◌⊎◌, inl, inr}
 use Rattle.std.specs.List.{AllByRecursion}
 use Rattle.lk_types.specs.declared.entry.Entry.{Entry}
 use Rattle.lk_types.specs.declared.entry.Entry.TheVariants.{Promise, Vote, Decided}
-use Rattle.std.specs.Prelude.{if◌then◌else◌}
-use Rattle.lk_disk.specs.Meters.{CallsSucceed}
-use Rattle.lk_disk.specs.declared.meter.Meter.{Meter}
-use Rattle.lk_log.specs.Causes.{put_calls, rebase_calls}
-use Rattle.lk_replica.specs.Taking.{write_calls}
 use Rattle.lk_messages.specs.Grammar.{Spells}
 use Rattle.lk_messages.specs.declared.message.NodeMessage.{NodeMessage}
 use Rattle.lk_messages.specs.declared.message.NodeMessage.TheVariants as kinds
-use Rattle.lk_store_format.specs.Standings.{with_all}
 use Rattle.lk_store_format.specs.Entries.{plain}
 use Rattle.lk_store_format.specs.Values.{HeaderValue, StandingValue}
-use Rattle.lk_store_format.specs.declared.stored.Stored.{Stored}
 use Rattle.lk_log.specs.StoreValue.{StoreValue, disks}
-use Rattle.lk_log.specs.Stores.{HoldsEntries, KeepsAtLeast}
-use Rattle.lk_log.proofs.StoreLaws.{all_stand, header_more, one_standing, plain_append}
+use Rattle.lk_log.specs.Stores.{KeepsAtLeast}
+use Rattle.lk_log.proofs.StoreLaws.{one_standing}
 use Rattle.lk_state.specs.Meanings.{Meaning}
 use Rattle.lk_agreement_laws.specs.Acceptors.{AcceptorState, Covers, CoversSent}
 use Rattle.lk_agreement_laws.specs.Datagrams.{said_by}
@@ -31,17 +24,16 @@ use Rattle.lk_node.specs.Calls.{InputFits, NodeFits, LeavesFit}
 use Rattle.lk_node.specs.Entries.{EntriesFit, Rests}
 use Rattle.lk_node.specs.Histories.{History, Genesis, Datagram, later}
 use Rattle.lk_node.specs.Holdings.{Holding}
-use Rattle.lk_node.specs.Keeping.{IsDecidedEntry, IsKnown, StoreKeeps, ReplicaHolds}
+use Rattle.lk_node.specs.Keeping.{IsKnown, StoreKeeps, ReplicaHolds}
 use Rattle.lk_node.specs.Reaching.{IsRestorable, StillRestoresNode}
 use Rattle.lk_node.specs.Leavings.{header_of, acceptor_of, paxos_of, DisksFit, AllCover}
 use Rattle.lk_replica.specs.Posts.{AreOf}
 use Rattle.lk_recovery.specs.Remembering.{ReplicaRemembers}
 use Rattle.lk_node.specs.NodeValue.{NodeValue}
-use Rattle.lk_node.specs.SafeSteps.{IsNeitherPromiseNorVote, with_entries, IsCoveredLetter, Binds, IsSafeStep}
+use Rattle.lk_node.specs.SafeSteps.{IsNeitherPromiseNorVote, IsCoveredLetter, Binds, IsSafeStep}
 use Rattle.lk_node.specs.SafeSteps.{ActsSafely}
 use Rattle.lk_recovery.proofs.Recoveries.{known_rests, held_fit, fit_disks, cover_disks, put_fits, put_covers}
-use Rattle.lk_node.proofs.Nodes.{take_contains, map_contains, letter_spelled, told_behind, told_synced}
-use Rattle.lk_replica.proofs.Standings.{entries_are, decided_leave, entries_behind}
+use Rattle.lk_node.proofs.Nodes.{take_contains, map_contains, letter_spelled, told_behind}
 use Rattle.lk_replica.proofs.Thinning.{batch_among}
 
 -- ---- lists
@@ -67,44 +59,6 @@ pub record KeepsToo (whose : HeaderValue) (new : StoreValue) (b : AcceptorState)
       → AllByRecursion (IsKnown w) keeps.loose
   pub told : (ahead : ℕ) (node now : NodeValue) → IsRestorable ahead standing loose node → StillRestoresNode node now es
       → IsRestorable ahead keeps.standing keeps.loose now
-
-pub put_keeps : (whose : HeaderValue) (old new : StoreValue) (a b : AcceptorState) (es : List Entry) (sync : Bool)
-    (k : StoreKeeps whose old a) → b ≡ with_entries es a → (sync ≡ false → AllByRecursion IsDecidedEntry es)
-    → (sync ≡ false → HoldsEntries new k.entries (plain k.loose ++ plain es))
-    → (sync ≡ true → HoldsEntries new (k.entries ++ (plain k.loose ++ plain es)) [])
-    → KeepsToo whose new b k.standing k.loose es sync
-put_keeps whose old new a b es false k written decided added synced = record {
-  keeps = record {
-    entries = k.entries;
-    loose = k.loose ++ es;
-    holds = subst (HoldsEntries new k.entries) (sym (plain_append k.loose es)) (added refl);
-    decided = all_append IsDecidedEntry k.loose es k.decided (decided refl);
-    header = k.header;
-    standing = k.standing;
-    stands = k.stands;
-    remembers = k.remembers ∙ sym (decided_leave es a (decided refl)) ∙ sym written;
-  };
-  known = λ w old' new'. all_append (IsKnown w) k.loose es old' (new' refl);
-  told = λ ahead node now t on. told_behind ahead k.standing k.loose es node now t on;
-}
-put_keeps whose old new a b es true k written decided added synced = record {
-  keeps = record {
-    entries = k.entries ++ plain (k.loose ++ es);
-    loose = [];
-    holds =
-        subst (λ (more : List Stored). HoldsEntries new (k.entries ++ more) []) (sym (plain_append k.loose es))
-        (synced refl);
-    decided = tt;
-    header = header_more k.entries (plain (k.loose ++ es)) whose k.header;
-    standing = with_all (k.loose ++ es) k.standing;
-    stands = all_stand k.entries k.standing (k.loose ++ es) k.stands;
-    remembers = entries_are k.standing (k.loose ++ es) ∙ ap (with_entries (k.loose ++ es)) k.remembers
-        ∙ entries_behind k.loose es a ∙ ap (with_entries es) (decided_leave k.loose a k.decided) ∙ sym written;
-  };
-  known = λ w old' new'. tt;
-  told = λ ahead node now t on. told_synced ahead k.standing (k.loose ++ es) now
-      (told_behind ahead k.standing k.loose es node now t on);
-}
 
 -- ---- what rests on what was sent
 
@@ -271,24 +225,6 @@ remembered m genesis n held node store shown = record { whose = shown.whose; kee
 module _ (m : Meaning) (genesis : Genesis) (n : ℕ) (node new : NodeValue) (old store : StoreValue)
     (Heard : History → Type 0) (out : OutboxValue)
     (shown : ReplicaRemembers node old genesis n) (g : ActsSafely m Heard node new nothing out) where
-  -- what was put the store keeps
-  pub step_keeps : (out.sync ≡ false → HoldsEntries store shown.keeps.entries (plain shown.keeps.loose
-      ++ plain out.entries))
-      → (out.sync ≡ true → HoldsEntries store (shown.keeps.entries
-      ++ (plain shown.keeps.loose ++ plain out.entries)) [])
-      → KeepsToo (header_of genesis n) store new.acceptor.state shown.keeps.standing
-      shown.keeps.loose out.entries out.sync
-  step_keeps added synced =
-      let b = bound m Heard node new out g in
-      put_keeps (header_of genesis n) old store node.acceptor.state new.acceptor.state out.entries out.sync shown.keeps
-      b.written b.unsynced added synced
-
-  -- and so it remembers
-  pub step_remembers : KeepsToo
-      (header_of genesis n) store new.acceptor.state shown.keeps.standing shown.keeps.loose out.entries out.sync
-      → ReplicaRemembers new store genesis n
-  step_remembers k = record { whose = (bound m Heard node new out g).header ∙ shown.whose; keeps = k.keeps }
-
   pub step_syncs : (k : StoreKeeps (header_of genesis n) store new.acceptor.state) (x : NodeMessage) (d : Datagram)
       → Contains (batch_of n out.letters) d → Spells (said_by genesis n x) d.bytes
       → AllCover m genesis n (disks store) x
@@ -309,18 +245,7 @@ module _ (m : Meaning) (genesis : Genesis) (n : ℕ) (node new : NodeValue) (old
   step_covers keeps x c =
       put_covers m genesis n old store shown.keeps.entries shown.keeps.loose out.entries x shown.keeps.holds keeps c
 
--- ---- the calls in which a step is written
-
-pub put_written : (m n : Meter) (o : OutboxValue) (entries : List Entry) (sync : Bool) → entries ≡ o.entries
-    → sync ≡ o.sync → o.rebase ≡ false → CallsSucceed m n (put_calls entries sync) → CallsSucceed m n (write_calls o)
-put_written m n o entries sync these said not_so calls =
-    subst (λ (b : Bool). CallsSucceed m n (if b then rebase_calls else put_calls o.entries o.sync)) (sym not_so)
-    (subst₂ (λ (es : List Entry) (b : Bool). CallsSucceed m n (put_calls es b)) these said calls)
-
-pub base_written : (m n : Meter) (o : OutboxValue) → o.rebase ≡ true → CallsSucceed m n rebase_calls
-    → CallsSucceed m n (write_calls o)
-base_written m n o so calls =
-    subst (λ (b : Bool). CallsSucceed m n (if b then rebase_calls else put_calls o.entries o.sync)) (sym so) calls
+-- ---- either
 
 -- an outbox asks for a rebase or not
 pub by_kind : {P : Type 0} (rebase : Bool) → (rebase ≡ true → P) → (rebase ≡ false → P) → P

@@ -1,7 +1,7 @@
 -- What a step of a group leaves, and the sync after it.
 use Rattle.std.proofs.Common.{◌≡◌, ℕ, ◌+◌, ◌<◌, ◌||◌, Bool, true, false, List, [], ◌∷◌, ◌++◌, length}
 use Rattle.std.proofs.Common.{length-append, map, Contains, inl, inr, Result, IsErrAnd, refl, sym, ◌∙◌, ap, subst}
-use Rattle.std.proofs.Common.{append_assoc, append-nil, arith}
+use Rattle.std.proofs.Common.{append_assoc, append-nil, arith, take}
 use Rattle.std.specs.Prelude.{⊤, IfErr, if◌then◌else◌}
 use Rattle.std.specs.List.{AllByRecursion}
 use Rattle.std.proofs.Math.Seq.{take-length}
@@ -41,7 +41,7 @@ use Rattle.lk_node_interface.specs.declared.input.Input.{Input}
 use Rattle.lk_node_interface.specs.declared.note.Note.{Note}
 use Rattle.lk_node.specs.Calls.{InputFits, NodeFits, LeavesFit}
 use Rattle.lk_node.specs.Entries.{Rests}
-use Rattle.lk_node.specs.Histories.{History, Genesis, Datagram}
+use Rattle.lk_node.specs.Histories.{History, Genesis, Datagram, later}
 use Rattle.lk_node.specs.Holdings.{Holding}
 use Rattle.lk_node.specs.Keeping.{IsDecidedEntry, IsKnown, StoreKeeps, ReplicaHolds}
 use Rattle.lk_node.specs.Leavings.{header_of, acceptor_of, DisksFit, AllCover}
@@ -51,7 +51,7 @@ use Rattle.lk_node.specs.Reaching.{EntriesLieNear, RestoresNode, StillRestoresNo
 use Rattle.lk_node.specs.BorneOut.{text}
 use Rattle.lk_node.specs.SafeSteps.{with_entries, ActsSafely}
 use Rattle.lk_node.proofs.Nodes.{with_all_behind, near_behind, told_behind, told_synced}
-use Rattle.lk_recovery.specs.Compacting.{IsDue, IsSameStore, Rebases}
+use Rattle.lk_recovery.specs.Compacting.{AreSame, IsDue, IsSameStore, Rebases}
 use Rattle.lk_replica.specs.Groups.{as_synced, as_released, needs_sync_after, StoreKeepsInGroup, RemembersInGroup}
 use Rattle.lk_replica.specs.Groups.{HoldsInGroup, GroupFits}
 use Rattle.lk_replica.specs.Groups.{GroupLeavesFit, GroupStays, SyncsIfNeeded, GroupValue, Adds}
@@ -527,6 +527,38 @@ settled_keeps whose old new true a synced k = record {
   remembers = entries_are k.standing k.loose ∙ k.remembers;
 }
 
+-- where nothing waited, a sync has left the files as they were
+pub unsynced_same : (needs_sync : Bool) (old new : StoreValue) → SyncsIfNeeded needs_sync old new → needs_sync ≡ false
+    → AreSame (disks old) (disks new)
+unsynced_same false old new same is s = ap (λ (k : StoreValue). disks k s) same
+unsynced_same true old new synced is s = absurd (cc is)
+
+pub same_on : (old mid new : StoreValue) (needs_sync : Bool) → (needs_sync ≡ false → AreSame (disks old) (disks mid))
+    → AreSame (disks mid) (disks new) → needs_sync ≡ false → AreSame (disks old) (disks new)
+same_on old mid new needs_sync first same none s = same s ∙ first none s
+
+-- what a sync of something that waited has made of what the node holds
+abbrev settled_shown : (m : Meaning) (node : NodeValue) (old new : StoreValue) (genesis : Genesis) (n : ℕ) (x : Holding)
+    → SyncsIfNeeded true old new → HoldsInGroup m node old true genesis n x → ReplicaHolds m node new genesis n x
+settled_shown m node old new genesis n x synced g =
+    let k = g.keeps in
+    record {
+      whose = g.whose;
+      keeps = record {
+        entries = k.entries ++ plain k.loose;
+        loose = [];
+        holds = synced k.entries (plain k.loose) k.holds;
+        decided = tt;
+        header = header_more k.entries (plain k.loose) (header_of genesis n) k.header;
+        standing = with_all k.loose k.standing;
+        stands = all_stand k.entries k.standing k.loose k.stands;
+        remembers = entries_are k.standing k.loose ∙ k.remembers;
+      };
+      known = tt;
+      held = g.held;
+      told = record { near = tt; tells = g.tells };
+    }
+
 -- the group is over: the node fits, in the history in which all that the group said is sent
 pub settled_fits : (m : Meaning) (h : History) (n : ℕ) (node : NodeValue) (old new : StoreValue) (needs_sync : Bool)
     → SyncsIfNeeded needs_sync old new → GroupFits m h n node old needs_sync
@@ -540,22 +572,7 @@ settled_fits m h n node old new true synced f =
     record {
       lawful = f.lawful;
       holding = f.holding;
-      shown = record {
-        whose = f.shown.whose;
-        keeps = record {
-          entries = k.entries ++ plain k.loose;
-          loose = [];
-          holds = synced k.entries (plain k.loose) k.holds;
-          decided = tt;
-          header = header_more k.entries (plain k.loose) (header_of h.genesis n) k.header;
-          standing = with_all k.loose k.standing;
-          stands = all_stand k.entries k.standing k.loose k.stands;
-          remembers = entries_are k.standing k.loose ∙ k.remembers;
-        };
-        known = tt;
-        held = f.shown.held;
-        told = record { near = tt; tells = f.shown.tells };
-      };
+      shown = settled_shown m node old new h.genesis n f.holding synced f.shown;
       fits = f.fits;
       left = fit_disks m h n new all (with_all k.loose k.standing) [] (synced k.entries (plain k.loose) k.holds)
           (all_stand k.entries k.standing k.loose k.stands) tt tt
@@ -667,6 +684,9 @@ module _ (m : Meaning) (h : History) (n : ℕ) (node stepped : NodeValue) (mid n
 
 -- ---- a store that was asked how long its live file is
 
+pub asked_same : (old new : StoreValue) → IsSameStore old new → AreSame (disks old) (disks new)
+asked_same old new same s i = pick (same.live i) (same.live_disk i) (same.other_disk i) s
+
 module _ (m : Meaning) (old new : StoreValue) (same : IsSameStore old new) where
   pub same_as_sent : (needs_sync : Bool) → disks (as_released needs_sync new) ≡ disks (as_released needs_sync old)
   same_as_sent true = λ i. pick (same.live i) (fully_synced (same.live_disk i)) (same.other_disk i)
@@ -755,40 +775,49 @@ one_told s ks fs loose more t u h stands k others =
     ∙ one_standing (fs ++ plain more) t (with_all more u) (subst (λ (es : List Stored). StandsFor es t) same stands)
     (all_stand fs u more others)
 
+not_waiting : {A : Type 0} → true ≡ false → A
+not_waiting both = absurd (cc both)
+
+-- what it holds as it will be, it holds as it is
+abbrev shown_as_gathered : (m : Meaning) (genesis own : Genesis) (k n : ℕ) (node : NodeValue) (s : StoreValue)
+    (x : Holding) → RemembersInGroup node s true own k → ReplicaHolds m node (as_synced s) genesis n x
+    → HoldsInGroup m node s true genesis n x
+shown_as_gathered m genesis own k n node s x r f =
+    let was = r.keeps in
+    let now = f.keeps in
+    record {
+      whose = f.whose;
+      keeps = record {
+        entries = was.entries;
+        loose = was.loose;
+        holds = was.holds;
+        decided = was.decided;
+        header = subst (HasHeader was.entries) (sym r.whose ∙ f.whose) was.header;
+        standing = was.standing;
+        stands = was.stands;
+        remembers = was.remembers;
+      };
+      known = λ none. not_waiting none;
+      held = f.held;
+      tells = subst (λ (z : StandingValue). RestoresNode genesis.alpha z node)
+          (one_told s now.entries was.entries now.loose was.loose now.standing was.standing now.holds now.stands
+          was.holds was.stands) f.told.tells;
+      near = λ none. not_waiting none;
+    }
+
 -- what fits as it will be fits as it is
 pub as_gathered : (m : Meaning) (genesis : Genesis) (k : ℕ) (node : NodeValue) (s : StoreValue) (needs_sync : Bool)
     → RemembersInGroup node s needs_sync genesis k → (h : History) (n : ℕ)
     → NodeFits m h n (ReplicaHolds m node (as_released needs_sync s) h.genesis n) (disks (as_released needs_sync s))
     → GroupFits m h n node s needs_sync
 as_gathered m genesis k node s false r h n f = (begin_fits m h n node s f).fits
-as_gathered m genesis k node s true r h n f =
-    let was = r.keeps in
-    let now = f.shown.keeps in
-    record {
-      lawful = f.lawful;
-      holding = f.holding;
-      shown = record {
-        whose = f.shown.whose;
-        keeps = record {
-          entries = was.entries;
-          loose = was.loose;
-          holds = was.holds;
-          decided = was.decided;
-          header = subst (HasHeader was.entries) (sym r.whose ∙ f.shown.whose) was.header;
-          standing = was.standing;
-          stands = was.stands;
-          remembers = was.remembers;
-        };
-        known = λ none. absurd (cc none);
-        held = f.shown.held;
-        tells = subst (λ (z : StandingValue). RestoresNode h.genesis.alpha z node)
-            (one_told s now.entries was.entries now.loose was.loose now.standing was.standing now.holds now.stands
-            was.holds was.stands) f.shown.told.tells;
-        near = λ none. absurd (cc none);
-      };
-      fits = f.fits;
-      left = f.left;
-    }
+as_gathered m genesis k node s true r h n f = record {
+  lawful = f.lawful;
+  holding = f.holding;
+  shown = shown_as_gathered m h.genesis genesis k n node s f.holding r f.shown;
+  fits = f.fits;
+  left = f.left;
+}
 
 pub goes_as_sent : (m : Meaning) (h : History) (n : ℕ) (node : NodeValue) (s : StoreValue) (needs_sync : Bool)
     (notes : List Note) (batch : List Datagram) → GroupLeavesFit m h n node s needs_sync notes batch
@@ -851,6 +880,41 @@ settled_node_fits m Metered old needs_sync new s genesis k r h n f =
     subst (λ (x : NodeValue). NodeFits m h n (ReplicaHolds m x new.store h.genesis n) (disks new.store)) (sym s.node)
     (settled_fits m h n old.node old.store new.store needs_sync s.syncs_all
     (as_gathered m genesis k old.node old.store needs_sync r h n f))
+
+-- and goes on with what it may send
+pub settled_goes : (m : Meaning) (Metered : Type 0) (old : ReplicaValue) (needs_sync : Bool) (new : ReplicaValue)
+    → IsGroupSynced Metered old needs_sync new → (genesis : Genesis) (k : ℕ)
+    → RemembersInGroup old.node old.store needs_sync genesis k → (h : History) (n : ℕ) (notes : List Note)
+    (batch : List Datagram)
+    → LeavesFit m h n (ReplicaHolds m old.node (as_released needs_sync old.store) h.genesis n)
+    (disks (as_released needs_sync old.store)) notes batch
+    → LeavesFit m h n (ReplicaHolds m new.node new.store h.genesis n) (disks new.store) notes batch
+settled_goes m Metered old needs_sync new s genesis k r h n notes batch f =
+    subst (λ (x : NodeValue). LeavesFit m h n (ReplicaHolds m x new.store h.genesis n) (disks new.store) notes batch)
+    (sym s.node) (by_waits needs_sync s.syncs_all r f)
+  where
+    by_waits : (w : Bool) → SyncsIfNeeded w old.store new.store → RemembersInGroup old.node old.store w genesis k
+        → LeavesFit m h n (ReplicaHolds m old.node (as_released w old.store) h.genesis n)
+        (disks (as_released w old.store)) notes batch
+        → LeavesFit m h n (ReplicaHolds m old.node new.store h.genesis n) (disks new.store) notes batch
+    by_waits false same r f =
+        subst (λ (x : StoreValue). LeavesFit m h n (ReplicaHolds m old.node x h.genesis n) (disks x) notes batch)
+        (sym same) f
+    by_waits true synced r f =
+        let x = shown_as_gathered m h.genesis genesis k n old.node old.store f.holding r f.shown in
+        let all = x.keeps.entries ++ plain x.keeps.loose in
+        record {
+          holding = f.holding;
+          shown = settled_shown m old.node old.store new.store h.genesis n f.holding synced x;
+          fits = f.fits;
+          may = f.may;
+          noted = f.noted;
+          left = λ j. fit_disks m (later h (take j batch)) n new.store all (with_all x.keeps.loose x.keeps.standing) []
+              (synced x.keeps.entries (plain x.keeps.loose) x.keeps.holds)
+              (all_stand x.keeps.entries x.keeps.standing x.keeps.loose x.keeps.stands) tt tt
+              (held_fit m (later h (take j batch)) n (as_synced old.store) all []
+              (as_synced_holds old.store x.keeps.entries (plain x.keeps.loose) x.keeps.holds) (f.left j));
+        }
 
 -- ---- which calls were made
 
@@ -968,15 +1032,25 @@ room_made m Metered node new old asked mid after needs_sync due same syncs_all f
           );
     }
 
+-- where nothing waited for a sync, nothing waits
+pub none_still : (Metered : Type 0) (node : NodeValue) (store : StoreValue) (new : NodeValue) (after : StoreValue)
+    (needs_sync still : Bool) → needs_sync ≡ false → MakesRoom Metered node store needs_sync new after still
+    → still ≡ false
+none_still Metered node store new after needs_sync false none room = refl
+none_still Metered node store new after needs_sync true none room =
+    let rests : IsDue node store → ⊥ = λ due. let so : true ≡ false = room.synced due in cc so in
+    let both : true ≡ false = room.rests rests ∙ none in
+    absurd (cc both)
+
 -- ---- what a refused call of a group leaves
 
-pub group_refused : {T : Type 0} (Honest Metered : Type 0) (r : Result T ReplicaFault) (f : ReplicaFault)
+pub group_refused : {T : Type 0} (Honest Metered File Left : Type 0) (r : Result T ReplicaFault) (f : ReplicaFault)
     (old : ReplicaValue) (node : NodeValue) (store : StoreValue)
     → IsErrAnd r (λ e. e ≡ f) → old.failed ≡ false → store.failures ≡ failures_by (fault_number f) old.store.failures
-    → IsCutShort Honest Metered 2 old.node old.store node store ⊤ ⊤ f
+    → IsCutShort Honest Metered 2 old.node old.store node store File Left f
     → IfErr r (λ e. IsRefusedInGroup Honest Metered old
     (record { node = node; store = store; failed = true }) (fault_number e))
-group_refused Honest Metered r f old node store is alive failures cut =
+group_refused Honest Metered File Left r f old node store is alive failures cut =
     let kept : IsRefusedInGroup Honest Metered old
     (record { node = node; store = store; failed = true }) (fault_number f) =
     record {

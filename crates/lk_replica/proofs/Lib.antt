@@ -9,4 +9,5 @@ mod Compactions
 mod Going
 pub mod Replicas
 mod Grouped
+mod Alone
 pub mod TakenTogether

@@ -1,9 +1,13 @@
 -- What a refused call of a replica leaves.
-use Rattle.std.proofs.Common.{◌≡◌, ℕ, ◌<◌, inl, inr, arith, true, false, Result, IsErrAnd, refl, sym, ap, ◌∙◌}
-use Rattle.std.specs.Prelude.{IfErr}
+use Rattle.std.proofs.Common.{◌≡◌, ℕ, ◌<◌, inl, inr, arith, Bool, true, false, Result, Ok, Err, IsErrAnd, refl, sym}
+use Rattle.std.proofs.Common.{ap, ◌∙◌, subst}
+use Rattle.std.specs.Prelude.{IfErr, IsErrOf, OnOk}
+use Rattle.lk_log.specs.declared.fault.StoreFault.{StoreFault}
+use Rattle.lk_log.specs.declared.fault.StoreFault.TheVariants as store
 use Rattle.lk_log.specs.StoreValue.{StoreValue, disks}
 use Rattle.lk_node.specs.NodeValue.{NodeValue}
-use Rattle.lk_node_interface.specs.Faults.{IsStoreFault, fault_number, failures_by, IsOfCalls, IsNumberOfCalls, IfSend}
+use Rattle.lk_node_interface.specs.Faults.{IsStoreFault, fault_number, fault_of, failures_by, IsOfCalls, IfSend}
+use Rattle.lk_node_interface.specs.Faults.{IsNumberOfCalls, WantsNoMemory}
 use Rattle.lk_replica.specs.Compacted.{IsNotCompacted}
 use Rattle.lk_recovery.specs.Compacting.{AreLeft, AreSame, KeepsOrSwitchesFiles}
 use Rattle.lk_recovery.specs.Rebased.{IsNotRebased}
@@ -11,7 +15,7 @@ use Rattle.lk_replica.specs.ReplicaValue.{ReplicaValue}
 use Rattle.lk_replica.specs.Taking.{IsCutShort, IsRefused}
 use Rattle.lk_node_interface.specs.declared.fault.ReplicaFault.{ReplicaFault}
 use Rattle.lk_node_interface.specs.declared.fault.ReplicaFault.TheVariants as fault
-use Rattle.lk_recovery.proofs.Recoveries.{err_as, failed_alone, spared_number}
+use Rattle.lk_recovery.proofs.Recoveries.{err_as, failed_alone, same_error, spared_number}
 
 -- a fault of a call, by its number
 pub number_of_calls : (f : ReplicaFault) → IsOfCalls f → IsNumberOfCalls (fault_number f)
@@ -59,7 +63,38 @@ refused_by_parts Honest Metered r f old node store is alive failures cut =
     err_as (λ e. IsRefused Honest Metered old (record { node = node; store = store; failed = true }) (fault_number e))
     r f is kept
 
+-- ---- by what a part of it answered
+
+pub errs_as : {T : Type 0} (r : Result T ReplicaFault) (f : ReplicaFault) (P : ReplicaFault → Type 0)
+    → IsErrAnd r (λ e. e ≡ f) → P f → IsErrAnd r P
+errs_as (Ok x) f P is p = absurd is
+errs_as (Err e) f P is p = subst P (sym is) p
+
+-- it did not succeed
+pub not_ok : {T : Type 0} (r : Result T ReplicaFault) (f : ReplicaFault) (P : Type 0) → IsErrAnd r (λ e. e ≡ f)
+    → OnOk r P
+not_ok (Ok x) f P is = absurd is
+not_ok (Err e) f P is = tt
+
+abbrev number_in : {T : Type 0} → Result T ReplicaFault → ℕ
+number_in (Ok x) = 0
+number_in (Err e) = fault_number e
+
+pub failed_number : {T : Type 0} (e : ReplicaFault) → IsErrOf {T = T} (Err e) fault.Failed
+    → WantsNoMemory (fault_number e)
+failed_number {T} e is = inr (ap (number_in {T = T}) is)
+
 -- ---- of a store
+
+-- a sync failed for the device, or after an earlier error
+pub sync_wants : (old : StoreValue) (f : StoreFault)
+    → (old.failed ≡ true → IsErrOf {T = Unit {0}} (Err f) store.Failed) → (old.failed ≡ false → f ≡ store.Device)
+    → WantsNoMemory (fault_number (fault_of f))
+sync_wants old f before otherwise = by_state old.failed refl
+  where
+    by_state : (b : Bool) → old.failed ≡ b → WantsNoMemory (fault_number (fault_of f))
+    by_state true is = inr (ap (λ z. fault_number (fault_of z)) (same_error f store.Failed (before is)))
+    by_state false is = inl (ap (λ z. fault_number (fault_of z)) (otherwise is))
 
 other_fault : (number : ℕ) → IsStoreFault number → 8 < number → (number ≡ 11 → ⊥) → ⊥
 other_fault number by more other =

@@ -32,6 +32,7 @@ use Rattle.lk_node.specs.NodeValue.{NodeValue}
 use Rattle.lk_replica.specs.Groups.{GroupValue, Adds, IsGroupCovered, KeepsGroup, LeavesInGroup}
 use Rattle.lk_replica.specs.Groups.{IsGathered, IsGroupSynced}
 use Rattle.lk_replica.specs.Groups.{IsRefusedInGroup, StepSaid, letters_of, GoesThrough, as_released, with_step}
+use Rattle.lk_replica.specs.Groups.{empty_group, group_that}
 use Rattle.lk_replica.specs.Groups.{gather_calls, RemembersInGroup, GroupStays}
 use Rattle.lk_replica.specs.Posts.{AreOf}
 use Rattle.lk_recovery.specs.Remembering.{ReplicaRemembers}
@@ -114,7 +115,7 @@ module _ (m : Meaning) (IsText : List ℕ → Type 0) where
       (between : StoreValue) (still : Bool) (steps : List StepSaid)
       → GathersAll m IsText node store needs_sync done mid between still steps
       → (i : Input) (new : NodeValue) (later : StoreValue) (one : GroupValue)
-      → IsGathered m IsText ⊤ mid between (record { notes = []; letters = []; needs_sync = still }) i new later one
+      → IsGathered m IsText ⊤ mid between (group_that still) i new later one
       → GathersAll m IsText node store needs_sync (done ++ i ∷ []) new later one.needs_sync
       (steps ++ (one.notes, one.letters) ∷ [])
   gathers_on node store needs_sync [] mid between still steps g i new later one e = (
@@ -124,11 +125,11 @@ module _ (m : Meaning) (IsText : List ℕ → Type 0) where
     [],
     ap (λ (l : List StepSaid). l ++ (one.notes, one.letters) ∷ []) g.3,
     subst (λ (k : NodeValue). IsGathered m IsText ⊤ k store
-        (record { notes = []; letters = []; needs_sync = needs_sync }) i new later one) g.0
+        (group_that needs_sync) i new later one) g.0
         (subst (λ (k : StoreValue). IsGathered m IsText ⊤ mid k
-        (record { notes = []; letters = []; needs_sync = needs_sync }) i new later one) g.1
+        (group_that needs_sync) i new later one) g.1
         (subst (λ (w : Bool). IsGathered m IsText ⊤ mid between
-        (record { notes = []; letters = []; needs_sync = w }) i new later one) g.2 e)),
+        (group_that w) i new later one) g.2 e)),
     (refl, refl, refl, refl),
   )
   gathers_on node store needs_sync (x ∷ done) mid between still steps g i new later one e = (
@@ -171,7 +172,7 @@ pub record TakenSoFar (m : Meaning) (IsText : List ℕ → Type 0) (begun_as : R
 
 -- nothing
 nothing_taken : (m : Meaning) (IsText : List ℕ → Type 0) (r : ReplicaValue) (all : List Input)
-    → TakenSoFar m IsText r all r (record { notes = []; letters = []; needs_sync = false }) [] all
+    → TakenSoFar m IsText r all r empty_group [] all
 nothing_taken m IsText r all = record {
   said = [];
   counted = refl;
@@ -197,15 +198,15 @@ nothing_taken m IsText r all = record {
     unfailed n (i ∷ is) q more goes = goes
 
 pub taken_nothing : (m : Meaning) (IsText : List ℕ → Type 0) (r : ReplicaValue) (all rest : List Input)
-    (g : GroupValue) (steps : List Step) → g ≡ record { notes = []; letters = []; needs_sync = false }
+    (g : GroupValue) (steps : List Step) → g ≡ empty_group
     → steps ≡ [] → rest ≡ all
     → TakenSoFar m IsText r all r g steps rest
 taken_nothing m IsText r all rest g steps none no_steps same =
     subst (λ (k : GroupValue). TakenSoFar m IsText r all r k steps rest) (sym none)
     (subst (λ (l : List Step). TakenSoFar m IsText r all r
-    (record { notes = []; letters = []; needs_sync = false }) l rest) (sym no_steps)
+    empty_group l rest) (sym no_steps)
     (subst (λ (l : List Input). TakenSoFar m IsText r all r
-    (record { notes = []; letters = []; needs_sync = false }) [] l) (sym same) (nothing_taken m IsText r all)))
+    empty_group [] l) (sym same) (nothing_taken m IsText r all)))
 
 -- one more
 module _ (m : Meaning) (IsText : List ℕ → Type 0) (begun_as : ReplicaValue) (all : List Input) (old now : ReplicaValue)
@@ -221,7 +222,7 @@ module _ (m : Meaning) (IsText : List ℕ → Type 0) (begun_as : ReplicaValue) 
     (exact : IsGathered m IsText ⊤ old.node old.store g i now.node now.store new)
     (notes : step.notes.items ≡ new.notes) (sends : step.sends ≡ length new.letters - length g.letters) where
   abbrev one : GroupValue
-  one = with_step exact.needs_sync exact.out (record { notes = []; letters = []; needs_sync = g.needs_sync })
+  one = with_step exact.needs_sync exact.out (group_that g.needs_sync)
 
   said_is : new.letters ≡ g.letters ++ one.letters
   said_is = ap (λ (k : GroupValue). k.letters) exact.adds
@@ -236,7 +237,7 @@ module _ (m : Meaning) (IsText : List ℕ → Type 0) (begun_as : ReplicaValue) 
   same_notes = append_cancel_left g.notes goes.notes one.notes (sym goes.noted ∙ noted_is)
 
   fresh : IsGathered m IsText ⊤ old.node old.store
-      (record { notes = []; letters = []; needs_sync = g.needs_sync }) i now.node now.store one
+      (group_that g.needs_sync) i now.node now.store one
   fresh = record {
     mid = exact.mid;
     between = exact.between;

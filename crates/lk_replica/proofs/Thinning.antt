@@ -6,7 +6,7 @@ use Rattle.std.proofs.lemmas.Bool.{false≢true}
 use Rattle.lk_disk.specs.Disk.{one_more}
 use Rattle.lk_agreement_laws.specs.Datagrams.{Datagram}
 use Rattle.lk_node_interface.specs.Letters.{LetterValue, datagram_of, batch_of}
-use Rattle.lk_replica.specs.Posts.{AreOf, Thins, SendsBut, more_by}
+use Rattle.lk_replica.specs.Posts.{AreOf, Thins, SendsBut, SendsWhether, TellsSends, more_by}
 use Rattle.lk_node.proofs.Nodes.{cons_cases, contains_more, map_contains, map_has}
 
 nil_push : (l : LetterValue) (kept : List LetterValue) → kept ≡ [] → kept ++ l ∷ [] ≡ l ∷ []
@@ -77,41 +77,41 @@ pub take_one_more : (letters : List LetterValue) (i : ℕ) (x : LetterValue) →
 take_one_more letters i x lt is = let e : i + 1 ≡ suc i = omega arith in
     ap (λ (k : ℕ). take k letters) e ∙ take_suc letters i x lt is
 
--- what stands once the first letters were tried: how many were lost, and whether any was
-pub record Delivers (Telling : Type 0) (front old new : List LetterValue) (before now : ℕ) (lost : Bool) : Type 0 where
+-- what stands once the first letters were tried: how many were lost, and whether none was
+pub record Delivers (Telling : Type 0) (front old new : List LetterValue) (before now : ℕ) (all : Bool) : Type 0 where
   pub count : ℕ
   pub sends : Telling → SendsBut count front old new
   pub counted : now ≡ more_by count before
-  pub none : lost ≡ false → count ≡ 0
-  pub some : lost ≡ true → count ≢ 0
+  pub none : all ≡ true → count ≡ 0
+  pub some : all ≡ false → count ≢ 0
 
-pub delivers_none : (Telling : Type 0) (old : List LetterValue) (before : ℕ) (lost : Bool) → lost ≡ false
-    → Delivers Telling [] old old before before lost
-delivers_none Telling old before lost is = record {
+pub delivers_none : (Telling : Type 0) (old : List LetterValue) (before : ℕ) (all : Bool) → all ≡ true
+    → Delivers Telling [] old old before before all
+delivers_none Telling old before all is = record {
   count = 0;
   sends = λ telling. ([], (refl, refl), sym (append-nil old));
   counted = refl;
   none = λ e. refl;
-  some = λ e. absurd (false≢true (sym is ∙ e));
+  some = λ e. absurd (false≢true (sym e ∙ is));
 }
 
 module _ (Telling : Type 0) (letters : List LetterValue) (i : ℕ) (x : LetterValue) (old new newer : List LetterValue)
-    (before mid now : ℕ) (was lost : Bool) (more : take (i + 1) letters ≡ take i letters ++ x ∷ []) where
-  pub after_lost : lost ≡ true → Delivers Telling (take i letters) old new before mid was → (Telling → newer ≡ new)
-      → now ≡ one_more mid → Delivers Telling (take (i + 1) letters) old newer before now lost
+    (before mid now : ℕ) (was all : Bool) (more : take (i + 1) letters ≡ take i letters ++ x ∷ []) where
+  pub after_lost : all ≡ false → Delivers Telling (take i letters) old new before mid was → (Telling → newer ≡ new)
+      → now ≡ one_more mid → Delivers Telling (take (i + 1) letters) old newer before now all
   after_lost is d e counted = record {
     count = d.count + 1;
     sends = λ telling. subst (λ (front : List LetterValue). SendsBut (d.count + 1) front old newer) (sym more)
         (sends_lost d.count (take i letters) old new newer x (d.sends telling) (e telling));
     counted = let k : d.count + 1 ≡ suc d.count = omega arith in
         counted ∙ ap one_more d.counted ∙ ap (λ (j : ℕ). more_by j before) (sym k);
-    none = λ none. absurd (false≢true (sym none ∙ is));
+    none = λ none. absurd (false≢true (sym is ∙ none));
     some = λ _ none. omega (arith, none);
   }
 
-  pub after_sent : lost ≡ was → Delivers Telling (take i letters) old new before mid was
+  pub after_sent : all ≡ was → Delivers Telling (take i letters) old new before mid was
       → (Telling → newer ≡ new ++ x ∷ []) → now ≡ mid
-      → Delivers Telling (take (i + 1) letters) old newer before now lost
+      → Delivers Telling (take (i + 1) letters) old newer before now all
   after_sent is d e counted = record {
     count = d.count;
     sends = λ telling. subst (λ (front : List LetterValue). SendsBut d.count front old newer) (sym more)
@@ -121,10 +121,17 @@ module _ (Telling : Type 0) (letters : List LetterValue) (i : ℕ) (x : LetterVa
     some = λ some. d.some (sym is ∙ some);
   }
 
--- all were sent
-pub all_sent : (Telling : Type 0) (letters front old new : List LetterValue) (before now : ℕ) (lost : Bool)
-    → front ≡ letters → lost ≡ false → Delivers Telling front old new before now lost → Telling → new ≡ old ++ letters
-all_sent Telling letters front old new before now lost whole is d telling =
-    let s = d.sends telling in
-    s.2 ∙ ap (λ (k : List LetterValue). old ++ k)
-    (none_lost front s.0 (subst (λ (j : ℕ). Thins front j s.0) (d.none is) s.1) ∙ whole)
+-- so once all were tried
+module _ (Telling : Type 0) (letters front old new : List LetterValue) (before now : ℕ) (whole : front ≡ letters) where
+  pub sends_whether : (all : Bool) → Delivers Telling front old new before now all → Telling
+      → SendsWhether all letters old new before now
+  sends_whether true d telling =
+      let s = d.sends telling in
+      s.2 ∙ ap (λ (k : List LetterValue). old ++ k)
+      (none_lost front s.0 (subst (λ (j : ℕ). Thins front j s.0) (d.none refl) s.1) ∙ whole)
+  sends_whether false d telling =
+      (d.count, subst (λ (l : List LetterValue). SendsBut d.count l old new) whole (d.sends telling), d.counted)
+
+  pub tells_sends : (all : Bool) → Delivers Telling front old new before now all → TellsSends all before now
+  tells_sends true d = d.counted ∙ ap (λ (k : ℕ). more_by k before) (d.none refl)
+  tells_sends false d = (d.count, d.some refl, d.counted)

@@ -1,6 +1,6 @@
 -- A node in the middle of a group: it has taken some inputs and written their entries unsynced, and nothing of what it
 -- said is sent.
-use Rattle.std.specs.Prelude.{◌≡◌, ℕ, ◌+◌, ◌<◌, ◌||◌, Bool, true, false, if◌then◌else◌, List, [], ◌∷◌, ◌++◌}
+use Rattle.std.specs.Prelude.{◌≡◌, ℕ, ◌+◌, ◌<◌, ◌||◌, Bool, true, false, not, if◌then◌else◌, List, [], ◌∷◌, ◌++◌}
 use Rattle.std.specs.Prelude.{length, Contains}
 use Rattle.std.specs.List.{AllByRecursion}
 use Rattle.lk_types.specs.declared.entry.Entry.{Entry}
@@ -14,7 +14,7 @@ use Rattle.lk_store_format.specs.Values.{HeaderValue, StandingValue}
 use Rattle.lk_store_format.specs.declared.stored.Stored.{Stored}
 use Rattle.lk_log.specs.Rooms.{StaysWithin}
 use Rattle.lk_log.specs.StoreValue.{StoreValue, disks}
-use Rattle.lk_log.specs.Stores.{HoldsEntries}
+use Rattle.lk_log.specs.Stores.{HoldsEntries, KeepsItsFile}
 use Rattle.lk_state.specs.Meanings.{Meaning}
 use Rattle.lk_messages.specs.Grammar.{Spells}
 use Rattle.lk_agreement_laws.specs.Acceptors.{AcceptorState}
@@ -123,11 +123,21 @@ abbrev pub SyncsIfNeeded : Bool → StoreValue → StoreValue → Type 0
 SyncsIfNeeded true old new = (ks ls : List Stored) → HoldsEntries old ks ls → HoldsEntries new (ks ++ ls) []
 SyncsIfNeeded false old new = new ≡ old
 
--- the notes and the letters of a group so far, in order, and whether something that it has written waits for a sync
+-- the notes and the letters of a group so far, in order, whether something that it has written waits for a sync, and
+-- whether something may wait for a flush: not after a Base, which is synced
 pub record GroupValue : Type 0 where
   pub notes : List Note
   pub letters : List LetterValue
   pub needs_sync : Bool
+  pub needs_flush : Bool
+
+-- a group that begins
+abbrev pub empty_group : GroupValue
+empty_group = record { notes = []; letters = []; needs_sync = false; needs_flush = false }
+
+-- a group that has taken nothing, while something waits for a sync or not
+abbrev pub group_that : Bool → GroupValue
+group_that needs_sync = record empty_group { needs_sync = needs_sync }
 
 -- the group with one more step
 abbrev pub with_step : Bool → OutboxValue → GroupValue → GroupValue
@@ -136,6 +146,7 @@ with_step needs_sync out g =
       notes = g.notes ++ out.notes;
       letters = g.letters ++ out.letters;
       needs_sync = needs_sync_after needs_sync out;
+      needs_flush = not out.rebase;
     }
 
 -- a step has added these notes and letters
@@ -244,8 +255,8 @@ gather_calls needs_sync out = if out.rebase then sync_calls needs_sync + rebase_
 abbrev pub Appends : StoreValue → OutboxValue → StoreValue → Type 0
 Appends old out new = (ks ls : List Stored) → HoldsEntries old ks ls → HoldsEntries new ks (ls ++ plain out.entries)
 
--- a step was taken, and what its outbox says is written, unsynced, by which neither file grows by more than a step; in
--- the calls that this takes of a device that counts them (`Metered`)
+-- a step was taken, and what its outbox says is written, unsynced, by which neither file grows by more than a step, and
+-- the same one stays live; in the calls that this takes of a device that counts them (`Metered`)
 pub record StepsToFile (m : Meaning) (IsText : List ℕ → Type 0) (Metered : Type 0) (node : NodeValue)
     (store : StoreValue) (needs_sync : Bool) (i : Input) (out : OutboxValue) (new : NodeValue)
     (after : StoreValue) : Type 0 where
@@ -254,6 +265,7 @@ pub record StepsToFile (m : Meaning) (IsText : List ℕ → Type 0) (Metered : T
   pub rebases : out.rebase ≡ true → Rebases stepped store new after
   pub puts : out.rebase ≡ false → (new ≡ stepped) × Appends store out after
   pub grows : out.rebase ≡ false → GrowsByStep (disks store) (disks after)
+  pub file : out.rebase ≡ false → KeepsItsFile store after
   pub calls : Metered → CallsSucceed store.meter after.meter (gather_calls needs_sync out)
 
 -- One more input of a group was taken: room was made for it, a step was taken, and its outbox is written, unsynced; its

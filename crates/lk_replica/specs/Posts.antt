@@ -48,10 +48,23 @@ abbrev pub SendsAs : {T E : Type 0} → Result T E → List LetterValue → (old
 SendsAs (Ok _) letters old new before now = new ≡ old ++ letters
 SendsAs (Err _) letters old new before now = SendsSome letters old new before now
 
+-- the same, by whether all of them were sent
+abbrev pub SendsWhether : Bool → List LetterValue → (old new : List LetterValue) → (before now : ℕ) → Type 0
+SendsWhether true letters old new before now = new ≡ old ++ letters
+SendsWhether false letters old new before now = SendsSome letters old new before now
+
 -- whether all of them were sent, by the count of failures: if some were not, that many sends have failed
 abbrev pub TellsSends : Bool → (before now : ℕ) → Type 0
 TellsSends true before now = now ≡ before
 TellsSends false before now = (lost : ℕ) × (lost ≢ 0) × (now ≡ more_by lost before)
+
+-- These letters were given to a post in order, each once, and nothing else was. `all` tells whether all of them were
+-- sent, by its count of failures; and a post that tells what it has sent has sent all but as many as sends failed.
+pub record IsDelivered {P : Type 0} (Carries : P → LetterValue → Bool → P → Type 0) (sent : P → List LetterValue)
+    (failures : P → ℕ) (Observable : Type 0) (letters : List LetterValue) (all : Bool) (old new : P) : Type 0 where
+  pub carried : CarriesAll Carries old letters new
+  pub sends : Observable → SendsWhether all letters (sent old) (sent new) (failures old) (failures new)
+  pub tells : TellsSends all (failures old) (failures new)
 
 -- an error of this number has given nothing to the post, except 15, after which some of the sends have failed
 pub record RefusesSends {P : Type 0} (number : ℕ) (old new : P) (before now : ℕ) : Type 0 where

@@ -1,6 +1,6 @@
 -- What a call of `take` has done, exactly, and what it leaves on the disks, even after an error.
 use Rattle.std.specs.Prelude.{◌≡◌, ℕ, ◌+◌, ◌<◌, ◌≤◌, ⊤, true, false, if◌then◌else◌, Option, Result, Ok, Err, List, []}
-use Rattle.std.specs.Prelude.{◌++◌, length, Contains, Vec}
+use Rattle.std.specs.Prelude.{◌++◌, Bool, Contains, Vec, IfErr, IsErrAnd, OnOk}
 use Rattle.std.specs.Global.{Global}
 use Rattle.lk_disk.specs.Meters.{CallsSucceed}
 use Rattle.lk_types.specs.Limits.{max_count}
@@ -8,13 +8,10 @@ use Rattle.lk_store_format.specs.Entries.{plain}
 use Rattle.lk_store_format.specs.declared.stored.Stored.{Stored}
 use Rattle.lk_log.specs.Causes.{put_calls, rebase_calls}
 use Rattle.lk_log.specs.StoreValue.{StoreValue, disks}
-use Rattle.lk_log.specs.Stores.{HoldsEntries}
+use Rattle.lk_log.specs.Stores.{HoldsEntries, KeepsItsFile}
 use Rattle.lk_state.specs.Meanings.{Meaning}
-use Rattle.lk_disk.specs.Disk.{Disk, contents}
-use Rattle.lk_disk.specs.declared.device.Side.{Side}
 use Rattle.lk_agreement_laws.specs.Datagrams.{NodeMessage, said_by}
 use Rattle.lk_messages.specs.Grammar.{Spells}
-use Rattle.lk_log.specs.Rooms.{StaysWithin}
 use Rattle.lk_node_interface.specs.Letters.{LetterValue, batch_of}
 use Rattle.lk_node_interface.specs.Outboxes.{OutboxValue}
 use Rattle.lk_node_interface.specs.declared.input.Input.{Input}
@@ -23,16 +20,15 @@ use Rattle.lk_node.specs.Calls.{heard_by, InputFits, NodeFits, LeavesFit}
 use Rattle.lk_node.specs.Executing.{NothingToRun}
 use Rattle.lk_node.specs.Histories.{Datagram, History, Genesis}
 use Rattle.lk_node.specs.Keeping.{ReplicaHolds}
-use Rattle.lk_node.specs.Leavings.{DisksFit, AllCover}
+use Rattle.lk_node.specs.Leavings.{AllCover}
 use Rattle.lk_recovery.specs.Remembering.{ReplicaRemembers}
-use Rattle.lk_recovery.specs.Rooms.{GrowsByStep, GrowsFromBase}
+use Rattle.lk_recovery.specs.Rooms.{GrowsByStep}
 use Rattle.lk_recovery.specs.Compacting.{AreLeft, IsDue, KeepsOrSwitchesFiles, Rebases, RebasesWhereDue, CallsWhereDue}
 use Rattle.lk_node_interface.specs.Faults.{fault_number, failures_by, RefusedAfter, IfGoesOn, IfSend, IfSpared}
 use Rattle.lk_node_interface.specs.Faults.{IsOfCalls}
 use Rattle.lk_node_interface.specs.Faults.{IsNumberOfCalls, WantsNoMemory}
 use Rattle.lk_node_interface.specs.declared.fault.ReplicaFault.{ReplicaFault}
 use Rattle.lk_node_interface.specs.declared.fault.ReplicaFault.TheVariants as fault
-use Rattle.lk_replica.specs.Posts.{AreOf}
 use Rattle.lk_replica.specs.ReplicaValue.{ReplicaValue}
 use Rattle.lk_node.specs.NodeValue.{NodeValue}
 use Rattle.lk_node.specs.Steps.{Steps}
@@ -59,14 +55,6 @@ write_calls out = if out.rebase then rebase_calls else put_calls out.entries out
 abbrev pub CallsOfStep : NodeValue → StoreValue → OutboxValue → StoreValue → Type 0
 CallsOfStep node store out new =
     (k : ℕ) × CallsWhereDue node store k × CallsSucceed store.meter new.meter (k + write_calls out)
-
--- a step was taken, and its outbox is written, in the calls that this takes of a device that counts them (`Metered`)
-pub record StepsToDisk (m : Meaning) (IsText : List ℕ → Type 0) (Metered : Type 0) (node : NodeValue)
-    (store : StoreValue) (i : Input) (out : OutboxValue) (new : NodeValue) (after : StoreValue) : Type 0 where
-  pub stepped : NodeValue
-  pub steps : Steps m IsText node i stepped out
-  pub writes : Writes stepped store out new after
-  pub calls : Metered → CallsSucceed store.meter after.meter (write_calls out)
 
 -- the replica has rebased if that was due, taken a step, written the outbox, returned its notes, and sent its letters,
 -- and goes on. `Metered` says that its device counts its calls
@@ -137,16 +125,6 @@ pub record StaysUp (Honest : Type 0) (old new : ReplicaValue) : Type 0 where
   pub remembers : Honest → (genesis : Genesis) (n : ℕ) → ReplicaRemembers old.node old.store genesis n
       → ReplicaRemembers new.node new.store genesis n
 
--- a node and its store go on: the store has not failed, the node has not halted, it has executed what it could if it
--- had before, and if the store kept what the acceptor held, it still does
-pub record StepsOn (Honest : Type 0) (node : NodeValue) (store : StoreValue) (new : NodeValue)
-    (after : StoreValue) : Type 0 where
-  pub store_alive : after.failed ≡ false
-  pub awake : new.halted ≡ false
-  pub runs : NothingToRun node → NothingToRun new
-  pub remembers : Honest → (genesis : Genesis) (n : ℕ) → ReplicaRemembers node store genesis n
-      → ReplicaRemembers new after genesis n
-
 -- a part of a call failed with this, which rebases at most this often, and more than once only if a rebase was due; it
 -- leaves the store with such a file, and, if no call of the device has failed, the files like this
 pub record IsCutShort (Honest Metered : Type 0) (most : ℕ) (node : NodeValue) (store : StoreValue) (new : NodeValue)
@@ -161,27 +139,26 @@ pub record IsCutShort (Honest Metered : Type 0) (most : ℕ) (node : NodeValue) 
   pub halts : e ≡ fault.Halted → new.halted ≡ true
   pub awake : node.halted ≡ false → (fault_number e ≡ 14 → ⊥) → new.halted ≡ false
 
--- What a step that is done keeps. goes: in each history that contains the input and that its node fits, the rules of
--- Paxos permitted its notes and letters, and the node still fits. syncs: its letters are covered by what is synced.
-pub record StepKeeps (m : Meaning) (Heard : History → Type 0) (node : NodeValue) (store : StoreValue)
-    (out : OutboxValue) (new : NodeValue) (after : StoreValue) : Type 0 where
-  pub goes : (h : History) (n : ℕ) → NodeFits m h n (ReplicaHolds m node store h.genesis n) (disks store) → Heard h
-      → (sent : List LetterValue) → AreOf sent out.letters
-      → LeavesFit m h n (ReplicaHolds m new after h.genesis n) (disks after) out.notes (batch_of n sent)
-  pub syncs : (genesis : Genesis) (n : ℕ) (x : NodeMessage) → ReplicaRemembers node store genesis n
-      → (d : Datagram) → Contains (batch_of n out.letters) d → Spells (said_by genesis n x) d.bytes
-      → AllCover m genesis n (disks after) x
+-- ---- a group of one
 
--- what a step alone leaves on the disks, as `LeavesDisks` of a call, but with a premise for the lengths: the files are
--- no longer than `most` bytes if the live one was shorter than the length at which a rebase is due
-pub record StepLeavesDisks (m : Meaning) (Heard : History → Type 0) (most : ℕ) (node : NodeValue) (store : StoreValue)
-    (after : Side → Disk) : Type 0 where
-  pub ends : (h : History) (n : ℕ) → NodeFits m h n (ReplicaHolds m node store h.genesis n) (disks store)
-      → Heard h → DisksFit m h n after
-  pub covers : (genesis : Genesis) (n : ℕ) (x : NodeMessage) → ReplicaRemembers node store genesis n
-      → AllCover m genesis n (disks store) x → AllCover m genesis n after x
-  pub room : length (contents store.live_disk) < 131072 → StaysWithin most (disks store) after
-  pub grows : GrowsFromBase (disks store) after
+-- A group begins with this call: the node has executed what it could, or the call fails as one of `take` does; and if a
+-- rebase is due at generation 2^48, it fails, and not for want of memory.
+pub record BeginsGroup {T : Type 0} (Honest Metered : Type 0) (old new : ReplicaValue)
+    (r : Result T ReplicaFault) : Type 0 where
+  pub runs : OnOk r (NothingToRun new.node)
+  pub refused : IfErr r (λ e. IsRefused Honest Metered old new (fault_number e))
+  pub last : Honest → max_count ≤ old.store.generation → IsDue old.node old.store
+      → IsErrAnd r (λ e. WantsNoMemory (fault_number e))
+
+-- A group ends with this call, of a replica that had not failed: the node is unchanged, and the same file is live. The
+-- store goes on, or the call fails with `Device`, but only if something waits for a sync or a flush.
+pub record EndsGroup {T : Type 0} (waits : Bool) (old new : ReplicaValue) (r : Result T ReplicaFault) : Type 0 where
+  pub node : new.node ≡ old.node
+  pub file : KeepsItsFile old.store new.store
+  pub store_alive : OnOk r (new.store.failed ≡ false)
+  pub refused : IfErr r (λ e. (fault_number e ≡ 7) × (waits ≡ true))
+
+-- ---- as a world sees it
 
 -- a rebase is due and no generation is left for it: so it fails, and not for want of memory
 abbrev pub IsOfLast : ReplicaValue → ℕ → Type 0

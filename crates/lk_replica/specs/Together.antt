@@ -13,7 +13,7 @@ use Rattle.lk_node.specs.Calls.{heard_by, InputFits, NodeFits, LeavesFit}
 use Rattle.lk_node.specs.Histories.{History, Genesis, Datagram}
 use Rattle.lk_node.specs.Holdings.{Holding}
 use Rattle.lk_node.specs.NodeValue.{NodeValue}
-use Rattle.lk_replica.specs.Groups.{GroupValue, IsGathered, IsRefusedInGroup, IsGroupSynced, StepSaid}
+use Rattle.lk_replica.specs.Groups.{GroupValue, IsGathered, IsRefusedInGroup, IsGroupSynced, StepSaid, group_that}
 use Rattle.lk_replica.specs.ReplicaValue.{ReplicaValue}
 use Rattle.lk_recovery.specs.Rooms.{max_after}
 use Rattle.lk_replica.specs.declared.taken.Step.{Step}
@@ -72,7 +72,7 @@ GathersAll m IsText node store needs_sync [] new after still steps =
 GathersAll m IsText node store needs_sync (i ∷ is) new after still steps =
     (mid : NodeValue) × (between : StoreValue) × (one : GroupValue) × (rest : List StepSaid)
     × (steps ≡ (one.notes, one.letters) ∷ rest)
-    × IsGathered m IsText ⊤ node store (record { notes = []; letters = []; needs_sync = needs_sync }) i mid between one
+    × IsGathered m IsText ⊤ node store (group_that needs_sync) i mid between one
     × GathersAll m IsText mid between one.needs_sync is new after still rest
 
 -- the replica took these inputs, after which it was in this state

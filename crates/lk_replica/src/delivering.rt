@@ -1,7 +1,7 @@
 // Sends the letters of a step or a group. It has no access to a device.
-ghost use Rattle.std.specs.Prelude.{◌≡◌, ◌≢◌, ℕ, true, false, [], ◌∷◌, ◌++◌, OnOk, OnErr};
+ghost use Rattle.std.specs.Prelude.{◌≡◌, true, false, [], ◌∷◌, ◌++◌};
 ghost use Rattle.lk_disk.specs.Disk.{one_more};
-ghost use Rattle.lk_replica.specs.Posts.{CarriesAll, SendsSome, more_by};
+ghost use Rattle.lk_replica.specs.Posts.{IsDelivered};
 
 use lk_node_interface::{Letter, Post, SendFault};
 
@@ -19,26 +19,16 @@ fn is_sent<P: Post>(letter: &Letter, post: &mut P) -> bool
     }
 }
 
-/// Sends the letters in order. It tries each of them, and fails at the end if any was lost: a failed send loses that
-/// letter alone.
-pub fn deliver<P: Post>(letters: &[Letter], post: &mut P) -> Result<(), SendFault>
-    ensures carries { CarriesAll P.Carries post.old letters.now post.new }
-    ensures all { P.is_observable → OnOk result (P.sent post.new ≡ P.sent post.old ++ letters.now) }
-    ensures some { P.is_observable
-        → OnErr result (SendsSome letters.now (P.sent post.old) (P.sent post.new)
-        (P.failures post.old) (P.failures post.new)) }
-    ensures cause { OnOk result (P.failures post.new ≡ P.failures post.old) }
-    ensures rises { OnErr result
-        ((lost : ℕ) × (lost ≢ 0) × (P.failures post.new ≡ more_by lost (P.failures post.old))) }
+/// Sends the letters in order, and tries each of them: a failed send loses that letter alone. Returns whether all were
+/// sent.
+pub fn deliver<P: Post>(letters: &[Letter], post: &mut P) -> bool
+    ensures { IsDelivered P.Carries P.sent P.failures P.is_observable letters.now result post.old post.new }
 {
-    let mut lost = false;
+    let mut all = true;
     for letter in letters {
         if !is_sent(letter, post) {
-            lost = true;
+            all = false;
         }
     }
-    if lost {
-        return Err(SendFault);
-    }
-    Ok(())
+    all
 }

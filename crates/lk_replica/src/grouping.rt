@@ -1,7 +1,7 @@
 // Steps of a group: their entries are written unsynced, and synced once before their letters are sent.
-ghost use Rattle.std.specs.Prelude.{◌≡◌, ℕ, ◌-◌, ◌<◌, List, [], length, true, false, Contains, IfOk, IfErr, OnOk};
-ghost use Rattle.std.specs.Prelude.{OnErr, IsErrOf, ⊤};
-ghost use Rattle.lk_types.specs.Limits.{max_base};
+ghost use Rattle.std.specs.Prelude.{◌≡◌, ℕ, ◌-◌, ◌<◌, ◌≤◌, ◌||◌, List, [], ◌++◌, length, true, false, Contains, IfOk};
+ghost use Rattle.std.specs.Prelude.{IfErr, IsOk, OnOk, OnErr, IsErrAnd, IsErrOf, ⊤};
+ghost use Rattle.lk_types.specs.Limits.{max_base, max_count};
 ghost use Rattle.lk_disk.specs.Disk.{contents};
 ghost use Rattle.lk_disk.specs.Meters.{CallsSucceed};
 ghost use Rattle.lk_store_format.specs.declared.stored.Stored.{Stored};
@@ -16,17 +16,18 @@ ghost use Rattle.lk_node.specs.Executing.{NothingToRun};
 ghost use Rattle.lk_node.specs.Histories.{History, Genesis};
 ghost use Rattle.lk_node.specs.Keeping.{ReplicaHolds};
 ghost use Rattle.lk_node.specs.Leavings.{AllCover};
-ghost use Rattle.lk_node_interface.specs.Faults.{CountsFailures, fault_number};
+ghost use Rattle.lk_node_interface.specs.Faults.{CountsFailures, WantsNoMemory, fault_number};
+ghost use Rattle.lk_recovery.specs.Compacting.{AreLeft, AreSame, IsDue, KeepsOrSwitchesFiles};
 ghost use Rattle.lk_replica.specs.Groups.{Adds, IsGroupCovered, LeavesInGroup, KeepsGroup, MakesRoom, StepsToFile};
-ghost use Rattle.lk_replica.specs.Groups.{IsGathered, IsGroupSynced, IsRefusedInGroup, sync_calls};
+ghost use Rattle.lk_replica.specs.Groups.{IsGathered, IsGroupSynced, IsRefusedInGroup, empty_group, sync_calls};
 ghost use Rattle.lk_replica.specs.Groups.{with_step, SyncsIfNeeded, RemembersInGroup, GroupFits};
 ghost use Rattle.lk_replica.specs.Groups.{GroupLeavesFit, RoomKeepsGroup, StepKeepsGroup, StepLeavesInGroup};
 ghost use Rattle.lk_replica.specs.Groups.{FitsOnceSynced, LeavesFitOnceSynced};
-ghost use Rattle.lk_replica.specs.Posts.{AreOf, CarriesAll, TellsSends};
-ghost use Rattle.lk_recovery.specs.Rebased.{IsNotWritten, StaysAlive};
+ghost use Rattle.lk_replica.specs.Posts.{AreOf, IsDelivered};
+ghost use Rattle.lk_recovery.specs.Rebased.{StaysAlive};
 ghost use Rattle.lk_recovery.specs.Rooms.{GrowsFromBase, max_after};
-ghost use Rattle.lk_replica.specs.Taking.{IsCutShort};
-ghost use Rattle.lk_replica.specs.Writing.{HasGathered, StaysWritten, LeavesGathered, IsNotGathered};
+ghost use Rattle.lk_replica.specs.Taking.{BeginsGroup, EndsGroup, IsCutShort};
+ghost use Rattle.lk_replica.specs.Writing.{HasGathered, StaysWritten, LeavesGathered, IsNotGathered, IsNotSynced};
 
 use crate::delivering::deliver;
 use crate::replica::Replica;
@@ -34,7 +35,7 @@ use crate::taken::Step;
 use lk_disk::LogDisk;
 use lk_log::Store;
 use lk_node::Node;
-use lk_node_interface::{Input, Letter, Note, Outbox, Post, ReplicaFault, SendFault};
+use lk_node_interface::{Input, Letter, Note, Outbox, Post, ReplicaFault};
 use lk_recovery::{is_rebase_due, write_base};
 use lk_state::Machine;
 use lk_types::NoMemory;
@@ -42,12 +43,13 @@ use std::alloc::Global;
 use std::marker::Model;
 use std::mem;
 
-/// A group so far: its notes, its letters in order, and whether something written waits for a sync.
+/// A group so far: its notes, its letters in order, and whether something written waits for a sync, or for a flush.
 #[derive(Drop)]
 pub struct Group {
     notes: Vec<Note>,
     letters: Vec<Letter>,
     needs_sync: bool,
+    needs_flush: bool,
 }
 
 impl Model for Group {
@@ -55,18 +57,24 @@ impl Model for Group {
 
     ghost Value = { GroupValue };
 
-    ghost view = { λ g. record { notes = g.notes.items; letters = g.letters.items; needs_sync = g.needs_sync } };
+    ghost view = { λ g. record {
+      notes = g.notes.items;
+      letters = g.letters.items;
+      needs_sync = g.needs_sync;
+      needs_flush = g.needs_flush;
+    } };
 }
 
 impl Group {
     /// An empty group.
     pub fn new(alloc: Global) -> Group
-        ensures { result ≡ record { notes = []; letters = []; needs_sync = false } }
+        ensures { result ≡ empty_group }
     {
         Group {
             notes: Vec::new(alloc),
             letters: Vec::new(alloc),
             needs_sync: false,
+            needs_flush: false,
         }
     }
 
@@ -91,6 +99,13 @@ impl Group {
         self.needs_sync
     }
 
+    /// Whether something written may wait for a flush. After a Base nothing does.
+    pub fn needs_flush(&self) -> bool
+        ensures { result ≡ self.now.needs_flush }
+    {
+        self.needs_flush
+    }
+
     /// Returns the last step, and removes its notes from the group; its letters stay. `before` is how many letters the
     /// group had before it. Call this after each step: it takes all notes that the group has.
     pub fn drain_step(&mut self, alloc: Global, before: usize) -> Step
@@ -104,6 +119,13 @@ impl Group {
         }
     }
 
+    /// Returns the notes of the steps, in order.
+    pub fn into_notes(self) -> Vec<Note>
+        ensures { result.items ≡ self.notes }
+    {
+        self.notes
+    }
+
     /// Returns the letters of the steps, in order.
     pub fn into_letters(self) -> Vec<Letter>
         ensures { result.items ≡ self.letters }
@@ -112,33 +134,38 @@ impl Group {
     }
 
     /// Appends the notes and letters of a step. `needs_sync` is whether something waited for a sync before it; after a
-    /// rebase nothing waits. Out of memory it may have appended a part, so the caller must end the replica.
+    /// rebase nothing waits. Out of memory it may have appended a part, so the caller must end the replica; an empty
+    /// group takes a step without memory.
     pub fn add(&mut self, needs_sync: bool, outbox: Outbox) -> Result<(), NoMemory>
-        ensures { OnOk result (self.new ≡ with_step needs_sync outbox self.old) }
+        ensures added { OnOk result (self.new ≡ with_step needs_sync outbox self.old) }
+        ensures first { self.old ≡ empty_group → IsOk result }
     {
         let Outbox {
             rebase,
             entries: _,
             sync,
-            mut notes,
-            mut letters,
+            notes,
+            letters,
         } = outbox;
-        self.notes.append(&mut notes)?;
-        self.letters.append(&mut letters)?;
+        append(&mut self.notes, notes)?;
+        append(&mut self.letters, letters)?;
         self.needs_sync = if rebase { false } else { needs_sync || sync };
+        self.needs_flush = !rebase;
         Ok(())
     }
 }
 
-// Sends the letters in order. Returns whether all were sent.
-fn are_sent<P: Post>(letters: &[Letter], post: &mut P) -> bool
-    ensures carries { CarriesAll P.Carries post.old letters.now post.new }
-    ensures tells { TellsSends result (P.failures post.old) (P.failures post.new) }
+// Appends more items, without memory where there are none.
+fn append<T: Drop>(items: &mut Vec<T>, mut more: Vec<T>) -> Result<(), NoMemory>
+    ensures appended { OnOk result (items.new.items ≡ items.old.items ++ more.items) }
+    ensures first { items.old.items ≡ [] → IsOk result }
 {
-    match deliver(letters, post) {
-        Ok(()) => true,
-        Err(SendFault) => false,
+    if items.is_empty() {
+        *items = more;
+        return Ok(());
     }
+    items.append(&mut more)?;
+    Ok(())
 }
 
 /// Syncs the live file if something waits for that, and otherwise gives what was written to the operating system.
@@ -152,7 +179,7 @@ pub fn sync_or_flush<D: LogDisk + Drop>(
     ensures every_image { D.is_honest → (ks ls : List Stored) → HoldsEntries store.old ks ls
         → KeepsAtLeast store.new ks ls }
     ensures room { D.is_honest → StaysWithin 0 (disks store.old) (disks store.new) }
-    ensures refused { IfErr result (IsNotWritten D.is_honest D.is_metered store.old store.new) }
+    ensures refused { IfErr result (IsNotSynced D.is_honest D.is_metered store.old store.new) }
     ensures metered { D.is_metered → OnOk result (CallsSucceed store.old.meter store.new.meter
         (sync_calls needs_sync)) }
     ensures alive { store.old.failed ≡ false → OnOk result (store.new.failed ≡ false) }
@@ -181,7 +208,7 @@ fn write_to_file<M: Machine, D: LogDisk + Drop>(
         → OnOk result (HasGathered M.meaning D.is_metered node.old store.old needs_sync outbox.now node.new store.new) }
     ensures goes { OnOk result (StaysWritten node.old store.old outbox.now node.new store.new) }
     ensures disks { D.is_honest → LeavesGathered M.meaning node.old store.old needs_sync outbox.now store.new }
-    ensures refused { IfErr result (IsNotGathered D.is_honest D.is_metered store.old store.new) }
+    ensures refused { IfErr result (IsNotGathered D.is_honest D.is_metered store.old needs_sync store.new) }
     ensures halted { node.new.halted ≡ node.old.halted }
     ensures format { store.new.format ≡ 2 }
     ensures cause { CountsFailures store.old.failures store.new.failures result }
@@ -216,8 +243,8 @@ fn step_to_file<M: Machine, D: LogDisk + Drop>(
         input.entry o node.new store.new) }
     ensures alive { IfOk result (λ o. (store.new.failed ≡ false) × (node.new.halted ≡ false)) }
     ensures refused { IfErr result
-        (IsCutShort D.is_honest D.is_metered 1 node.old store.old node.new store.new
-        (KeepsItsFile store.old store.new) ⊤) }
+        (IsCutShort D.is_honest D.is_metered 1 node.old store.old node.new store.new (KeepsItsFile store.old store.new)
+        (needs_sync ≡ false → AreSame (disks store.old) (disks store.new))) }
     ensures format { store.new.format ≡ 2 }
     ensures cause { CountsFailures store.old.failures store.new.failures result }
 {
@@ -241,8 +268,12 @@ fn make_room<M: Machine, D: LogDisk + Drop>(
         → IfOk result (MakesRoom D.is_metered node.old store.old needs_sync node.new store.new) }
     ensures alive { OnOk result (StaysAlive node.old store.old node.new store.new) }
     ensures refused { IfErr result
-        (IsCutShort D.is_honest D.is_metered 1 node.old store.old node.new store.new
-        (KeepsItsFile store.old store.new) ⊤) }
+        (IsCutShort D.is_honest D.is_metered 1 node.old store.old node.new store.new (KeepsItsFile store.old store.new)
+        (needs_sync ≡ false → AreSame (disks store.old) (disks store.new))) }
+    // If a rebase is due at generation 2^48, it fails with `Failed`, even if it is out of memory, or with `Device` if
+    // the device fails.
+    ensures last { D.is_honest → max_count ≤ store.old.generation → IsDue node.old store.old
+        → IsErrAnd result (λ e. WantsNoMemory (fault_number e)) }
     ensures halted { node.new.halted ≡ node.old.halted }
     // Then the live file has room for a step.
     ensures small { D.is_honest → OnOk result (length (contents store.new.live_disk) < 131072) }
@@ -284,7 +315,13 @@ fn step_in_group<M: Machine, D: LogDisk + Drop>(
         → OnOk result (IsGathered M.meaning M.IsText D.is_metered node.old store.old group.old input.entry
         node.new store.new group.new) }
     ensures alive { OnOk result ((store.new.failed ≡ false) × (node.new.halted ≡ false)) }
-    ensures refused { IfErr result (IsCutShort D.is_honest D.is_metered 2 node.old store.old node.new store.new ⊤ ⊤) }
+    // A group that begins fails as a call of `take` does.
+    ensures refused { IfErr result
+        (IsCutShort D.is_honest D.is_metered 2 node.old store.old node.new store.new
+        (group.old ≡ empty_group → KeepsOrSwitchesFiles node.old store.old store.new)
+        (group.old ≡ empty_group → AreLeft node.old store.old store.new)) }
+    ensures last { D.is_honest → max_count ≤ store.old.generation → IsDue node.old store.old
+        → IsErrAnd result (λ e. WantsNoMemory (fault_number e)) }
     ensures format { store.new.format ≡ 2 }
     ensures cause { CountsFailures store.old.failures store.new.failures result }
 {
@@ -334,6 +371,9 @@ impl<M: Machine, D: LogDisk + Drop> Replica<M, D> {
         ensures refused { IfErr result
             (λ e. IsRefusedInGroup D.is_honest D.is_metered self.old self.new (fault_number e)) }
         ensures failed { self.old.failed ≡ true → IsErrOf result ReplicaFault.Failed }
+        // A group that begins fails as a call of `take` does.
+        ensures first { group.old ≡ empty_group
+            → BeginsGroup D.is_honest D.is_metered self.old self.new result }
         ensures alive { OnOk result
             ((self.new.failed ≡ false) × (self.new.store.failed ≡ false) × (self.new.node.halted ≡ false)) }
         ensures cause { CountsFailures self.old.store.failures self.new.store.failures result }
@@ -347,7 +387,7 @@ impl<M: Machine, D: LogDisk + Drop> Replica<M, D> {
         Ok(())
     }
 
-    /// Ends a group: syncs once, if a promise or a vote of it waits for that, or else gives what was written to the
+    /// Ends a group: syncs once, if a promise or a vote of it waits for that, or else gives what it has written to the
     /// operating system, and then sends its letters in order. Returns whether all were sent: a lost one is no error.
     ///
     /// It fails with `Device` (7), and with `Failed` (11) after an earlier error; then nothing of the group is sent.
@@ -371,19 +411,21 @@ impl<M: Machine, D: LogDisk + Drop> Replica<M, D> {
             → IfOk result (λ all. (d : DatagramValue) → Contains (batch_of n group.now.letters) d
             → Spells (said_by genesis n x) d.bytes → AllCover M.meaning genesis n (disks self.new.store) x) }
         // The letters were given to the post in order, each once, and nothing else; after an error none was.
-        ensures gives { IfOk result (λ all. CarriesAll P.Carries post.old group.now.letters post.new) }
-        ensures tells { IfOk result (λ all. TellsSends all (P.failures post.old) (P.failures post.new)) }
+        ensures delivers { IfOk result
+            (λ all. IsDelivered P.Carries P.sent P.failures P.is_observable group.now.letters all post.old post.new) }
         ensures silent { OnErr result (post.new ≡ post.old) }
         // It has synced once what waited for that, and has done nothing else.
         ensures exact { D.is_honest → OnOk result (IsGroupSynced D.is_metered self.old group.now.needs_sync self.new) }
-        // It fails only with 7, 8 or 11, each for its cause, and each ends it.
+        // It fails only with 7 or 11, each for its cause, and each ends it.
         ensures refused { IfErr result
             (λ e. IsRefusedInGroup D.is_honest D.is_metered self.old self.new (fault_number e)) }
         ensures alive { OnOk result (self.new.failed ≡ false) }
+        ensures ends { self.old.failed ≡ false → self.old.store.failed ≡ false
+            → EndsGroup (group.now.needs_sync || group.now.needs_flush) self.old self.new result }
         ensures cause { CountsFailures self.old.store.failures self.new.store.failures result }
     {
-        self.sync_group(group.needs_sync())?;
-        let all = are_sent(group.letters(), post);
+        self.sync_group(group.needs_sync(), group.needs_flush())?;
+        let all = deliver(group.letters(), post);
         Ok(all)
     }
 }

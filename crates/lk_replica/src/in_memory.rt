@@ -30,11 +30,6 @@ impl<M: Machine, D: LogDisk + Drop> Replica<M, D> {
         self.node.header().node()
     }
 
-    // Its allocator.
-    fn alloc(&self) -> Global {
-        self.alloc
-    }
-
     // Returns a post without letters.
     fn empty_post(&self) -> MemoryPost
         ensures { result ≡ record { letters = []; failures = 0 } }
@@ -89,7 +84,7 @@ impl<M: Machine> MemoryReplica for Replica<M, MemoryDisk> {
             let step = group.drain_step(alloc, before);
             self.keep(&mut steps, step)?;
         }
-        self.sync_group(group.needs_sync())?;
+        self.sync_group(group.needs_sync(), group.needs_flush())?;
         match datagrams(alloc, node, group.into_letters()) {
             Ok(sent) => Ok(TakenAll { steps, sent }),
             // No datagram could be made of the letters, so all of them are lost, and the notes too.

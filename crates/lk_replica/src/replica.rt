@@ -1,30 +1,22 @@
 // The replica: a node and its store.
-ghost use Rattle.std.specs.Prelude.{◌≡◌, ◌+◌, ◌<◌, ◌≤◌, true, false, IfOk, IfErr, OnOk};
-ghost use Rattle.std.specs.Prelude.{IsErrAnd, IsErrOf, ◌↔◌};
+ghost use Rattle.std.specs.Prelude.{◌≡◌, ◌≤◌, true, IfErr, IsErrAnd, IsErrOf};
 ghost use Rattle.lk_types.specs.Limits.{max_count};
 ghost use Rattle.lk_disk.specs.declared.device.Side.{Side};
 ghost use Rattle.lk_disk.specs.Meters.{trapped};
-ghost use Rattle.lk_log.specs.StoreValue.{StoreValue, disks};
-ghost use Rattle.lk_log.specs.Stores.{KeepsItsFile};
-ghost use Rattle.lk_node.specs.NodeValue.{NodeValue};
-ghost use Rattle.lk_recovery.specs.Compacting.{AreLeft, AreSame, IsDue, KeepsOrSwitchesFiles, RebasesWhereDue};
+ghost use Rattle.lk_log.specs.StoreValue.{disks};
+ghost use Rattle.lk_recovery.specs.Compacting.{IsDue};
 ghost use Rattle.lk_node.specs.Calls.{InputFits};
-ghost use Rattle.lk_node.specs.Executing.{NothingToRun};
 ghost use Rattle.lk_replica.specs.Posts.{GivesLetters, SendsAs, RefusesSends};
-ghost use Rattle.lk_node.specs.Steps.{Steps};
-ghost use Rattle.lk_replica.specs.Taking.{Writes, CallsOfStep, GivesBy, IsRefused, IsCutShort, StaysUp, StepsOn};
-ghost use Rattle.lk_replica.specs.Taking.{StepKeeps, StepLeavesDisks, StepsToDisk};
-ghost use Rattle.lk_recovery.specs.Rebased.{LeavesDisks, IsNotWritten};
-ghost use Rattle.lk_replica.specs.Writing.{HasWritten, StaysWritten, LeavesWritten};
+ghost use Rattle.lk_replica.specs.Taking.{GivesBy, IsRefused, StaysUp};
+ghost use Rattle.lk_recovery.specs.Rebased.{LeavesDisks};
 ghost use Rattle.lk_node_interface.specs.Faults.{fault_number, CountsFailures, IfGoesOn, WantsNoMemory};
 ghost use Rattle.lk_recovery.specs.Rooms.{max_after};
 
-use crate::delivering::deliver;
+use crate::grouping::Group;
 use lk_disk::{LogDisk, Trap, Trapped};
 use lk_log::Store;
 use lk_node::Node;
-use lk_node_interface::{Input, Note, Outbox, Post, ReplicaFault, SendFault};
-use lk_recovery::{rebase_if_due, write_base};
+use lk_node_interface::{Input, Note, Post, ReplicaFault};
 use lk_state::Machine;
 use std::alloc::Global;
 use std::marker::Model;
@@ -53,13 +45,12 @@ impl<M: Machine, D: LogDisk + Drop> Model for Replica<M, D> {
 }
 
 impl<M: Machine, D: LogDisk + Drop> Replica<M, D> {
-    /// Takes a tick or a datagram: the step's entries are written, and synced if a promise or a vote is among them,
-    /// before anything is sent.
+    /// Takes a tick or a datagram, as a group of one: the step's entries are written, and synced if a promise or a vote
+    /// is among them, before anything is sent.
     ///
     /// It fails with `Device` (7), `NoMemory` (8) and `Halted` (14), and with `Failed` (11) if it has to rebase at
     /// generation 2^48; after that every call fails with `Failed` (11). With `Send` (15) some datagrams are lost, and
     /// the replica goes on.
-    #[tactic(auto, using(crate::proofs::NoSend::never_sends))]
     pub fn take<P: Post>(&mut self, input: Input, post: &mut P) -> Result<Vec<Note>, ReplicaFault>
         // Letters were given to the post in order, each once, and nothing else. If it goes on, it has then written the
         // outbox of its step and returned its notes, and these are the step's letters: what it holds permits all of
@@ -89,23 +80,14 @@ impl<M: Machine, D: LogDisk + Drop> Replica<M, D> {
         ensures last { D.is_honest → max_count ≤ self.old.store.generation → IsDue self.old.node self.old.store
             → IsErrAnd result (λ e. WantsNoMemory (fault_number e)) }
     {
-        if self.failed {
-            return Err(ReplicaFault::Failed);
+        let mut group = Group::new(self.alloc());
+        self.gather(input, &mut group)?;
+        let all = self.release(&group, post)?;
+        let notes = group.into_notes();
+        if !all {
+            return Err(ReplicaFault::Send(notes));
         }
-        self.failed = true;
-        let outbox = rebase_and_step(&mut self.node, &mut self.store, input)?;
-        self.failed = false;
-        let Outbox {
-            rebase: _,
-            entries: _,
-            sync: _,
-            notes,
-            letters,
-        } = outbox;
-        match deliver(&letters, post) {
-            Ok(()) => Ok(notes),
-            Err(SendFault) => Err(ReplicaFault::Send(notes)),
-        }
+        Ok(notes)
     }
 }
 
@@ -147,6 +129,11 @@ impl<M: Machine, D: LogDisk + Drop> Replica<M, D> {
         self.store.device()
     }
 
+    // Its allocator.
+    pub(crate) fn alloc(&self) -> Global {
+        self.alloc
+    }
+
     /// Closes the replica and returns its device, with both files as they are.
     pub fn into_disks(self) -> D
         ensures disks { (s : Side) → D.disk result s ≡ disks self.store s }
@@ -175,94 +162,4 @@ impl<M: Machine, D: Trapped + Drop> Replica<M, D> {
     {
         self.store.trap(trap);
     }
-}
-
-#[tactic(auto, using(crate::proofs::NoSend::store_never_sends))]
-// Writes the entries of an outbox of the node, synced if the outbox asks for that; or, if it asks for a rebase, the
-// node's Base in their place. Sends nothing.
-fn write_to_disk<M: Machine, D: LogDisk + Drop>(
-    node: &mut Node<M>,
-    store: &mut Store<D>,
-    outbox: &Outbox,
-) -> Result<(), ReplicaFault>
-    requires { store.old.format ≡ 2 }
-    ensures done { D.is_honest
-        → OnOk result (HasWritten M.meaning D.is_metered node.old store.old outbox.now node.new store.new) }
-    ensures goes { OnOk result (StaysWritten node.old store.old outbox.now node.new store.new) }
-    ensures disks { D.is_honest → LeavesWritten M.meaning node.old store.old outbox.now store.new }
-    ensures refused { IfErr result (IsNotWritten D.is_honest D.is_metered store.old store.new) }
-    ensures halted { node.new.halted ≡ node.old.halted }
-    ensures format { store.new.format ≡ 2 }
-    ensures last { max_count ≤ store.old.generation → OnOk result (outbox.now.rebase ≡ false) }
-    ensures cause { CountsFailures store.old.failures store.new.failures result }
-{
-    if outbox.rebase {
-        write_base(node, store)?;
-        return Ok(());
-    }
-    store.put(&outbox.entries, outbox.sync)?;
-    Ok(())
-}
-
-#[tactic(auto, using(crate::proofs::NoSend::store_never_sends))]
-// Gives an input to the node, and writes the entries of its outbox, synced if the outbox asks for that; or, if it asks
-// for a rebase (a snapshot was installed), the node's Base in their place. Sends nothing.
-fn step_to_disk<M: Machine, D: LogDisk + Drop>(
-    node: &mut Node<M>,
-    store: &mut Store<D>,
-    input: Input,
-) -> Result<Outbox, ReplicaFault>
-    requires { store.old.format ≡ 2 }
-    ensures keeps { D.is_honest
-        → IfOk result (λ o. StepKeeps M.meaning
-        (λ h. InputFits h input.entry) node.old store.old o node.new store.new) }
-    ensures exact { D.is_honest
-        → IfOk result (λ o. StepsToDisk M.meaning M.IsText D.is_metered node.old store.old
-        input.entry o node.new store.new) }
-    ensures alive { OnOk result (StepsOn D.is_honest node.old store.old node.new store.new) }
-    ensures disks { D.is_honest
-        → StepLeavesDisks M.meaning (λ h. InputFits h input.entry) max_after node.old store.old (disks store.new) }
-    ensures refused { IfErr result
-        (IsCutShort D.is_honest D.is_metered 1 node.old store.old node.new store.new (KeepsItsFile store.old store.new)
-        (AreSame (disks store.old) (disks store.new))) }
-    ensures halts { IsErrOf result ReplicaFault.Halted ↔ (node.new.halted ≡ true) }
-    ensures format { store.new.format ≡ 2 }
-    // At generation 2^48 it takes no step that has to rebase.
-    ensures last { max_count ≤ store.old.generation → IfOk result (λ o. o.rebase ≡ false) }
-    ensures cause { CountsFailures store.old.failures store.new.failures result }
-{
-    let outbox = node.step(input)?;
-    write_to_disk(node, store, &outbox)?;
-    Ok(outbox)
-}
-
-// Rebases if that is due, and then gives the input to the node and writes its outbox. Sends nothing.
-fn rebase_and_step<M: Machine, D: LogDisk + Drop>(
-    node: &mut Node<M>,
-    store: &mut Store<D>,
-    input: Input,
-) -> Result<Outbox, ReplicaFault>
-    requires { store.old.format ≡ 2 }
-    ensures keeps { D.is_honest
-        → IfOk result (λ o. StepKeeps M.meaning
-        (λ h. InputFits h input.entry) node.old store.old o node.new store.new) }
-    ensures exact { D.is_honest
-        → IfOk result (λ o. (mid : NodeValue) × (between : StoreValue) × RebasesWhereDue node.old store.old mid between
-        × (stepped : NodeValue) × Steps M.meaning M.IsText mid input.entry stepped o
-        × Writes stepped between o node.new store.new) }
-    ensures calls { D.is_metered → D.is_honest → IfOk result (λ o. CallsOfStep node.old store.old o store.new) }
-    ensures alive { OnOk result (StepsOn D.is_honest node.old store.old node.new store.new) }
-    ensures disks { D.is_honest
-        → LeavesDisks M.meaning (λ h. InputFits h input.entry) max_after node.old store.old (disks store.new) }
-    ensures refused { IfErr result
-        (IsCutShort D.is_honest D.is_metered 2 node.old store.old node.new store.new
-        (KeepsOrSwitchesFiles node.old store.old store.new) (AreLeft node.old store.old store.new)) }
-    ensures format { store.new.format ≡ 2 }
-    ensures last { D.is_honest → max_count ≤ store.old.generation → IsDue node.old store.old
-        → IsErrAnd result (λ e. WantsNoMemory (fault_number e)) }
-    ensures cause { CountsFailures store.old.failures store.new.failures result }
-{
-    rebase_if_due(node, store)?;
-    let outbox = step_to_disk(node, store, input)?;
-    Ok(outbox)
 }

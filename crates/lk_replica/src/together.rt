@@ -1,8 +1,9 @@
 // Parts of a group: keeping the result of each step, and the sync at the end.
-ghost use Rattle.std.specs.Prelude.{◌≡◌, ◌∷◌, ◌++◌, [], false, IfErr, OnOk, ⊤};
+ghost use Rattle.std.specs.Prelude.{◌≡◌, ◌∷◌, ◌++◌, ◌||◌, [], false, IfErr, OnOk, ⊤};
 ghost use Rattle.lk_log.specs.StoreValue.{disks};
 ghost use Rattle.lk_node_interface.specs.Faults.{CountsFailures, fault_number};
 ghost use Rattle.lk_replica.specs.Groups.{IsRefusedInGroup, IsGroupSynced, LeavesInGroup};
+ghost use Rattle.lk_replica.specs.Taking.{EndsGroup};
 ghost use Rattle.lk_replica.specs.Together.{IsNotKept};
 
 use crate::grouping::sync_or_flush;
@@ -28,8 +29,13 @@ impl<M: Machine, D: LogDisk + Drop> Replica<M, D> {
         }
     }
 
-    // Syncs the live file once, if something waits for that, or else flushes it. If that fails, the replica ends.
-    pub(crate) fn sync_group(&mut self, needs_sync: bool) -> Result<(), ReplicaFault>
+    // Syncs the live file once, if something waits for that, or else flushes it, if something waits for that. If that
+    // fails, the replica ends.
+    pub(crate) fn sync_group(
+        &mut self,
+        needs_sync: bool,
+        needs_flush: bool,
+    ) -> Result<(), ReplicaFault>
         ensures exact { D.is_honest → OnOk result (IsGroupSynced D.is_metered self.old needs_sync self.new) }
         // After any exit, if nothing of the group is sent, the disks fit, and neither file has grown.
         ensures disks { D.is_honest
@@ -37,10 +43,16 @@ impl<M: Machine, D: LogDisk + Drop> Replica<M, D> {
         ensures refused { IfErr result
             (λ e. IsRefusedInGroup D.is_honest D.is_metered self.old self.new (fault_number e)) }
         ensures alive { OnOk result (self.new.failed ≡ false) }
+        ensures ends { self.old.failed ≡ false → self.old.store.failed ≡ false
+            → EndsGroup (needs_sync || needs_flush) self.old self.new result }
         ensures cause { CountsFailures self.old.store.failures self.new.store.failures result }
     {
         if self.failed {
             return Err(ReplicaFault::Failed);
+        }
+        let waits = needs_sync || needs_flush;
+        if !waits {
+            return Ok(());
         }
         self.failed = true;
         sync_or_flush(&mut self.store, needs_sync)?;

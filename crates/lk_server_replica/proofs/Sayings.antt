@@ -25,16 +25,16 @@ use Rattle.lk_node_interface.specs.Faults.{fault_number, IsNumberOfCalls}
 use Rattle.lk_replica.specs.Groups.{Adds, GroupValue, StepSaid, letters_of, KeepsGroup, LeavesInGroup, MakesRoom}
 use Rattle.lk_replica.specs.Groups.{IsGathered, IsGroupSynced, IsRefusedInGroup, GoesThrough}
 use Rattle.lk_replica.specs.Groups.{IsGroupCovered, RemembersInGroup}
-use Rattle.lk_replica.specs.Groups.{as_released}
+use Rattle.lk_replica.specs.Groups.{as_released, empty_group}
 use Rattle.lk_replica.specs.Groups.{with_step}
-use Rattle.lk_replica.specs.Posts.{AreOf, CarriesAll, GivesLetters}
+use Rattle.lk_replica.specs.Posts.{AreOf, GivesLetters, IsDelivered, TellsSends}
 use Rattle.lk_replica.specs.ReplicaValue.{ReplicaValue}
 use Rattle.lk_recovery.specs.Rooms.{GrowsFromBase, GrowsBySteps}
 use Rattle.lk_node_interface.specs.declared.fault.ReplicaFault.{ReplicaFault}
 use Rattle.lk_node_interface.specs.declared.fault.ReplicaFault.TheVariants as fault
 use Rattle.lk_replica.proofs.Replicas.{begun, begin_fits, room_as_sent}
 use Rattle.lk_server_replica.specs.Refusals.{IsOfGroups}
-use Rattle.lk_server_replica.specs.Sayings.{nothing_taken, AreGathered, GroupLeaves, SaysOf, GathersOf}
+use Rattle.lk_server_replica.specs.Sayings.{AreGathered, GroupLeaves, SaysOf, GathersOf}
 
 -- all of one list and of another
 all_parts : {X : Type 0} (P : X → Type 0) (xs ys : List X) → AllByRecursion P (xs ++ ys)
@@ -132,7 +132,7 @@ module _ (m : Meaning) (IsText : List ℕ → Type 0) (Honest Metered : Type 0) 
   Gathered first given group now = Honest → GathersOf m IsText Metered first given group now
 
   -- a group that begins
-  pub gathers_nothing : (r : ReplicaValue) (group : GroupValue) → group ≡ nothing_taken → Gathered r [] group r
+  pub gathers_nothing : (r : ReplicaValue) (group : GroupValue) → group ≡ empty_group → Gathered r [] group r
   gathers_nothing r group is honest = subst (λ (x : GroupValue). GathersOf m IsText Metered r [] x r) (sym is) (record {
     inputs = [];
     are_given = refl;
@@ -211,7 +211,7 @@ module _ (m : Meaning) (IsText : List ℕ → Type 0) (Honest Metered : Type 0) 
       are_said = ap (λ (x : GroupValue). x.letters) e.adds
           ∙ ap (λ (l : List LetterValue). l ++ e.out.letters) g.are_said
           ∙ sym (said_more g.said e.out.notes e.out.letters);
-      steps = gathered_more m IsText Metered first.node first.store nothing_taken g.inputs g.said old.node old.store
+      steps = gathered_more m IsText Metered first.node first.store empty_group g.inputs g.said old.node old.store
           group i new.node new.store now g.steps e;
       goes = λ genesis k remembers n more q rest goes.
           subst₂ (λ (is : List Input) (l : List StepSaid). GoesThrough m n first is q l)
@@ -376,7 +376,8 @@ module _ (m : Meaning) (IsText : List ℕ → Type 0) (Honest Metered : Type 0) 
     }
 
     -- what a call of `release` tells
-    pub released_of : (r : Result Bool ReplicaFault)
+    pub released_of : (sent : P → List LetterValue) (failures : P → ℕ) (Observable : Type 0)
+        (r : Result Bool ReplicaFault)
         → (Honest → (genesis : Genesis) (k : ℕ) → RemembersInGroup old.node old.store group.needs_sync genesis k
         → (h : History) (n : ℕ) → NodeFits m h n (ReplicaHolds m old.node
         (as_released group.needs_sync old.store) h.genesis n)
@@ -387,18 +388,25 @@ module _ (m : Meaning) (IsText : List ℕ → Type 0) (Honest Metered : Type 0) 
         → RemembersInGroup old.node old.store group.needs_sync genesis n → IsGroupCovered m genesis n group old.store
         → IfOk r (λ all. (d : Datagram) → Contains (batch_of n group.letters) d → Spells (said_by genesis n x) d.bytes
         → AllCover m genesis n (disks new.store) x))
-        → IfOk r (λ all. CarriesAll Carries before group.letters after)
+        → IfOk r (λ all. IsDelivered Carries sent failures Observable group.letters all before after)
         → (Honest → OnOk r (IsGroupSynced Metered old group.needs_sync new)) → OnOk r (new.failed ≡ false)
         → OnOk r (GivesLetters Carries before after
         (λ letters. (first : ReplicaValue) (given : List (Option (List ℕ))) → Gathered first given group old
         → Said first given letters new))
-    released_of (Ok all) fits leaves syncs gives exact alive = record {
+    released_of sent failures Observable (Ok all) fits leaves syncs delivers exact alive = record {
       letters = group.letters;
-      carried = gives;
+      carried = delivers.carried;
       holds = λ first given was honest. says_all first given (was honest) (fits honest) (leaves honest)
           (syncs honest) (exact honest) alive;
     }
-    released_of (Err e) fits leaves syncs gives exact alive = tt
+    released_of sent failures Observable (Err e) fits leaves syncs delivers exact alive = tt
+
+    pub tells_of : (sent : P → List LetterValue) (failures : P → ℕ) (Observable : Type 0)
+        (r : Result Bool ReplicaFault)
+        → IfOk r (λ all. IsDelivered Carries sent failures Observable group.letters all before after)
+        → IfOk r (λ all. TellsSends all (failures before) (failures after))
+    tells_of sent failures Observable (Ok all) delivers = delivers.tells
+    tells_of sent failures Observable (Err e) delivers = tt
 
     pub unreleased_of : (r : Result Bool ReplicaFault)
         → IfErr r (λ e. IsRefusedInGroup Honest Metered old new (fault_number e))

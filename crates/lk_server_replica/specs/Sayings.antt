@@ -17,16 +17,12 @@ use Rattle.lk_node.specs.Histories.{History, Genesis, Datagram}
 use Rattle.lk_node.specs.Keeping.{ReplicaHolds}
 use Rattle.lk_node.specs.Leavings.{DisksFit, AllCover}
 use Rattle.lk_node.specs.NodeValue.{NodeValue}
-use Rattle.lk_replica.specs.Groups.{GroupValue, StepSaid, letters_of, IsGathered, GoesThrough}
+use Rattle.lk_replica.specs.Groups.{GroupValue, StepSaid, letters_of, IsGathered, GoesThrough, empty_group}
 use Rattle.lk_replica.specs.Groups.{GroupStays, IsGroupCovered}
 use Rattle.lk_replica.specs.Groups.{RemembersInGroup, SyncsIfNeeded, as_released, sync_calls}
 use Rattle.lk_recovery.specs.Remembering.{ReplicaRemembers}
 use Rattle.lk_replica.specs.ReplicaValue.{ReplicaValue}
 use Rattle.lk_recovery.specs.Rooms.{GrowsBySteps, max_after}
-
--- a group that has taken nothing
-abbrev pub nothing_taken : GroupValue
-nothing_taken = record { notes = []; letters = []; needs_sync = false }
 
 -- these inputs were taken into a group one after another, and this is what each step noted and said; each made the
 -- calls that it takes of a device that counts them (`Metered`)
@@ -47,7 +43,7 @@ pub record IsGroupTaken (m : Meaning) (IsText : List ℕ → Type 0) (Metered : 
   pub node : NodeValue
   pub store : StoreValue
   pub group : GroupValue
-  pub steps : AreGathered m IsText Metered old.node old.store nothing_taken inputs said node store group
+  pub steps : AreGathered m IsText Metered old.node old.store empty_group inputs said node store group
   pub same : new.node ≡ node
   pub syncs_all : SyncsIfNeeded group.needs_sync store new.store
   pub calls : Metered → CallsSucceed store.meter new.store.meter (sync_calls group.needs_sync)
@@ -111,7 +107,7 @@ pub record GathersOf (m : Meaning) (IsText : List ℕ → Type 0) (Metered : Typ
   pub are_given : map heard_by inputs ≡ given
   pub said : List StepSaid
   pub are_said : group.letters ≡ letters_of said
-  pub steps : AreGathered m IsText Metered start.node start.store nothing_taken inputs said now.node now.store group
+  pub steps : AreGathered m IsText Metered start.node start.store empty_group inputs said now.node now.store group
   pub goes : (genesis : Genesis) (k : ℕ) → ReplicaRemembers start.node start.store genesis k
       → (n : ℕ) (more : List Input) (q : ReplicaValue) (rest : List StepSaid)
       → GoesThrough m n (record { node = now.node; store = as_released group.needs_sync now.store; failed = false })

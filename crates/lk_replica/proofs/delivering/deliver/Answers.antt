@@ -1,9 +1,9 @@
-use Rattle.std.proofs.Common.{rules, List, take, refl, sym, subst, arith}
+use Rattle.std.proofs.Common.{List, take, refl, sym, subst, arith}
 use Rattle.std.proofs.lemmas.List.{take_all}
 use Rattle.lk_node_interface.specs.Letters.{LetterValue}
 use Rattle.lk_replica.specs.Posts.{CarriesAll}
 use Rattle.lk_replica.proofs.Carrying.{carries_more}
-use Rattle.lk_replica.proofs.Thinning.{take_one_more, all_sent, delivers_none, after_lost, after_sent}
+use Rattle.lk_replica.proofs.Thinning.{take_one_more, sends_whether, tells_sends, delivers_none, after_lost, after_sent}
 use Rattle.lk_replica.proofs.delivering.deliver.Goals as goal
 use Rattle.lk_replica.proofs.delivering.deliver.Goals.{then-not-is_sent, else-not-is_sent}
 
@@ -19,16 +19,16 @@ loop-letter-preserved g c =
             after_lost g.P.Post.is_observable c.args.letters.now c.loop-letter.letter-index c.letter-item.result
             (g.P.Post.sent c.args.post.now) (g.P.Post.sent c.loop-letter.post) (g.P.Post.sent c.is_sent.new.post)
             (g.P.Post.failures c.args.post.now) (g.P.Post.failures c.loop-letter.post)
-            (g.P.Post.failures c.is_sent.new.post) c.loop-letter.lost c.if-not-is_sent.lost
-            more w.lost-is c.loop-letter.invariant.0
+            (g.P.Post.failures c.is_sent.new.post) c.loop-letter.all c.if-not-is_sent.all
+            more w.all-is c.loop-letter.invariant.0
             (λ telling. c.is_sent.ensures.lost telling (cc w.if-not-is_sent.true))
             (c.is_sent.ensures.rises (cc w.if-not-is_sent.true))
         | else-not-is_sent w ↦
             after_sent g.P.Post.is_observable c.args.letters.now c.loop-letter.letter-index c.letter-item.result
             (g.P.Post.sent c.args.post.now) (g.P.Post.sent c.loop-letter.post) (g.P.Post.sent c.is_sent.new.post)
             (g.P.Post.failures c.args.post.now) (g.P.Post.failures c.loop-letter.post)
-            (g.P.Post.failures c.is_sent.new.post) c.loop-letter.lost c.if-not-is_sent.lost
-            more w.lost-is c.loop-letter.invariant.0
+            (g.P.Post.failures c.is_sent.new.post) c.loop-letter.all c.if-not-is_sent.all
+            more w.all-is c.loop-letter.invariant.0
             (λ telling. c.is_sent.ensures.sent telling (cc w.if-not-is_sent.false))
             (c.is_sent.ensures.same (cc w.if-not-is_sent.false))
       ],
@@ -39,9 +39,16 @@ loop-letter-preserved g c =
           c.loop-letter.invariant.1 c.is_sent.ensures.carries),
     )
 
-pub returns-clause-all : goal.returns-clause-all
-returns-clause-all g c telling =
-    all_sent g.P.Post.is_observable c.args.letters.now
-    (take c.loop-letter.letter-index c.args.letters.now) _ _ _ _ c.loop-letter.lost
-    (take_all c.loop-letter.letter-index c.args.letters.now (omega (arith, c.loop-letter-test.false)))
-    (search rules) c.loop-letter.invariant.0 telling
+pub returns : goal.returns
+returns g c =
+    let whole = take_all c.loop-letter.letter-index c.args.letters.now (omega (arith, c.loop-letter-test.false)) in
+    let tried = c.loop-letter.invariant.0 in
+    record {
+      carried = subst (λ (l : List LetterValue). CarriesAll g.P.Post.Carries c.args.post.now l c.loop-letter.post) whole
+          c.loop-letter.invariant.1;
+      sends = sends_whether g.P.Post.is_observable c.args.letters.now
+          (take c.loop-letter.letter-index c.args.letters.now) _ _ _ _ whole c.loop-letter.all tried;
+      tells = tells_sends g.P.Post.is_observable c.args.letters.now
+          (take c.loop-letter.letter-index c.args.letters.now) (g.P.Post.sent c.args.post.now)
+          (g.P.Post.sent c.loop-letter.post) _ _ whole c.loop-letter.all tried;
+    }

@@ -6,5 +6,5 @@ use Rattle.lk_replica.proofs.delivering.deliver.Given as goal
 abbrev pub invariant-loop-letter : goal.invariant-loop-letter
 invariant-loop-letter g l =
     Delivers g.P.Post.is_observable (take l.letter-index l.letters) (g.P.Post.sent l.fn.post) (g.P.Post.sent l.post)
-    (g.P.Post.failures l.fn.post) (g.P.Post.failures l.post) l.lost
+    (g.P.Post.failures l.fn.post) (g.P.Post.failures l.post) l.all
     × CarriesAll g.P.Post.Carries l.fn.post (take l.letter-index l.letters) l.post

@@ -4,11 +4,15 @@ use Rattle.lk_log.specs.StoreValue.{disks}
 use Rattle.lk_state.specs.Meanings.{Meaning}
 use Rattle.lk_replica.proofs.Grouped.{of_store_too, no_room_made, room_made, begin_fits, begun, settled_keeps}
 use Rattle.lk_replica.proofs.Grouped.{settled_fits, settled_covers, settle_leaves, settle_covers, same_recalls}
-use Rattle.lk_replica.proofs.Grouped.{same_group_fits, same_group_stays, same_group_covers}
+use Rattle.lk_replica.proofs.Grouped.{same_group_fits, same_group_stays, same_group_covers, unsynced_same, same_on}
+use Rattle.lk_replica.proofs.Grouped.{asked_same}
 use Rattle.lk_log.proofs.Room.{within_first, within_more}
-use Rattle.lk_recovery.proofs.Recoveries.{before_fits, goes_fits, same_room, err_as, refused_on, spared_all, kept_then}
-use Rattle.lk_recovery.specs.Compacting.{IsDue}
-use Rattle.lk_replica.proofs.Refusals.{store_told, store_only, store_awake}
+use Rattle.lk_recovery.proofs.Recoveries.{before_fits, goes_fits, same_room, err_as, refused_on, spared_all}
+use Rattle.lk_recovery.proofs.Recoveries.{spared_more}
+use Rattle.lk_recovery.proofs.Recoveries.{kept_then}
+use Rattle.lk_recovery.specs.Compacting.{AreSame, IsDue}
+use Rattle.lk_node_interface.specs.Faults.{WantsNoMemory, fault_number}
+use Rattle.lk_replica.proofs.Refusals.{store_told, store_only, store_awake, errs_as, failed_number}
 use Rattle.lk_replica.proofs.grouping.make_room.Goals as goal
 
 -- ---- what it keeps
@@ -232,14 +236,16 @@ returns-in_err-due-clause-refused g c =
       earlier = λ is alive further. was.failed_before alive (ap Err is);
       second = λ honest is alive less. absurd (was.failed_before alive (ap Err is));
       file = λ honest. c.is_rebase_due.ensures.file;
-      stays = λ honest. spared_all _ _ tt;
+      stays = λ honest. spared_all
+          (c.args.needs_sync ≡ false → AreSame (disks c.args.store.now) (disks c.is_rebase_due.new.store)) _
+          (λ none. asked_same c.args.store.now c.is_rebase_due.new.store (c.is_rebase_due.ensures.same honest));
       halts = λ is. absurd (store_awake _ of_store is);
       awake = λ wakes other. wakes;
     })
 
 pub returns-in_err-sync_or_flush-clause-refused : goal.returns-in_err-sync_or_flush-clause-refused
 returns-in_err-sync_or_flush-clause-refused g c =
-    let was = c.in_err-sync_or_flush.ensures.refused in
+    let was = c.in_err-sync_or_flush.ensures.refused.written in
     err_as _ _ _ c.from_residual-in_err-sync_or_flush.ensures.1 (record {
       told = store_told _ was.of_store;
       only = store_only _ was.of_store;
@@ -250,7 +256,10 @@ returns-in_err-sync_or_flush-clause-refused g c =
           (was.earlier is c.in_ok-due.ensures.alive (omega (arith, less, c.is_rebase_due.ensures.file.1)));
       file = λ honest. kept_then c.args.store.now c.is_rebase_due.new.store c.sync_or_flush.new.store
           c.is_rebase_due.ensures.file was.file;
-      stays = λ honest. spared_all _ _ tt;
+      stays = λ honest. spared_more _ _ _
+          (same_on c.args.store.now c.is_rebase_due.new.store c.sync_or_flush.new.store c.args.needs_sync
+          (λ none. asked_same c.args.store.now c.is_rebase_due.new.store (c.is_rebase_due.ensures.same honest)))
+          (was.stays honest);
       halts = λ is. absurd (store_awake _ was.of_store is);
       awake = λ wakes other. wakes;
     })
@@ -273,7 +282,39 @@ returns-in_err-write_base-clause-refused g c =
           kept_then c.args.store.now c.sync_or_flush.new.store c.write_base.new.store
           (kept_then c.args.store.now c.is_rebase_due.new.store c.sync_or_flush.new.store
           c.is_rebase_due.ensures.file c.sync_or_flush.ensures.file) was.file;
-      stays = λ honest. spared_all _ _ tt;
+      stays = λ honest. spared_more _ _ _
+          (same_on c.args.store.now c.sync_or_flush.new.store c.write_base.new.store c.args.needs_sync
+          (λ none s. unsynced_same c.args.needs_sync c.is_rebase_due.new.store c.sync_or_flush.new.store
+          (c.in_ok-sync_or_flush.ensures.syncs_all honest) none s
+          ∙ asked_same c.args.store.now c.is_rebase_due.new.store (c.is_rebase_due.ensures.same honest) s))
+          (was.stays honest);
       halts = λ is. absurd (store_awake _ was.of_store is);
       awake = λ wakes other. c.write_base.ensures.halted ∙ wakes;
     })
+
+-- ---- at the last generation
+
+pub returns-in_err-due-clause-last : goal.returns-in_err-due-clause-last
+returns-in_err-due-clause-last g c honest most due =
+    errs_as _ _ (λ e. WantsNoMemory (fault_number e)) c.from_residual.ensures.1 c.in_err-due.ensures.memory
+
+pub returns-then-not-due-clause-last : goal.returns-then-not-due-clause-last
+returns-then-not-due-clause-last g c honest most due =
+    let yes : c.in_ok-due.due ≡ true = (c.in_ok-due.ensures.value honest).1 due in
+    let both : false ≡ true = sym (search rules) ∙ yes in cc both
+
+pub returns-in_err-sync_or_flush-clause-last : goal.returns-in_err-sync_or_flush-clause-last
+returns-in_err-sync_or_flush-clause-last g c honest most due =
+    errs_as _ _ (λ e. WantsNoMemory (fault_number e)) c.from_residual-in_err-sync_or_flush.ensures.1
+    c.in_err-sync_or_flush.ensures.refused.memory
+
+pub returns-in_err-write_base-clause-last : goal.returns-in_err-write_base-clause-last
+returns-in_err-write_base-clause-last g c honest most due =
+    errs_as _ _ (λ e. WantsNoMemory (fault_number e)) c.from_residual-in_err-write_base.ensures.1
+    (failed_number _ (c.in_err-write_base.ensures.last
+    (omega (arith, most, c.is_rebase_due.ensures.file.1, c.sync_or_flush.ensures.file.1))).1)
+
+pub returns-clause-last : goal.returns-clause-last
+returns-clause-last g c honest most due =
+    cc (c.in_ok-write_base.ensures.last
+    (omega (arith, most, c.is_rebase_due.ensures.file.1, c.sync_or_flush.ensures.file.1))).1

@@ -1,22 +1,26 @@
-use Rattle.std.proofs.Common.{ℕ, ◌∙◌, Bool, sym, ap, subst, arith}
+use Rattle.std.proofs.Common.{◌≡◌, ℕ, ◌∙◌, Bool, true, false, sym, ap, subst, arith, inl}
 use Rattle.lk_log.specs.StoreValue.{disks}
 use Rattle.lk_log.proofs.Room.{refused_room, within_first}
 use Rattle.lk_node_interface.specs.Letters.{batch_of}
 use Rattle.lk_node.specs.Histories.{Genesis}
 use Rattle.lk_node.specs.Leavings.{AllCover}
 use Rattle.lk_replica.specs.Groups.{GroupValue, MakesRoom, as_released, RemembersInGroup, GroupFits, GroupLeavesFit}
-use Rattle.lk_replica.specs.Groups.{GroupStays}
+use Rattle.lk_replica.specs.Groups.{GroupStays, empty_group}
 use Rattle.lk_disk.proofs.Devices.{passes_on}
 use Rattle.lk_node_interface.specs.declared.fault.ReplicaFault.TheVariants as fault
-use Rattle.lk_recovery.proofs.Recoveries.{err_as, refused_on, grown_base, grown_then, spared_all, second_after}
-use Rattle.lk_replica.proofs.Grouped.{says_more}
+use Rattle.lk_node_interface.specs.Faults.{WantsNoMemory, fault_number}
+use Rattle.lk_recovery.proofs.Recoveries.{err_as, refused_on, grown_base, grown_then, spared_more, second_after}
+use Rattle.lk_recovery.proofs.Recoveries.{file_after, left_after}
+use Rattle.lk_recovery.specs.Compacting.{AreLeft, AreSame}
+use Rattle.lk_replica.proofs.Grouped.{says_more, none_still}
+use Rattle.lk_replica.proofs.Refusals.{errs_as}
 use Rattle.lk_replica.proofs.grouping.step_in_group.Goals as goal
 
 pub returns-clause-goes : goal.returns-clause-goes
 returns-clause-goes g c honest =
     let m = g.M.Machine.meaning in
     let o = c.in_ok-outbox.outbox in
-    let is = c.in_ok-add.ensures in
+    let is = c.in_ok-add.ensures.added in
     record {
       notes = o.notes;
       letters = o.letters;
@@ -36,7 +40,7 @@ pub returns-clause-keeps : goal.returns-clause-keeps
 returns-clause-keeps g c honest =
     let m = g.M.Machine.meaning in
     let o = c.in_ok-outbox.outbox in
-    let is = c.in_ok-add.ensures in
+    let is = c.in_ok-add.ensures.added in
     let before = c.args.group.now in
     let room = c.in_ok-needs_sync.ensures.keeps honest in
     let step = c.in_ok-outbox.ensures.keeps honest in
@@ -182,7 +186,7 @@ returns-clause-exact g c honest = record {
       (c.in_ok-needs_sync.ensures.exact honest);
   out = c.in_ok-outbox.outbox;
   steps = c.in_ok-outbox.ensures.exact honest;
-  adds = c.in_ok-add.ensures;
+  adds = c.in_ok-add.ensures.added;
 }
 
 pub returns-clause-alive : goal.returns-clause-alive
@@ -193,14 +197,19 @@ returns-clause-alive g c = c.in_ok-outbox.ensures.alive
 pub returns-in_err-needs_sync-clause-refused : goal.returns-in_err-needs_sync-clause-refused
 returns-in_err-needs_sync-clause-refused g c =
     let was = c.in_err-needs_sync.ensures.refused in
+    let left : (c.group.inside.needs_sync ≡ false
+    → AreSame (disks c.args.store.now) (disks c.make_room.new.store))
+    → c.args.group.now ≡ empty_group → AreLeft c.args.node.now c.args.store.now c.make_room.new.store =
+    λ same fresh. inl (same (ap (λ (y : GroupValue). y.needs_sync) c.group.view_is
+    ∙ ap (λ (y : GroupValue). y.needs_sync) fresh)) in
     err_as _ _ _ c.from_residual.ensures.1 (record {
       told = was.told;
       only = was.only;
       calls = was.calls;
       earlier = λ is alive further. was.earlier is alive (omega (arith, further));
       second = was.second;
-      file = λ honest. tt;
-      stays = λ honest. spared_all _ _ tt;
+      file = λ honest fresh. inl (was.file honest);
+      stays = λ honest. spared_more _ _ _ left (was.stays honest);
       halts = was.halts;
       awake = was.awake;
     })
@@ -209,6 +218,13 @@ pub returns-in_err-outbox-clause-refused : goal.returns-in_err-outbox-clause-ref
 returns-in_err-outbox-clause-refused g c =
     let was = c.in_err-outbox.ensures.refused in
     let before = c.in_ok-needs_sync.ensures in
+    let left : (honest : g.D.LogDisk.is_honest) → (c.in_ok-needs_sync.needs_sync ≡ false
+    → AreSame (disks c.make_room.new.store) (disks c.step_to_file.new.store))
+    → c.args.group.now ≡ empty_group → AreLeft c.args.node.now c.args.store.now c.step_to_file.new.store =
+    λ honest same fresh. left_after c.args.node.now c.make_room.new.node c.args.store.now c.make_room.new.store
+    c.step_to_file.new.store (before.exact honest).rebases
+    (same (none_still _ _ _ _ _ _ _ (ap (λ (y : GroupValue). y.needs_sync) c.group.view_is
+    ∙ ap (λ (y : GroupValue). y.needs_sync) fresh) (before.exact honest))) in
     err_as _ _ _ c.from_residual-in_err-outbox.ensures.1 (record {
       told = was.told;
       only = was.only;
@@ -218,14 +234,17 @@ returns-in_err-outbox-clause-refused g c =
           λ is alive further. was.earlier is before.alive.store_alive (omega (arith, further, before.alive.further));
       second = λ honest is alive less. second_after c.args.node.now c.make_room.new.node c.args.store.now
           c.make_room.new.store (before.exact honest).rebases (was.earlier is before.alive.store_alive) less;
-      file = λ honest. tt;
-      stays = λ honest. spared_all _ _ tt;
+      file = λ honest fresh. file_after c.args.node.now c.make_room.new.node c.args.store.now c.make_room.new.store
+          c.step_to_file.new.store (before.exact honest).rebases (was.file honest);
+      stays = λ honest. spared_more _ _ _ (left honest) (was.stays honest);
       halts = was.halts;
       awake = λ wakes other. was.awake (c.make_room.ensures.halted ∙ wakes) other;
     })
 
 pub returns-in_err-add-clause-refused : goal.returns-in_err-add-clause-refused
 returns-in_err-add-clause-refused g c =
+    let unless_fresh : c.args.group.now ≡ empty_group → ⊥ =
+    λ fresh. let taken : false ≡ true = c.in_err-add.ensures.first fresh in cc taken in
     err_as _ _ fault.NoMemory c.from_residual-in_err-add.ensures.1 (record {
       told = tt;
       only = tt;
@@ -233,8 +252,24 @@ returns-in_err-add-clause-refused g c =
           (_, passes_on first.0 first.2 _ ((c.in_ok-outbox.ensures.exact honest).calls metered));
       earlier = λ is alive further. cc is;
       second = λ honest is alive less. absurd (cc is);
-      file = λ honest. tt;
-      stays = λ honest. tt;
+      file = λ honest fresh. absurd (unless_fresh fresh);
+      stays = λ honest fresh. absurd (unless_fresh fresh);
       halts = λ is. cc is;
       awake = λ wakes other. c.in_ok-outbox.ensures.alive.1;
     })
+
+-- ---- at the last generation
+
+pub returns-in_err-needs_sync-clause-last : goal.returns-in_err-needs_sync-clause-last
+returns-in_err-needs_sync-clause-last g c honest most due =
+    errs_as _ _ (λ e. WantsNoMemory (fault_number e)) c.from_residual.ensures.1
+    (c.in_err-needs_sync.ensures.last honest most due)
+
+pub returns-in_err-outbox-clause-last : goal.returns-in_err-outbox-clause-last
+returns-in_err-outbox-clause-last g c honest most due = absurd (c.in_ok-needs_sync.ensures.last honest most due)
+
+pub returns-in_err-add-clause-last : goal.returns-in_err-add-clause-last
+returns-in_err-add-clause-last g c honest most due = absurd (c.in_ok-needs_sync.ensures.last honest most due)
+
+pub returns-clause-last : goal.returns-clause-last
+returns-clause-last g c honest most due = c.in_ok-needs_sync.ensures.last honest most due

@@ -17,7 +17,7 @@ use Rattle.lk_replica.proofs.Grouped.{settled_keeps, settled_fits, settled_cover
 use Rattle.lk_replica.proofs.Grouped.{begin_recalls, based_cover, based_goes, based_stays}
 use Rattle.lk_disk.specs.Meters.{start}
 use Rattle.lk_node_interface.specs.declared.fault.ReplicaFault.TheVariants as fault
-use Rattle.lk_recovery.proofs.Recoveries.{err_as, grown_none, grown_base, grown_put, grown_less, spared_all}
+use Rattle.lk_recovery.proofs.Recoveries.{err_as, grown_none, grown_base, grown_put, grown_less}
 use Rattle.lk_replica.proofs.Refusals.{store_told, store_only, store_awake}
 use Rattle.lk_replica.proofs.grouping.step_to_file.Goals as goal
 
@@ -236,6 +236,7 @@ returns-clause-exact g c honest =
           grown_put c.args.store.now c.write_to_file.new.store put.live
           (let more = put.grows in omega (arith, more, few))
           put.beside;
+      file = c.in_ok-write_to_file.ensures.goes.file;
       calls = done.calls;
     }
 
@@ -254,7 +255,7 @@ returns-in_err-outbox-clause-refused g c =
       earlier = λ is alive further. cc is;
       second = λ honest is alive less. absurd (cc is);
       file = λ honest. (refl, refl, refl, refl);
-      stays = λ honest. tt;
+      stays = λ honest none s. refl;
       halts = λ is. c.in_err-outbox.ensures.halts;
       awake = λ was other. absurd (other refl);
     })
@@ -269,7 +270,7 @@ returns-in_err-write_to_file-clause-refused g c =
       earlier = λ is alive further. was.earlier is alive (omega (arith, further));
       second = λ honest is alive less. absurd (was.earlier is alive less);
       file = λ honest. was.file;
-      stays = λ honest. spared_all _ _ tt;
+      stays = was.stays;
       halts = λ is. absurd (store_awake _ was.of_store is);
       awake = λ wakes other. c.write_to_file.ensures.halted ∙ c.in_ok-outbox.ensures.awake;
     })

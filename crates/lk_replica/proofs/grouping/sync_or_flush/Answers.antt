@@ -1,4 +1,7 @@
+use Rattle.std.proofs.Common.{ap}
 use Rattle.lk_log.proofs.StoreLaws.{same_keeps, same_within}
+use Rattle.lk_node_interface.specs.Faults.{fault_of}
+use Rattle.lk_replica.proofs.Refusals.{sync_wants}
 use Rattle.lk_replica.proofs.Grouped.{settled_still, settled_none, settled_once}
 use Rattle.lk_recovery.proofs.Recoveries.{err_as, refused_after, sync_refused, sync_spares, sync_not_failed}
 use Rattle.lk_replica.proofs.grouping.sync_or_flush.Goals as goal
@@ -35,12 +38,16 @@ pub returns-in_err-flush-clause-refused : goal.returns-in_err-flush-clause-refus
 returns-in_err-flush-clause-refused g c =
     let was = c.in_err-flush.ensures in
     err_as _ _ _ c.from_residual.ensures.1 (record {
-      of_store = sync_refused c.args.store.now _ (λ dead. (was.refuses.0 dead).1) was.refuses.1;
-      calls = λ metered honest. refused_after _ _ _ (was.metered metered);
-      earlier = λ is alive less. sync_not_failed _ (was.refuses.1 alive) is;
-      file = c.flush.ensures.file;
-      stays = λ honest. sync_spares c.args.store.now c.flush.new.self
-          _ (λ dead. (c.flush.ensures.refuses.0 dead).0) was.refuses.1;
+      written = record {
+        of_store = sync_refused c.args.store.now _ (λ dead. (was.refuses.0 dead).1) was.refuses.1;
+        calls = λ metered honest. refused_after _ _ _ (was.metered metered);
+        earlier = λ is alive less. sync_not_failed _ (was.refuses.1 alive) is;
+        file = c.flush.ensures.file;
+        stays = λ honest. sync_spares c.args.store.now c.flush.new.self
+            _ (λ dead. (c.flush.ensures.refuses.0 dead).0) was.refuses.1;
+      };
+      memory = sync_wants c.args.store.now _ (λ dead. (was.refuses.0 dead).1) was.refuses.1;
+      device = λ alive. ap fault_of (was.refuses.1 alive);
     })
 
 -- ---- something waits
@@ -54,10 +61,14 @@ pub returns-in_err-sync-clause-refused : goal.returns-in_err-sync-clause-refused
 returns-in_err-sync-clause-refused g c =
     let was = c.in_err-sync.ensures in
     err_as _ _ _ c.from_residual-in_err-sync.ensures.1 (record {
-      of_store = sync_refused c.args.store.now _ (λ dead. (was.refuses.0 dead).1) was.refuses.1;
-      calls = λ metered honest. refused_after _ _ _ (was.metered metered);
-      earlier = λ is alive less. sync_not_failed _ (was.refuses.1 alive) is;
-      file = c.sync.ensures.file;
-      stays = λ honest. sync_spares c.args.store.now c.sync.new.self
-          _ (λ dead. (c.sync.ensures.refuses.0 dead).0) was.refuses.1;
+      written = record {
+        of_store = sync_refused c.args.store.now _ (λ dead. (was.refuses.0 dead).1) was.refuses.1;
+        calls = λ metered honest. refused_after _ _ _ (was.metered metered);
+        earlier = λ is alive less. sync_not_failed _ (was.refuses.1 alive) is;
+        file = c.sync.ensures.file;
+        stays = λ honest. sync_spares c.args.store.now c.sync.new.self
+            _ (λ dead. (c.sync.ensures.refuses.0 dead).0) was.refuses.1;
+      };
+      memory = sync_wants c.args.store.now _ (λ dead. (was.refuses.0 dead).1) was.refuses.1;
+      device = λ alive. ap fault_of (was.refuses.1 alive);
     })

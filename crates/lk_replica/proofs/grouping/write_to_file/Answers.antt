@@ -8,7 +8,8 @@ use Rattle.lk_log.specs.Stores.{HoldsEntries, KeepsAtLeast}
 use Rattle.lk_log.proofs.Room.{within_first, within_more}
 use Rattle.lk_node_interface.specs.Outboxes.{OutboxValue}
 use Rattle.lk_recovery.proofs.Recoveries.{err_as, refused_after, refused_on, put_refused, kept_then, not_failed_so}
-use Rattle.lk_replica.proofs.Grouped.{gathered_put, gathered_base, settled_rebases}
+use Rattle.lk_recovery.proofs.Recoveries.{put_spares, spared_more}
+use Rattle.lk_replica.proofs.Grouped.{gathered_put, gathered_base, settled_rebases, unsynced_same, same_on}
 use Rattle.lk_replica.proofs.grouping.write_to_file.Goals as goal
 
 pub returns-clause-done : goal.returns-clause-done
@@ -53,6 +54,7 @@ returns-clause-goes g c =
       store_alive = c.in_ok-put.ensures.failing;
       stands = λ yes. absurd (let both : false ≡ true = sym not_so ∙ yes in cc both);
       rests = λ no. refl;
+      file = λ no. c.put.ensures.file;
     }
 
 pub returns-then-outbox-clause-goes : goal.returns-then-outbox-clause-goes
@@ -74,6 +76,7 @@ returns-then-outbox-clause-goes g c =
         c.write_base.ensures.near,
       );
       rests = λ no. absurd (let both : true ≡ false = sym is ∙ no in cc both);
+      file = λ no. absurd (let both : true ≡ false = sym is ∙ no in cc both);
     }
 
 pub returns-clause-disks : goal.returns-clause-disks
@@ -169,16 +172,23 @@ returns-in_err-put-clause-refused g c =
       calls = λ metered honest. refused_after _ _ _ (was.metered metered);
       earlier = λ is alive further. not_failed_so _ (was.refuses.1 alive) is;
       file = c.put.ensures.file;
+      stays = λ honest. spared_more _ _ _
+          (same_on c.args.store.now c.args.store.now c.put.new.self c.args.needs_sync (λ none s. refl))
+          (put_spares c.args.store.now c.put.new.self _ c.put.ensures.file.0 (c.put.ensures.beside honest).0
+          (was.beside honest).1 (λ dead. (c.put.ensures.refuses.0 dead).0) was.refuses.1);
     })
 
 pub returns-in_err-sync_or_flush-clause-refused : goal.returns-in_err-sync_or_flush-clause-refused
 returns-in_err-sync_or_flush-clause-refused g c =
-    let was = c.in_err-sync_or_flush.ensures.refused in
+    let was = c.in_err-sync_or_flush.ensures.refused.written in
     err_as _ _ _ c.from_residual.ensures.1 (record {
       of_store = was.of_store;
       calls = was.calls;
       earlier = was.earlier;
       file = was.file;
+      stays = λ honest. spared_more _ _ _
+          (same_on c.args.store.now c.args.store.now c.sync_or_flush.new.store c.args.needs_sync (λ none s. refl))
+          (was.stays honest);
     })
 
 pub returns-in_err-write_base-clause-refused : goal.returns-in_err-write_base-clause-refused
@@ -192,4 +202,9 @@ returns-in_err-write_base-clause-refused g c =
           (omega (arith, less, c.sync_or_flush.ensures.file.1));
       file = kept_then c.args.store.now c.sync_or_flush.new.store c.write_base.new.store
           c.sync_or_flush.ensures.file was.file;
+      stays = λ honest. spared_more _ _ _
+          (same_on c.args.store.now c.sync_or_flush.new.store c.write_base.new.store c.args.needs_sync
+          (unsynced_same c.args.needs_sync c.args.store.now c.sync_or_flush.new.store
+          (c.in_ok-sync_or_flush.ensures.syncs_all honest)))
+          (was.stays honest);
     })

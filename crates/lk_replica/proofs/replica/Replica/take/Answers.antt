@@ -1,254 +1,233 @@
-use Rattle.std.proofs.Common.{◌≡◌, true, false, List, [], ◌++◌, IfErr, inl, inr, refl, sym, ◌∙◌, ap, subst, arith}
+use Rattle.std.proofs.Common.{◌≡◌, true, false, [], Bool, inr, refl, sym, ◌∙◌, ap, subst, arith}
 use Rattle.lk_log.specs.StoreValue.{disks}
-use Rattle.lk_node_interface.specs.Letters.{LetterValue, batch_of}
-use Rattle.lk_node_interface.specs.Outboxes.{OutboxValue}
-use Rattle.lk_node_interface.specs.declared.note.Note.{Note}
-use Rattle.lk_node.specs.Calls.{InputFits, NodeFits, LeavesFit}
-use Rattle.lk_node.specs.Keeping.{ReplicaHolds}
-use Rattle.lk_replica.specs.Posts.{CarriesAll, SendsSome}
-use Rattle.lk_replica.specs.ReplicaValue.{ReplicaValue}
-use Rattle.lk_recovery.specs.Compacting.{RebasesWhereDue}
-use Rattle.lk_replica.specs.Taking.{CallsOfStep, IsRefused}
-use Rattle.lk_recovery.specs.Rebased.{LeavesDisks}
-use Rattle.lk_replica.proofs.NoSend.{goes_not}
-use Rattle.lk_recovery.proofs.Recoveries.{grown_none}
-use Rattle.lk_replica.proofs.Refusals.{refused_by_parts}
-use Rattle.lk_log.proofs.Room.{within_same}
+use Rattle.lk_node_interface.specs.Faults.{WantsNoMemory, fault_number}
+use Rattle.lk_node.specs.Executing.{NothingToRun}
+use Rattle.lk_node.specs.NodeValue.{NodeValue}
+use Rattle.lk_recovery.proofs.Recoveries.{err_as}
+use Rattle.lk_replica.specs.Posts.{SendsWhether}
+use Rattle.lk_replica.specs.Taking.{IsRefused}
+use Rattle.lk_replica.proofs.Alone.{one_goes, one_leaves, one_passes, one_refused, one_remembers, one_syncs, one_taken}
+use Rattle.lk_replica.proofs.Alone.{none_leaves}
+use Rattle.lk_replica.proofs.NoSend.{ends_silently, goes_not}
+use Rattle.lk_replica.proofs.Refusals.{errs_as}
 use Rattle.lk_replica.proofs.replica.Replica.take.Goals as goal
-use Rattle.lk_disk.specs.Meters.{start}
-use Rattle.lk_recovery.specs.Remembering.{ReplicaRemembers}
-use Rattle.lk_node_interface.specs.Faults.{fault_number}
 
-pub returns-then-self-clause-gives : goal.returns-then-self-clause-gives
-returns-then-self-clause-gives g c = record {
+-- ---- what it gives to the post
+
+pub returns-in_err-gather-clause-gives : goal.returns-in_err-gather-clause-gives
+returns-in_err-gather-clause-gives g c = record {
   letters = [];
   carried = refl;
   holds = λ honest. record {
-    taken = tt;
-    goes = λ h n f heard. tt;
+    taken = goes_not _ _ _ c.from_residual.ensures.1 c.in_err-gather.ensures.refused.no_send;
+    goes = λ h n f heard. goes_not _ _ _ c.from_residual.ensures.1 c.in_err-gather.ensures.refused.no_send;
     syncs = λ genesis n x shown d listed said. absurd (omega (arith, listed.1));
   };
 }
 
-pub returns-in_err-outbox-clause-gives : goal.returns-in_err-outbox-clause-gives
-returns-in_err-outbox-clause-gives g c = record {
+pub returns-in_err-all-clause-gives : goal.returns-in_err-all-clause-gives
+returns-in_err-all-clause-gives g c = record {
   letters = [];
-  carried = refl;
+  carried = c.in_err-all.ensures.silent;
   holds = λ honest. record {
-    taken = goes_not _ _ _ c.from_residual.ensures.1 c.in_err-outbox.ensures.refused.only;
-    goes = λ h n f heard. goes_not _ _ _ c.from_residual.ensures.1 c.in_err-outbox.ensures.refused.only;
+    taken = goes_not _ _ _ c.from_residual-in_err-all.ensures.1 c.in_err-all.ensures.refused.no_send;
+    goes = λ h n f heard. goes_not _ _ _ c.from_residual-in_err-all.ensures.1 c.in_err-all.ensures.refused.no_send;
     syncs = λ genesis n x shown d listed said. absurd (omega (arith, listed.1));
   };
 }
 
-pub returns-in-Ok-clause-gives : goal.returns-in-Ok-clause-gives
-returns-in-Ok-clause-gives g c =
+pub returns-then-not-all-clause-gives : goal.returns-then-not-all-clause-gives
+returns-then-not-all-clause-gives g c =
     let m = g.M.Machine.meaning in
-    let letters : c.deref.result.now ≡ c.in_ok-outbox.outbox.letters = c.deref.ensures.value
-    ∙ ap (λ (o : OutboxValue). o.letters) c.outbox.view_is in
+    let t = g.M.Machine.IsText in
+    let metered = g.D.LogDisk.is_metered in
+    let old = c.args.self.now in
+    let mid = c.gather.new.self in
+    let new = c.release.new.self in
+    let group = c.gather.new.group in
+    let is = c.new-group.ensures in
+    let first = c.in_ok-gather.ensures in
+    let last = c.in_ok-all.ensures in
+    let ends = last.ends first.alive.0 first.alive.1 in
+    let lost : c.in_ok-all.all ≡ false = cc c.if-not-all.true in
     record {
-      letters = c.in_ok-outbox.outbox.letters;
-      carried = subst (λ (ls : List LetterValue). CarriesAll g.P.Post.Carries c.args.post.now ls c.deliver.new.post)
-          letters c.deliver.ensures.carries;
+      letters = group.letters;
+      carried = last.delivers.carried;
       holds = λ honest. record {
-        taken = record {
-          out = c.in_ok-outbox.outbox;
-          mid = (c.in_ok-outbox.ensures.exact honest).0;
-          between = (c.in_ok-outbox.ensures.exact honest).1;
-          rebases = subst (λ (r : ReplicaValue). RebasesWhereDue r.node r.store (c.in_ok-outbox.ensures.exact honest).0
-              (c.in_ok-outbox.ensures.exact honest).1) c.self.view_is (c.in_ok-outbox.ensures.exact honest).2;
-          stepped = (c.in_ok-outbox.ensures.exact honest).3;
-          steps = (c.in_ok-outbox.ensures.exact honest).4;
-          writes = (c.in_ok-outbox.ensures.exact honest).5;
-          noted = ap (λ (o : OutboxValue). o.notes) c.outbox.view_is;
-          sent = (
-            refl,
-            λ telling. c.in-Ok.ensures.all telling
-                ∙ ap (λ (ls : List LetterValue). g.P.Post.sent c.args.post.now ++ ls) letters,
-          );
-          calls = λ metered. subst
-              (λ (r : ReplicaValue). CallsOfStep r.node r.store c.in_ok-outbox.outbox c.rebase_and_step.new.store)
-              c.self.view_is (c.in_ok-outbox.ensures.calls metered honest);
-          alive = refl;
-          store_alive = c.in_ok-outbox.ensures.alive.store_alive;
-          awake = c.in_ok-outbox.ensures.alive.awake;
-        };
-        goes = λ h n f heard.
-            let fits : NodeFits m h n (ReplicaHolds m c.self.inside.node c.self.inside.store h.genesis n)
-            (disks c.self.inside.store) =
-            subst (λ (r : ReplicaValue). NodeFits m h n (ReplicaHolds m r.node r.store h.genesis n) (disks r.store))
-            (sym c.self.view_is) f in
-            subst (λ (notes : List Note). LeavesFit m h n
-            (ReplicaHolds m c.rebase_and_step.new.node c.rebase_and_step.new.store h.genesis n)
-            (disks c.rebase_and_step.new.store) notes (batch_of n c.in_ok-outbox.outbox.letters))
-            (sym (ap (λ (o : OutboxValue). o.notes) c.outbox.view_is))
-            ((c.in_ok-outbox.ensures.keeps honest).goes h n fits heard c.in_ok-outbox.outbox.letters
-            (λ l listed. listed));
-        syncs = λ genesis n x shown d listed said.
-            (c.in_ok-outbox.ensures.keeps honest).syncs genesis n x
-            (subst (λ (r : ReplicaValue). ReplicaRemembers r.node r.store genesis n)
-            (sym c.self.view_is) shown) d listed said;
+        taken = one_taken m t metered old mid new c.args.input c.new-group.result group is (first.exact honest)
+            (last.exact honest) (c.release.ensures.disks honest).room c.into_notes-notes.result.items
+            c.into_notes-notes.ensures _
+            (λ observable. subst (λ (all : Bool). SendsWhether all group.letters (g.P.Post.sent c.args.post.now)
+            (g.P.Post.sent c.release.new.post) (g.P.Post.failures c.args.post.now)
+            (g.P.Post.failures c.release.new.post)) lost (last.delivers.sends observable))
+            last.alive ends.store_alive (ap (λ (k : NodeValue). k.halted) ends.node ∙ first.alive.2);
+        goes = one_goes m old mid c.args.input c.new-group.result group is (first.keeps honest) metered new
+            (last.exact honest) (first.goes honest) c.into_notes-notes.result.items c.into_notes-notes.ensures;
+        syncs = one_syncs m old mid c.args.input c.new-group.result group is (first.keeps honest) metered new
+            (last.exact honest);
       };
     }
 
 pub returns-clause-gives : goal.returns-clause-gives
 returns-clause-gives g c =
     let m = g.M.Machine.meaning in
-    let letters : c.deref.result.now ≡ c.in_ok-outbox.outbox.letters = c.deref.ensures.value
-    ∙ ap (λ (o : OutboxValue). o.letters) c.outbox.view_is in
+    let t = g.M.Machine.IsText in
+    let metered = g.D.LogDisk.is_metered in
+    let old = c.args.self.now in
+    let mid = c.gather.new.self in
+    let new = c.release.new.self in
+    let group = c.gather.new.group in
+    let is = c.new-group.ensures in
+    let first = c.in_ok-gather.ensures in
+    let last = c.in_ok-all.ensures in
+    let ends = last.ends first.alive.0 first.alive.1 in
+    let all_went : c.in_ok-all.all ≡ true = cc c.if-not-all.false in
     record {
-      letters = c.in_ok-outbox.outbox.letters;
-      carried = subst (λ (ls : List LetterValue). CarriesAll g.P.Post.Carries c.args.post.now ls c.deliver.new.post)
-          letters c.deliver.ensures.carries;
+      letters = group.letters;
+      carried = last.delivers.carried;
       holds = λ honest. record {
-        taken = record {
-          out = c.in_ok-outbox.outbox;
-          mid = (c.in_ok-outbox.ensures.exact honest).0;
-          between = (c.in_ok-outbox.ensures.exact honest).1;
-          rebases = subst (λ (r : ReplicaValue). RebasesWhereDue r.node r.store (c.in_ok-outbox.ensures.exact honest).0
-              (c.in_ok-outbox.ensures.exact honest).1) c.self.view_is (c.in_ok-outbox.ensures.exact honest).2;
-          stepped = (c.in_ok-outbox.ensures.exact honest).3;
-          steps = (c.in_ok-outbox.ensures.exact honest).4;
-          writes = (c.in_ok-outbox.ensures.exact honest).5;
-          noted = ap (λ (o : OutboxValue). o.notes) c.outbox.view_is;
-          sent = (
-            refl,
-            λ telling. subst
-                (λ (ls : List LetterValue). SendsSome ls (g.P.Post.sent c.args.post.now)
-                (g.P.Post.sent c.deliver.new.post) (g.P.Post.failures c.args.post.now)
-                (g.P.Post.failures c.deliver.new.post)) letters (c.in-Err.ensures.some telling),
-          );
-          calls = λ metered. subst
-              (λ (r : ReplicaValue). CallsOfStep r.node r.store c.in_ok-outbox.outbox c.rebase_and_step.new.store)
-              c.self.view_is (c.in_ok-outbox.ensures.calls metered honest);
-          alive = refl;
-          store_alive = c.in_ok-outbox.ensures.alive.store_alive;
-          awake = c.in_ok-outbox.ensures.alive.awake;
-        };
-        goes = λ h n f heard.
-            let fits : NodeFits m h n (ReplicaHolds m c.self.inside.node c.self.inside.store h.genesis n)
-            (disks c.self.inside.store) =
-            subst (λ (r : ReplicaValue). NodeFits m h n (ReplicaHolds m r.node r.store h.genesis n) (disks r.store))
-            (sym c.self.view_is) f in
-            subst (λ (notes : List Note). LeavesFit m h n
-            (ReplicaHolds m c.rebase_and_step.new.node c.rebase_and_step.new.store h.genesis n)
-            (disks c.rebase_and_step.new.store) notes (batch_of n c.in_ok-outbox.outbox.letters))
-            (sym (ap (λ (o : OutboxValue). o.notes) c.outbox.view_is))
-            ((c.in_ok-outbox.ensures.keeps honest).goes h n fits heard c.in_ok-outbox.outbox.letters
-            (λ l listed. listed));
-        syncs = λ genesis n x shown d listed said.
-            (c.in_ok-outbox.ensures.keeps honest).syncs genesis n x
-            (subst (λ (r : ReplicaValue). ReplicaRemembers r.node r.store genesis n)
-            (sym c.self.view_is) shown) d listed said;
+        taken = one_taken m t metered old mid new c.args.input c.new-group.result group is (first.exact honest)
+            (last.exact honest) (c.release.ensures.disks honest).room c.into_notes-notes.result.items
+            c.into_notes-notes.ensures _
+            (λ observable. subst (λ (all : Bool). SendsWhether all group.letters (g.P.Post.sent c.args.post.now)
+            (g.P.Post.sent c.release.new.post) (g.P.Post.failures c.args.post.now)
+            (g.P.Post.failures c.release.new.post)) all_went (last.delivers.sends observable))
+            last.alive ends.store_alive (ap (λ (k : NodeValue). k.halted) ends.node ∙ first.alive.2);
+        goes = one_goes m old mid c.args.input c.new-group.result group is (first.keeps honest) metered new
+            (last.exact honest) (first.goes honest) c.into_notes-notes.result.items c.into_notes-notes.ensures;
+        syncs = one_syncs m old mid c.args.input c.new-group.result group is (first.keeps honest) metered new
+            (last.exact honest);
       };
     }
 
 -- ---- where it goes on
 
-pub invariant_of-self-in-Ok : goal.invariant_of-self-in-Ok
-invariant_of-self-in-Ok g c =
-    (λ lives. c.in_ok-outbox.ensures.alive.runs (c.self.invariant.0 c.if-self.false), c.rebase_and_step.ensures.format)
+pub returns-in_err-gather-clause-alive : goal.returns-in_err-gather-clause-alive
+returns-in_err-gather-clause-alive g c =
+    goes_not _ _ _ c.from_residual.ensures.1 c.in_err-gather.ensures.refused.no_send
 
-pub invariant_of-self-2 : goal.invariant_of-self-2
-invariant_of-self-2 g c =
-    (λ lives. c.in_ok-outbox.ensures.alive.runs (c.self.invariant.0 c.if-self.false), c.rebase_and_step.ensures.format)
+pub returns-in_err-all-clause-alive : goal.returns-in_err-all-clause-alive
+returns-in_err-all-clause-alive g c =
+    goes_not _ _ _ c.from_residual-in_err-all.ensures.1 c.in_err-all.ensures.refused.no_send
 
-pub returns-in-Ok-clause-alive : goal.returns-in-Ok-clause-alive
-returns-in-Ok-clause-alive g c = record {
-  alive = refl;
-  store_alive = c.in_ok-outbox.ensures.alive.store_alive;
-  awake = c.in_ok-outbox.ensures.alive.awake;
-  runs = c.in_ok-outbox.ensures.alive.runs (c.self.invariant.0 c.if-self.false);
-  remembers = λ honest genesis n shown. c.in_ok-outbox.ensures.alive.remembers honest genesis n
-      (subst (λ (r : ReplicaValue). ReplicaRemembers r.node r.store genesis n) (sym c.self.view_is) shown);
-}
+pub returns-then-not-all-clause-alive : goal.returns-then-not-all-clause-alive
+returns-then-not-all-clause-alive g c =
+    let first = c.in_ok-gather.ensures in
+    let last = c.in_ok-all.ensures in
+    let ends = last.ends first.alive.0 first.alive.1 in
+    record {
+      alive = last.alive;
+      store_alive = ends.store_alive;
+      awake = ap (λ (k : NodeValue). k.halted) ends.node ∙ first.alive.2;
+      runs = subst NothingToRun (sym ends.node) (first.first c.new-group.ensures).runs;
+      remembers = λ honest. one_remembers g.M.Machine.meaning c.args.self.now c.gather.new.self c.args.input
+          c.new-group.result c.gather.new.group c.new-group.ensures (first.keeps honest) g.D.LogDisk.is_metered
+          c.release.new.self (last.exact honest);
+    }
 
 pub returns-clause-alive : goal.returns-clause-alive
-returns-clause-alive g c = record {
-  alive = refl;
-  store_alive = c.in_ok-outbox.ensures.alive.store_alive;
-  awake = c.in_ok-outbox.ensures.alive.awake;
-  runs = c.in_ok-outbox.ensures.alive.runs (c.self.invariant.0 c.if-self.false);
-  remembers = λ honest genesis n shown. c.in_ok-outbox.ensures.alive.remembers honest genesis n
-      (subst (λ (r : ReplicaValue). ReplicaRemembers r.node r.store genesis n) (sym c.self.view_is) shown);
-}
-
-pub returns-in_err-outbox-clause-alive : goal.returns-in_err-outbox-clause-alive
-returns-in_err-outbox-clause-alive g c = goes_not _ _ _ c.from_residual.ensures.1 c.in_err-outbox.ensures.refused.only
+returns-clause-alive g c =
+    let first = c.in_ok-gather.ensures in
+    let last = c.in_ok-all.ensures in
+    let ends = last.ends first.alive.0 first.alive.1 in
+    record {
+      alive = last.alive;
+      store_alive = ends.store_alive;
+      awake = ap (λ (k : NodeValue). k.halted) ends.node ∙ first.alive.2;
+      runs = subst NothingToRun (sym ends.node) (first.first c.new-group.ensures).runs;
+      remembers = λ honest. one_remembers g.M.Machine.meaning c.args.self.now c.gather.new.self c.args.input
+          c.new-group.result c.gather.new.group c.new-group.ensures (first.keeps honest) g.D.LogDisk.is_metered
+          c.release.new.self (last.exact honest);
+    }
 
 -- ---- at every exit
 
-pub returns-then-self-clause-disks : goal.returns-then-self-clause-disks
-returns-then-self-clause-disks g c honest = record {
-  ends = λ h n f heard. f.left;
-  covers = λ genesis n x shown every. every;
-  room = within_same 132704 (disks c.args.self.now.store) (disks c.args.self.now.store) (λ s. refl);
-  grows = grown_none (disks c.args.self.now.store) (disks c.args.self.now.store) (λ s. refl);
-}
+pub returns-in_err-gather-clause-disks : goal.returns-in_err-gather-clause-disks
+returns-in_err-gather-clause-disks g c honest =
+    none_leaves g.M.Machine.meaning c.args.self.now c.args.input c.new-group.result c.new-group.ensures
+    (disks c.gather.new.self.store) (c.gather.ensures.disks honest) (c.gather.ensures.grows honest)
 
-pub returns-in_err-outbox-clause-disks : goal.returns-in_err-outbox-clause-disks
-returns-in_err-outbox-clause-disks g c honest =
-    let m = g.M.Machine.meaning in
-    subst (λ (r : ReplicaValue). LeavesDisks m (λ h. InputFits h c.args.input) 132704 r.node r.store
-    (disks c.rebase_and_step.new.store)) c.self.view_is (c.rebase_and_step.ensures.disks honest)
+pub returns-in_err-all-clause-disks : goal.returns-in_err-all-clause-disks
+returns-in_err-all-clause-disks g c honest =
+    one_leaves g.M.Machine.meaning c.args.self.now c.gather.new.self c.args.input c.new-group.result
+    c.gather.new.group c.new-group.ensures (c.in_ok-gather.ensures.keeps honest) (disks c.release.new.self.store)
+    (c.gather.ensures.disks honest) (c.gather.ensures.grows honest) (c.release.ensures.disks honest)
 
-pub returns-in-Ok-clause-disks : goal.returns-in-Ok-clause-disks
-returns-in-Ok-clause-disks g c honest =
-    let m = g.M.Machine.meaning in
-    subst (λ (r : ReplicaValue). LeavesDisks m (λ h. InputFits h c.args.input) 132704 r.node r.store
-    (disks c.rebase_and_step.new.store)) c.self.view_is (c.rebase_and_step.ensures.disks honest)
+pub returns-then-not-all-clause-disks : goal.returns-then-not-all-clause-disks
+returns-then-not-all-clause-disks g c honest =
+    one_leaves g.M.Machine.meaning c.args.self.now c.gather.new.self c.args.input c.new-group.result
+    c.gather.new.group c.new-group.ensures (c.in_ok-gather.ensures.keeps honest) (disks c.release.new.self.store)
+    (c.gather.ensures.disks honest) (c.gather.ensures.grows honest) (c.release.ensures.disks honest)
 
 pub returns-clause-disks : goal.returns-clause-disks
 returns-clause-disks g c honest =
-    let m = g.M.Machine.meaning in
-    subst (λ (r : ReplicaValue). LeavesDisks m (λ h. InputFits h c.args.input) 132704 r.node r.store
-    (disks c.rebase_and_step.new.store)) c.self.view_is (c.rebase_and_step.ensures.disks honest)
+    one_leaves g.M.Machine.meaning c.args.self.now c.gather.new.self c.args.input c.new-group.result
+    c.gather.new.group c.new-group.ensures (c.in_ok-gather.ensures.keeps honest) (disks c.release.new.self.store)
+    (c.gather.ensures.disks honest) (c.gather.ensures.grows honest) (c.release.ensures.disks honest)
 
 -- ---- what a refusal leaves
 
-pub returns-then-self-clause-refused : goal.returns-then-self-clause-refused
-returns-then-self-clause-refused g c = record {
-  told = inr (inr (inl refl));
-  failures = refl;
-  calls = λ metered honest. (0, start);
-  earlier = λ number alive store_alive further. let both : true ≡ false = sym c.if-self.true
-      ∙ ap (λ (r : ReplicaValue). r.failed) c.self.view_is ∙ alive in cc both;
-  second = λ honest number alive store_alive less. absurd
-      (let both : true ≡ false = sym c.if-self.true ∙ ap (λ (r : ReplicaValue). r.failed) c.self.view_is ∙ alive in
-      cc both);
-  once = λ ended. (refl, refl);
-  ends = λ other. sym (ap (λ (r : ReplicaValue). r.failed) c.self.view_is) ∙ c.if-self.true;
-  file = λ honest post. inl (refl, refl, refl, refl);
-  stays = λ honest device post. inl (λ s. refl);
-  halts = λ number. absurd (omega (arith, number));
-  awake = λ was other. was;
-}
+pub returns-in_err-gather-clause-refused : goal.returns-in_err-gather-clause-refused
+returns-in_err-gather-clause-refused g c =
+    err_as _ _ _ c.from_residual.ensures.1 (c.in_err-gather.ensures.first c.new-group.ensures).refused
 
-pub returns-in_err-outbox-clause-refused : goal.returns-in_err-outbox-clause-refused
-returns-in_err-outbox-clause-refused g c =
-    let node = c.rebase_and_step.new.node in
-    let store = c.rebase_and_step.new.store in
-    subst (λ (r : ReplicaValue). IfErr c.from_residual.result
-    (λ e. IsRefused g.D.LogDisk.is_honest g.D.LogDisk.is_metered r
-    (record { node = node; store = store; failed = true }) (fault_number e))) c.self.view_is
-    (refused_by_parts g.D.LogDisk.is_honest g.D.LogDisk.is_metered
-    _ _ (record { node = c.self.inside.node; store = c.self.inside.store; failed = c.self.inside.failed }) node store
-    c.from_residual.ensures.1 c.if-self.false c.in_err-outbox.ensures.cause c.in_err-outbox.ensures.refused)
+pub returns-in_err-all-clause-refused : goal.returns-in_err-all-clause-refused
+returns-in_err-all-clause-refused g c =
+    let first = c.in_ok-gather.ensures in
+    let was = c.in_err-all.ensures in
+    let ends = was.ends first.alive.0 first.alive.1 in
+    err_as (λ e. IsRefused g.D.LogDisk.is_honest g.D.LogDisk.is_metered c.args.self.now c.release.new.self
+    (fault_number e)) _ _ c.from_residual-in_err-all.ensures.1
+    (one_refused g.M.Machine.meaning g.M.Machine.IsText g.D.LogDisk.is_honest g.D.LogDisk.is_metered c.args.self.now
+    c.gather.new.self c.release.new.self c.args.input c.new-group.result c.gather.new.group c.new-group.ensures
+    first.exact (λ ended. cc (first.failed ended)) first.cause first.alive.2 _ was.refused ends.node ends.file
+    ends.refused.0 ends.refused.1)
 
-pub returns-clause-refused : goal.returns-clause-refused
-returns-clause-refused g c = record {
-  told = inr (inr (inr (inr refl)));
-  failures = c.in_ok-outbox.ensures.cause ∙ ap (λ (r : ReplicaValue). r.store.failures) c.self.view_is;
-  calls = λ metered honest.
-      let k = subst (λ (r : ReplicaValue). CallsOfStep r.node r.store c.in_ok-outbox.outbox
-      c.rebase_and_step.new.store) c.self.view_is (c.in_ok-outbox.ensures.calls metered honest) in (_, k.2);
-  earlier = λ number alive store_alive further. omega (arith, number);
-  second = λ honest number alive store_alive less. absurd (omega (arith, number));
-  once = λ ended. absurd (let both : false ≡ true = sym c.if-self.false
-      ∙ ap (λ (r : ReplicaValue). r.failed) c.self.view_is ∙ ended in cc both);
-  ends = λ other. absurd (other refl);
-  file = λ honest post. absurd (post refl);
-  stays = λ honest device post. absurd (post refl);
-  halts = λ number. absurd (omega (arith, number));
-  awake = λ was other. c.in_ok-outbox.ensures.alive.awake;
-}
+pub returns-then-not-all-clause-refused : goal.returns-then-not-all-clause-refused
+returns-then-not-all-clause-refused g c =
+    let first = c.in_ok-gather.ensures in
+    let last = c.in_ok-all.ensures in
+    let ends = last.ends first.alive.0 first.alive.1 in
+    record {
+      told = inr (inr (inr (inr refl)));
+      failures = last.cause ∙ first.cause;
+      calls = λ metered honest.
+          let k = one_passes g.M.Machine.meaning g.M.Machine.IsText g.D.LogDisk.is_metered c.args.self.now
+          c.gather.new.self c.release.new.self c.args.input c.new-group.result c.gather.new.group c.new-group.ensures
+          (first.exact honest) (last.exact honest) (c.release.ensures.disks honest).room metered in (_, k.2);
+      earlier = λ number alive store_alive further. omega (arith, number);
+      second = λ honest number alive store_alive less. absurd (omega (arith, number));
+      once = λ ended. absurd (cc (first.failed ended));
+      ends = λ other. absurd (other refl);
+      file = λ honest post. absurd (post refl);
+      stays = λ honest device post. absurd (post refl);
+      halts = λ number. absurd (omega (arith, number));
+      awake = λ was other. ap (λ (k : NodeValue). k.halted) ends.node ∙ first.alive.2;
+    }
+
+pub returns-in_err-gather-clause-sends : goal.returns-in_err-gather-clause-sends
+returns-in_err-gather-clause-sends g c =
+    err_as _ _ _ c.from_residual.ensures.1 (ends_silently _ _ c.in_err-gather.ensures.refused.no_send refl)
+
+pub returns-in_err-all-clause-sends : goal.returns-in_err-all-clause-sends
+returns-in_err-all-clause-sends g c =
+    err_as _ _ _ c.from_residual-in_err-all.ensures.1
+    (ends_silently _ _ c.in_err-all.ensures.refused.no_send c.in_err-all.ensures.silent)
+
+-- ---- at the last generation
+
+pub returns-in_err-gather-clause-last : goal.returns-in_err-gather-clause-last
+returns-in_err-gather-clause-last g c honest most due =
+    errs_as _ _ (λ e. WantsNoMemory (fault_number e)) c.from_residual.ensures.1
+    ((c.in_err-gather.ensures.first c.new-group.ensures).last honest most due)
+
+pub returns-in_err-all-clause-last : goal.returns-in_err-all-clause-last
+returns-in_err-all-clause-last g c honest most due =
+    absurd ((c.in_ok-gather.ensures.first c.new-group.ensures).last honest most due)
+
+pub returns-then-not-all-clause-last : goal.returns-then-not-all-clause-last
+returns-then-not-all-clause-last g c honest most due =
+    absurd ((c.in_ok-gather.ensures.first c.new-group.ensures).last honest most due)
+
+pub returns-clause-last : goal.returns-clause-last
+returns-clause-last g c honest most due = (c.in_ok-gather.ensures.first c.new-group.ensures).last honest most due

@@ -1,4 +1,4 @@
-use Rattle.lk_server_replica.proofs.Sayings.{released_of, unreleased_of, ended_of, of_groups}
+use Rattle.lk_server_replica.proofs.Sayings.{released_of, tells_of, unreleased_of, ended_of, of_groups}
 use Rattle.lk_server_replica.proofs.server_replica.ReplicaServerReplica.release.Goals as goal
 
 pub returns-clause-hands : goal.returns-clause-hands
@@ -7,7 +7,16 @@ returns-clause-hands g c =
     let d = g.D.LogDisk in
     let e = c.release.ensures in
     released_of m.meaning m.IsText d.is_honest d.is_metered g.P.Post.Carries c.args.self.now c.release.new.self
-    c.args.group.now c.args.post.now c.release.new.post c.release.result e.fits e.disks e.syncs e.gives e.exact e.alive
+    c.args.group.now c.args.post.now c.release.new.post g.P.Post.sent g.P.Post.failures g.P.Post.is_observable
+    c.release.result e.fits e.disks e.syncs e.delivers e.exact e.alive
+
+pub returns-clause-tells : goal.returns-clause-tells
+returns-clause-tells g c =
+    let m = g.M.Machine in
+    let d = g.D.LogDisk in
+    tells_of m.meaning m.IsText d.is_honest d.is_metered g.P.Post.Carries c.args.self.now c.release.new.self
+    c.args.group.now c.args.post.now c.release.new.post g.P.Post.sent g.P.Post.failures g.P.Post.is_observable
+    c.release.result c.release.ensures.delivers
 
 pub returns-clause-silent : goal.returns-clause-silent
 returns-clause-silent g c =
