@@ -53,7 +53,7 @@ IsReply q bytes r = (node : ℕ)
     × Spells (reply_of q.cluster node q.request.client q.request.number r)
     (replied (key_list q.destination.seals.keys) q.destination.seals.cluster q.request.client bytes)
 
--- what the client receives if this arrives next: a reply if it is one to the request, nothing if nothing arrives
+-- what the client hears if its next receive finds this: a reply if it is one to the request, or nothing
 abbrev pub HearsNext : Question → Option (SocketAddr × List ℕ) → Heard → Type 0
 HearsNext q next Nothing = next ≡ None
 HearsNext q next Other = (d : SocketAddr × List ℕ) × (next ≡ Some d) × ((r : ReplyValue) → IsReply q d.1 r → ⊥)
@@ -100,12 +100,12 @@ pub record Asker (S : Type 0) : Type 0 where
   pub socket : S
   pub followed : ℕ
 
--- what a kind of socket has sent, how many of its sends have failed, and what arrives next; and the question of a
--- client at such a socket
+-- what a kind of socket has sent, how many of its sends have failed, and what its next receive finds; and the question
+-- of a client at such a socket
 module _ {S : Type 0} (sent : S → List (SocketAddr × List ℕ)) (failures : S → ℕ)
     (next : S → Option (SocketAddr × List ℕ)) (q : Question) where
-  -- the client receives what arrives next, and returns the reply if that ends the exchange; for an Elsewhere to follow,
-  -- the bytes go to the member named there, and nothing else is sent
+  -- the client receives once, and returns the reply if that ends the exchange; for an Elsewhere to follow, the bytes go
+  -- to the member named there, and nothing else is sent
   pub record Receives (bytes : List ℕ) (told : Option ReplyValue) (old new : Asker S) : Type 0 where
     pub heard : Heard
     pub hears : HearsNext q (next old.socket) heard

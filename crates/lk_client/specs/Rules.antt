@@ -22,8 +22,8 @@ pub record IsReplied {S : Type 0} (sent : S → List (SocketAddr × List ℕ)) (
   pub says : IsReply q datagram.1 reply
   pub silent : sent new ≡ sent last
 
--- what a kind of socket has sent, how many of its sends have failed, and what arrives next; and the question of a
--- client at such a socket
+-- what a kind of socket has sent, how many of its sends have failed, and what its next receive finds; and the question
+-- of a client at such a socket
 module _ {S : Type 0} (sent : S → List (SocketAddr × List ℕ)) (failures : S → ℕ)
     (next : S → Option (SocketAddr × List ℕ)) (q : Question) where
   -- a client that keeps the rule, with so many receives for each port

@@ -2,7 +2,7 @@
 
 ghost use Rattle.std.specs.Prelude.{◌≡◌, ◌≤◌, ◌⊎◌, ◌↔◌, true, Some, IfOk, IfErr, OnErr, IfSome, IsSomeAnd};
 ghost use Rattle.lk_messages.specs.Grammar.{Spells};
-ghost use Rattle.lk_transport.specs.ReceiveBuffers.{next_of};
+ghost use Rattle.lk_transport.specs.Streams.{next_of};
 ghost use Rattle.lk_client.specs.Questions.{asking, IsAsked, HearsNext, SendsOnce, Receives, Tries, Exchanges, IsFinal};
 ghost use Rattle.lk_client.specs.Rules.{SendsOnly, AsksInTurn, Comes};
 ghost use Rattle.lk_client.specs.declared.reply.Reply.{Reply as ReplyValue};
@@ -130,7 +130,7 @@ fn receive_next<S: DatagramSocket>(
     bytes: &[u8],
     followed: &mut u32,
 ) -> Option<Reply>
-    // It receives what arrives next, which either ends the exchange or is followed to the member that it names.
+    // What its receive finds either ends the exchange or is followed to the member that it names.
     ensures heard { S.is_observable → Receives S.sent S.failures (next_of S.incoming) question.now bytes.now result
         (record { socket = socket.old; followed = followed.old })
         (record { socket = socket.new; followed = followed.new }) }

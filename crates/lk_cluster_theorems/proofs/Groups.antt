@@ -78,22 +78,22 @@ hears_later : (genesis : Genesis) (sent : List Datagram) (trace more : List Note
     → MayHear (happened genesis sent trace) o → MayHear (happened genesis sent (trace ++ more)) o
 hears_later genesis sent trace more None hears = tt
 hears_later genesis sent trace more (Some bytes) hears =
-    record { said = hears.said; asked = λ r cluster spelled. asked_later trace more r (hears.asked r cluster spelled) }
+    record { said = hears.said; asked = λ r spelled. asked_later trace more r (hears.asked r spelled) }
 
 -- of a step that noted and said nothing only what it was asked joins the trace
-silent_here : (n : ℕ) (o : Option (List ℕ)) (here : List Note) (j : TracesStep n o ([], []) here)
+silent_here : (cluster n : ℕ) (o : Option (List ℕ)) (here : List Note) (j : TracesStep cluster n o ([], []) here)
     → here ≡ asked_note j.request
-silent_here n o here j =
+silent_here cluster n o here j =
     j.trace_is ∙ ap (λ (l : List Note). (asked_note j.request ++ []) ++ l) j.tells_of
     ∙ append-nil (asked_note j.request ++ []) ∙ append-nil (asked_note j.request)
 
 -- what is given may be heard, once all that it asks is noted
 pub all_hear : (genesis : Genesis) (n : ℕ) (sent : List Datagram) (trace : List Note) (is : List Input)
-    (more : List Note) → TracesGroup n (map heard_by is) [] more → AllMay genesis sent (map heard_by is)
+    (more : List Note) → TracesGroup genesis.cluster n (map heard_by is) [] more → AllMay genesis sent (map heard_by is)
     → AllByRecursion (InputFits (happened genesis sent (trace ++ more))) is
 all_hear genesis n sent trace [] more joins may = tt
 all_hear genesis n sent trace (i ∷ is) more joins may =
-    let here = silent_here n (heard_by i) joins.0 joins.3 in
+    let here = silent_here genesis.cluster n (heard_by i) joins.0 joins.3 in
     let first = heard genesis sent trace (heard_by i) joins.3.request may.0 joins.3.asks in
     let hears = hears_later genesis sent (trace ++ asked_note joins.3.request) joins.1 (heard_by i) first in
     let rest = all_hear genesis n sent (trace ++ asked_note joins.3.request) is joins.1 joins.4 may.1 in
@@ -197,7 +197,7 @@ module _ (genesis : Genesis) (n : ℕ) (seats : List Node) (index : ℕ) (node :
   -- ---- a step
 
   goes_by : (r mid : ReplicaValue) (came : Option (List ℕ)) (request : Option RequestValue) (notes told : List Note)
-      (batch : List Datagram) → AreAsking came request → RecordsReplies batch told
+      (batch : List Datagram) → AreAsking genesis.cluster came request → RecordsReplies batch told
       → GoesBy ServerHolds server_disks table_meaning n (serving r) came (serving mid) notes batch
       → (sent : List Datagram) (trace : List Note) → MayCome genesis sent came → IsUpWith r sent trace
       → IsUpWith mid (sent ++ batch) (trace ++ ((asked_note request ++ notes) ++ told))
@@ -244,7 +244,7 @@ module _ (genesis : Genesis) (n : ℕ) (seats : List Node) (index : ℕ) (node :
       × StaysWithin max_after (disks r.store) (disks mid.store)
 
   pub step_on : (r mid : ReplicaValue) (i : Input) (step : StepSaid) → StepGoes r i mid step → (here : List Note)
-      → TracesStep n (heard_by i) step here → (sent : List Datagram) (trace : List Note)
+      → TracesStep genesis.cluster n (heard_by i) step here → (sent : List Datagram) (trace : List Note)
       → MayCome genesis sent (heard_by i)
       → IsUpWith r sent trace → IsUpWith mid (sent ++ batch_of n step.1) (trace ++ here)
   step_on r mid i step goes here j sent trace may w =
@@ -275,7 +275,8 @@ module _ (genesis : Genesis) (n : ℕ) (seats : List Node) (index : ℕ) (node :
 
   -- one that goes through
   goes_through : (is : List Input) (r q : ReplicaValue) (said : List StepSaid)
-      → GoesThrough table_meaning n r is q said → (more : List Note) → TracesGroup n (map heard_by is) said more
+      → GoesThrough table_meaning n r is q said → (more : List Note)
+      → TracesGroup genesis.cluster n (map heard_by is) said more
       → (sent : List Datagram) (trace : List Note) → AllMay genesis sent (map heard_by is) → IsUpWith r sent trace
       → IsUpWith q (sent ++ batch_of n (letters_of said)) (trace ++ more)
   goes_through [] r q said goes more joins sent trace may w =
@@ -286,8 +287,8 @@ module _ (genesis : Genesis) (n : ℕ) (seats : List Node) (index : ℕ) (node :
   goes_through (i ∷ is) r q said goes more joins sent trace may w =
       let mid : ReplicaValue = goes.0 in
       let step : StepSaid = (goes.1, goes.2) in
-      let j : TracesGroup n (heard_by i ∷ map heard_by is) (step ∷ goes.3) more =
-      subst (λ (l : List StepSaid). TracesGroup n (heard_by i ∷ map heard_by is) l more) goes.4 joins in
+      let j : TracesGroup genesis.cluster n (heard_by i ∷ map heard_by is) (step ∷ goes.3) more =
+      subst (λ (l : List StepSaid). TracesGroup genesis.cluster n (heard_by i ∷ map heard_by is) l more) goes.4 joins in
       let first = step_on r mid i step (goes.5, goes.6) j.0 j.3 sent trace may.0 w in
       let rest = goes_through is mid q goes.3 goes.7 j.1 j.4 (sent ++ batch_of n step.1) (trace ++ j.0)
       (all_later genesis sent (batch_of n step.1) (map heard_by is) may.1) first in
@@ -299,7 +300,7 @@ module _ (genesis : Genesis) (n : ℕ) (seats : List Node) (index : ℕ) (node :
       (append_assoc trace j.0 j.1 ∙ ap (λ (l : List Note). trace ++ l) (sym j.2)) rest
 
   -- of one that was refused what was asked is
-  all_asked : (given : List (Option (List ℕ))) (more : List Note) → TracesGroup n given [] more
+  all_asked : (given : List (Option (List ℕ))) (more : List Note) → TracesGroup genesis.cluster n given [] more
       → (r : ReplicaValue) (sent : List Datagram) (trace : List Note) → IsUpWith r sent trace
       → IsUpWith r sent (trace ++ more)
   all_asked [] more joins r sent trace w =
@@ -308,7 +309,7 @@ module _ (genesis : Genesis) (n : ℕ) (seats : List Node) (index : ℕ) (node :
       let asked = asked_maybe ServerHolds server_disks table_meaning genesis
       (seats_of (Up (serving r))) sent trace w joins.3.request in
       let first = subst (λ (l : List Note). IsUpWith r sent (trace ++ l))
-      (sym (silent_here n o joins.0 joins.3)) asked in
+      (sym (silent_here genesis.cluster n o joins.0 joins.3)) asked in
       let rest = all_asked given joins.1 joins.4 r sent (trace ++ joins.0) first in
       subst (λ (l : List Note). IsUpWith r sent l)
       (append_assoc trace joins.0 joins.1 ∙ ap (λ (l : List Note). trace ++ l) (sym joins.2)) rest
@@ -337,9 +338,10 @@ module _ (genesis : Genesis) (n : ℕ) (seats : List Node) (index : ℕ) (node :
       (q : ReplicaValue) (says : SaysOf table_meaning IsTableText Metered r given letters q) (more : List Note)
       (sent : List Datagram) (trace : List Note) (may : AllMay genesis sent given) (w : IsUpWith r sent trace) where
     by_group : (group : SaysByGroup table_meaning IsTableText Metered r given letters q)
-        → TracesGroup n given group.said more → Leaves (sent ++ batch_of n letters) (trace ++ more) q
+        → TracesGroup genesis.cluster n given group.said more → Leaves (sent ++ batch_of n letters) (trace ++ more) q
     by_group group joins =
-        let j = subst (λ (g : List (Option (List ℕ))). TracesGroup n g group.said more) (sym group.are_given) joins in
+        let j = subst (λ (g : List (Option (List ℕ))). TracesGroup genesis.cluster n g group.said more)
+        (sym group.are_given) joins in
         let m = subst (λ (g : List (Option (List ℕ))). AllMay genesis sent g) (sym group.are_given) may in
         let through = group.goes genesis n (remembers r sent trace w) n in
         let last = goes_through group.inputs r q group.said through more j sent trace m w in
@@ -349,11 +351,12 @@ module _ (genesis : Genesis) (n : ℕ) (seats : List Node) (index : ℕ) (node :
           down = λ is. absurd (let both : true ≡ false = sym is ∙ group.taken.alive in cc both);
         }
 
-    by_refusal : IsSilenced letters q → TracesGroup n given [] more
+    by_refusal : IsSilenced letters q → TracesGroup genesis.cluster n given [] more
         → Leaves (sent ++ batch_of n letters) (trace ++ more) q
     by_refusal silent joins =
         let asked = all_asked given more joins r sent trace w in
-        let j = subst (λ (g : List (Option (List ℕ))). TracesGroup n g [] more) (sym says.are_given) joins in
+        let j = subst (λ (g : List (Option (List ℕ))). TracesGroup genesis.cluster n g [] more) (sym says.are_given)
+        joins in
         let m = subst (λ (g : List (Option (List ℕ))). AllMay genesis sent g) (sym says.are_given) may in
         let hears = all_hear genesis n sent trace says.inputs more j m in
         let left = says.leaves.ends (happened genesis sent (trace ++ more)) n
@@ -369,10 +372,11 @@ module _ (genesis : Genesis) (n : ℕ) (seats : List Node) (index : ℕ) (node :
         }
 
     by_comes : (comes : SaysByGroup table_meaning IsTableText Metered r given letters q ⊎ IsSilenced letters q)
-        → TracesGroup n given (steps_of Metered comes) more → Leaves (sent ++ batch_of n letters) (trace ++ more) q
+        → TracesGroup genesis.cluster n given (steps_of Metered comes) more
+        → Leaves (sent ++ batch_of n letters) (trace ++ more) q
     by_comes (inl group) joins = by_group group joins
     by_comes (inr silent) joins = by_refusal silent joins
 
-    pub group_leaves : TracesGroup n given (steps_of Metered says.comes) more
+    pub group_leaves : TracesGroup genesis.cluster n given (steps_of Metered says.comes) more
         → Leaves (sent ++ batch_of n letters) (trace ++ more) q
     group_leaves joins = by_comes says.comes joins

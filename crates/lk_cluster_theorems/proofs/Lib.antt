@@ -5,8 +5,11 @@ mod Keeping
 mod Tracing
 mod Continuing
 mod Serving
+mod Processes
+mod Runs
 mod Outcomes
 mod Sealing
+mod Stopping
 mod Forgetting
 mod ComingBack
 mod Saying

@@ -113,39 +113,39 @@ one_request : (k cluster : ℕ) (q r : RequestValue) (bytes : List ℕ) → Spel
 one_request k cluster q r bytes s t =
     request_of q r (ap (λ (m : Message). m.content) (one_message (asks_in k q) (asks_in cluster r) bytes s t))
 
-request_in : (bytes : List ℕ) (read : Option (ℕ × (ℕ × RequestValue))) → whole read_behind (drop 4 bytes) ≡ read
-    → (o : Option RequestValue) × IsRequestIn bytes o
-request_in bytes None is = (
+request_in : (cluster : ℕ) (bytes : List ℕ) (read : Option (ℕ × (ℕ × RequestValue)))
+    → whole read_behind (drop 4 bytes) ≡ read → (o : Option RequestValue) × IsRequestIn cluster bytes o
+request_in cluster bytes None is = (
   None,
   record {
-    only = λ r cluster s. absurd
+    only = λ r s. absurd
         (let bad : None ≡ Some (cluster, (0, r)) = sym is ∙ read_there cluster r bytes s in cc bad);
     some = λ r e. absurd (cc e);
   },
 )
-request_in bytes (Some x) is = elim (decided_asking x.0 x.1.1 bytes) [
+request_in cluster bytes (Some x) is = elim (decided_asking cluster x.1.1 bytes) [
   | inl s ↦ (
     Some x.1.1,
     record {
-      only = λ r cluster t. ap Some (one_request x.0 cluster x.1.1 r bytes s t);
-      some = λ r e. (x.0, subst (λ (q : RequestValue). Spells (asks_in x.0 q) bytes) (some_same x.1.1 r e) s);
+      only = λ r t. ap Some (one_request cluster cluster x.1.1 r bytes s t);
+      some = λ r e. subst (λ (q : RequestValue). Spells (asks_in cluster q) bytes) (some_same x.1.1 r e) s;
     },
   )
   | inr none ↦ (
     None,
     record {
-      only = λ r cluster t. absurd
-          (none (subst (λ (y : ℕ × (ℕ × RequestValue)). Spells (asks_in y.0 y.1.1) bytes)
+      only = λ r t. absurd
+          (none (subst (λ (y : ℕ × (ℕ × RequestValue)). Spells (asks_in cluster y.1.1) bytes)
           (sym (some_same x (cluster, (0, r)) (sym is ∙ read_there cluster r bytes t))) t));
       some = λ r e. absurd (cc e);
     },
   )
 ]
 
--- some request is asked by what comes, or none
-pub asks_something : (came : Option (List ℕ)) → (o : Option RequestValue) × AreAsking came o
-asks_something None = (None, refl)
-asks_something (Some bytes) = request_in bytes (whole read_behind (drop 4 bytes)) refl
+-- some request to the cluster is asked by what comes, or none
+pub asks_something : (cluster : ℕ) (came : Option (List ℕ)) → (o : Option RequestValue) × AreAsking cluster came o
+asks_something cluster None = (None, refl)
+asks_something cluster (Some bytes) = request_in cluster bytes (whole read_behind (drop 4 bytes)) refl
 
 -- ---- what datagrams answer
 

@@ -25,20 +25,21 @@ use Rattle.lk_cluster_theorems.proofs.Requests.{asks_something, tells_something}
 module _ (genesis : Genesis) (n : ℕ) where
   -- this joins the trace by a group
   abbrev pub Traced : List (Option (List ℕ)) → List StepSaid → Type 0
-  Traced given said = (trace : List Note) × TracesGroup n given said trace
+  Traced given said = (trace : List Note) × TracesGroup genesis.cluster n given said trace
 
   -- a step, and those after it
   joined : (o : Option (List ℕ)) (given : List (Option (List ℕ))) (step : StepSaid) (said : List StepSaid)
-      (here : List Note) → TracesStep n o step here → Traced given said → Traced (o ∷ given) (step ∷ said)
+      (here : List Note) → TracesStep genesis.cluster n o step here → Traced given said
+      → Traced (o ∷ given) (step ∷ said)
   joined o given step said here j rest = (here ++ rest.0, (here, rest.0, refl, j, rest.1))
 
   -- of one that was refused
   trace_refused : (given : List (Option (List ℕ))) → Traced given []
   trace_refused [] = ([], refl)
   trace_refused (o ∷ given) =
-      let asks = asks_something o in
+      let asks = asks_something genesis.cluster o in
       let rest = trace_refused given in
-      let j : TracesStep n o ([], []) ((asked_note asks.0 ++ []) ++ []) =
+      let j : TracesStep genesis.cluster n o ([], []) ((asked_note asks.0 ++ []) ++ []) =
       record { request = asks.0; asks = asks.1; told = []; tells_of = refl; trace_is = refl } in
       (((asked_note asks.0 ++ []) ++ []) ++ rest.0, ((asked_note asks.0 ++ []) ++ [], rest.0, refl, j, rest.1))
 
@@ -50,7 +51,7 @@ module _ (genesis : Genesis) (n : ℕ) where
         → IsUpWith genesis n seats index node at s r sent trace → (told : List Note)
         × RecordsReplies (batch_of n step.1) told
     step_tells r mid i step goes sent trace may w =
-        let asks = asks_something (heard_by i) in
+        let asks = asks_something genesis.cluster (heard_by i) in
         let since = asked_maybe ServerHolds server_disks table_meaning genesis _ sent trace w asks.0 in
         let h = happened genesis sent (trace ++ asked_note asks.0) in
         let hears = heard genesis sent trace (heard_by i) asks.0 may asks.1 in
@@ -59,11 +60,12 @@ module _ (genesis : Genesis) (n : ℕ) where
         tells_something (batch_of n step.1) (λ d c. let p = g.may d c in (said_by genesis n p.message, p.spelled))
 
     step_joins : (i : Input) (step : StepSaid) (told : (notes : List Note) × RecordsReplies (batch_of n step.1) notes)
-        → TracesStep n (heard_by i) step ((asked_note (asks_something (heard_by i)).0 ++ step.0) ++ told.0)
+        → TracesStep genesis.cluster n (heard_by i) step
+        ((asked_note (asks_something genesis.cluster (heard_by i)).0 ++ step.0) ++ told.0)
     step_joins i step told =
         record {
-          request = (asks_something (heard_by i)).0;
-          asks = (asks_something (heard_by i)).1;
+          request = (asks_something genesis.cluster (heard_by i)).0;
+          asks = (asks_something genesis.cluster (heard_by i)).1;
           told = told.0;
           tells_of = told.1;
           trace_is = refl;
@@ -79,7 +81,7 @@ module _ (genesis : Genesis) (n : ℕ) where
         let mid : ReplicaValue = goes.0 in
         let step : StepSaid = (goes.1, goes.2) in
         let told = step_tells r mid i step (goes.5, goes.6) sent trace may.0 w in
-        let here = (asked_note (asks_something (heard_by i)).0 ++ step.0) ++ told.0 in
+        let here = (asked_note (asks_something genesis.cluster (heard_by i)).0 ++ step.0) ++ told.0 in
         let first = step_on genesis n seats index node at s r mid i step (goes.5, goes.6) here
         (step_joins i step told) sent trace may.0 w in
         let rest = trace_through is mid q goes.3 goes.7 (sent ++ batch_of n step.1) (trace ++ here)

@@ -2,7 +2,7 @@
 -- start and stop one after another, in any order.
 use Rattle.std.proofs.Common.{inl, inr}
 use Rattle.std.specs.Prelude.{◌≡◌, ◌⊎◌, ℕ, true, false, Option, Some, None, List, [], ◌∷◌, ◌++◌}
-use Rattle.std.specs.Prelude.{map, drop}
+use Rattle.std.specs.Prelude.{map, drop, Contains}
 use Rattle.std.specs.List.{AllByRecursion}
 use Rattle.std.specs.declared.net.socket_addr.SocketAddr.{SocketAddr}
 use Rattle.lk_types.specs.declared.genesis.Genesis.{Genesis}
@@ -20,6 +20,7 @@ use Rattle.lk_node.specs.Keeping.{ReplicaHolds}
 use Rattle.lk_replica.specs.Groups.{StepSaid}
 use Rattle.lk_replica.specs.ReplicaValue.{ReplicaValue}
 use Rattle.lk_server_replica.specs.Sayings.{SaysByGroup, IsSilenced, SaysOf}
+use Rattle.lk_server.specs.Premises.{IsNoNodeMessage}
 use Rattle.lk_server.specs.ProbeHandling.{HandlesProbes}
 use Rattle.lk_server_replica.specs.Showing.{IsShown}
 use Rattle.lk_server.specs.Servers.{ServerValue, Turn, LastTurn, IsIdle}
@@ -61,6 +62,11 @@ ServerHolds s genesis n x = ReplicaHolds table_meaning s.replica.node s.replica.
 abbrev pub server_disks : ServerValue ReplicaValue → Side → Disk
 server_disks s = disks s.replica.store
 
+-- the two disks of a node, up or down
+abbrev pub disks_in : Life (ServerValue ReplicaValue) → Side → Disk
+disks_in (Up server) = server_disks server
+disks_in (Down device) = disk_of device
+
 -- the server of that node has started from what these disks have, and no letter to itself is waiting
 pub record HasStarted (genesis : Genesis) (n : ℕ) (old : Side → Disk) (s : ServerValue ReplicaValue) : Type 0 where
   pub notes : List Note
@@ -79,6 +85,16 @@ Network = Genesis → List Datagram → ServerValue ReplicaValue → List (Socke
 abbrev pub ForgesNothing : Network
 ForgesNothing genesis sent server came =
     AllByRecursion (λ (c : SocketAddr × List ℕ). MayCome genesis sent (Some c.1)) came
+
+-- a node of the cluster has sent a datagram of these bytes
+abbrev pub WasGiven : List Datagram → List ℕ → Type 0
+WasGiven sent bytes = (d : Datagram) × Contains sent d × (d.bytes ≡ bytes)
+
+-- each is a copy of a datagram that a node of the cluster has sent, or no node's message. So it is where nobody but the
+-- nodes sends such messages; the network forges nothing then
+abbrev pub OnlyDelivers : Network
+OnlyDelivers genesis sent server came =
+    AllByRecursion (λ (c : SocketAddr × List ℕ). WasGiven sent c.1 ⊎ IsNoNodeMessage c.1) came
 
 -- ---- what a replica says
 
@@ -99,21 +115,21 @@ abbrev pub next_step : List StepSaid → StepSaid
 next_step [] = ([], [])
 next_step (step ∷ said) = step
 
--- what a step of the node of that number, with this input, adds to the trace: the request in the input, its notes, and
--- the answers and passes that it sends
-pub record TracesStep (n : ℕ) (o : Option (List ℕ)) (step : StepSaid) (trace : List Note) : Type 0 where
+-- what a step of the node of that number, with this input, adds to the trace: the request in the input, if it is one to
+-- this cluster, its notes, and the answers and passes that it sends
+pub record TracesStep (cluster n : ℕ) (o : Option (List ℕ)) (step : StepSaid) (trace : List Note) : Type 0 where
   pub request : Option RequestValue
-  pub asks : AreAsking o request
+  pub asks : AreAsking cluster o request
   pub told : List Note
   pub tells_of : RecordsReplies (batch_of n step.1) told
   pub trace_is : trace ≡ (asked_note request ++ step.0) ++ told
 
 -- and what a group adds, one step after another
-abbrev pub TracesGroup : ℕ → List (Option (List ℕ)) → List StepSaid → List Note → Type 0
-TracesGroup n [] said trace = trace ≡ []
-TracesGroup n (o ∷ given) said trace =
-    (here : List Note) × (rest : List Note) × (trace ≡ here ++ rest) × TracesStep n o (next_step said) here
-    × TracesGroup n given (drop 1 said) rest
+abbrev pub TracesGroup : ℕ → ℕ → List (Option (List ℕ)) → List StepSaid → List Note → Type 0
+TracesGroup cluster n [] said trace = trace ≡ []
+TracesGroup cluster n (o ∷ given) said trace =
+    (here : List Note) × (rest : List Note) × (trace ≡ here ++ rest) × TracesStep cluster n o (next_step said) here
+    × TracesGroup cluster n given (drop 1 said) rest
 
 -- ---- what happens
 
@@ -159,7 +175,8 @@ module _ (May : Network) (Metered observable : Type 0) where
     pub turn : Turn (Says Metered) observable came server after
     pub alive : after.replica.failed ≡ false
     pub trace : List Note
-    pub traces : TracesGroup node.number turn.given (steps_of Metered turn.hands_on.says.comes) trace
+    pub traces : TracesGroup old.genesis.cluster node.number turn.given (steps_of Metered turn.hands_on.says.comes)
+        trace
     pub adds : Adds old new trace (batch_of node.number turn.hands_on.letters)
 
   -- a turn ends a node, and it is down with the disks that its replica has left
@@ -178,11 +195,14 @@ module _ (May : Network) (Metered observable : Type 0) where
     pub turn : LastTurn (Says Metered) observable came server after
     pub ended : after.replica.failed ≡ true
     pub trace : List Note
-    pub traces : TracesGroup node.number turn.given (steps_of Metered turn.hands_on.says.comes) trace
+    pub traces : TracesGroup old.genesis.cluster node.number turn.given (steps_of Metered turn.hands_on.says.comes)
+        trace
     pub adds : Adds old new trace (batch_of node.number turn.hands_on.letters)
 
   -- a node appears, with empty disks; it starts, or does not; it does a turn, or an idle one, or handles
-  -- probes, or ends by a turn; or it stops, up or down, and its disks have what a stop may leave
+  -- probes, or ends by a turn; or it stops, up or down, and its disks have what a stop may leave. A stop in a turn is
+  -- no event of its own: only a call of the device changes the disks, so such a stop is a turn that ended the node at
+  -- the call that was not made, or the whole turn if none was left to make, and then a stop
   abbrev pub Happens : Cluster → Cluster → Type 0
   Happens old new =
       Appears old new ⊎ Starts old new ⊎ IsStillDown table_meaning old new ⊎ DoesTurn old new

@@ -1,20 +1,12 @@
 -- The messages that bind their sender to remember, and nodes whose disks are empty.
 use Rattle.std.specs.Prelude.{◌≡◌, []}
-use Rattle.lk_disk.specs.Disk.{Disk}
-use Rattle.lk_memory_disk.specs.Memory.{disk_of}
 use Rattle.lk_disk.specs.declared.device.Side.{Side}
 use Rattle.lk_replica.specs.ReplicaValue.{ReplicaValue}
 use Rattle.lk_server.specs.Servers.{ServerValue}
 use Rattle.lk_sim_nodes.specs.declared.seat.Life.{Life}
-use Rattle.lk_sim_nodes.specs.declared.seat.Life.TheVariants.{Up, Down}
 use Rattle.lk_messages.specs.declared.message.NodeMessage.{NodeMessage}
 use Rattle.lk_messages.specs.declared.message.NodeMessage.TheVariants as message
-use Rattle.lk_cluster_theorems.specs.Clusters.{server_disks}
-
--- the two disks of a node, up or down
-abbrev pub disks_in : Life (ServerValue ReplicaValue) → Side → Disk
-disks_in (Up server) = server_disks server
-disks_in (Down device) = disk_of device
+use Rattle.lk_cluster_theorems.specs.Clusters.{disks_in}
 
 -- both are empty, as those of a new node
 abbrev pub HasEmptyDisks : Life (ServerValue ReplicaValue) → Type 0

@@ -1,7 +1,9 @@
 pub mod Clusters
-pub mod Sealing
 pub mod Continuing
-pub mod Running
 pub mod Forgetting
-pub mod Asking
+pub mod Processes
 pub mod NodeRuns
+pub mod Sealing
+pub mod Stopping
+pub mod Running
+pub mod Asking

@@ -1,24 +1,23 @@
--- The run of a node in a process, from its start to its last turn: premises and letters that several laws share.
-use Rattle.std.specs.Prelude.{◌≡◌, ℕ, List, [], ◌∷◌, ◌++◌, Option}
-use Rattle.std.specs.declared.net.socket_addr.SocketAddr.{SocketAddr}
+-- The run of a node in a process, from its start to its end, as moves of the node.
+use Rattle.std.specs.Prelude.{◌≡◌, ℕ, List, [], ◌∷◌, ◌++◌}
+use Rattle.std.proofs.Common.{inl, inr, refl}
 use Rattle.lk_types.specs.declared.genesis.Genesis.{Genesis}
-use Rattle.lk_disk.specs.Disk.{Disk}
+use Rattle.lk_disk.specs.Disk.{Disk, after_stop}
 use Rattle.lk_disk.specs.declared.device.Side.{Side}
 use Rattle.lk_memory_disk.specs.Memory.{Memory, disk_of}
-use Rattle.lk_store_format.specs.Values.{HeaderValue}
 use Rattle.lk_locks.specs.Meaning.{table_meaning}
-use Rattle.lk_node_interface.specs.Letters.{LetterValue, batch_of}
-use Rattle.lk_node.specs.Histories.{Datagram}
+use Rattle.lk_locks.specs.Packed.{IsTableText}
 use Rattle.lk_node.specs.Leavings.{header_of}
 use Rattle.lk_replica.specs.ReplicaValue.{ReplicaValue}
-use Rattle.lk_auth.specs.declared.seals.Seals.{Seals}
 use Rattle.lk_server.specs.Servers.{ServerValue}
-use Rattle.lk_node_process.specs.Revivals.{IsServerStarted}
-use Rattle.lk_node_process.specs.Turns.{RunsTurns, EndsEarly}
+use Rattle.lk_transport.specs.declared.fault.ProgramFault.{ProgramFault}
+use Rattle.lk_transport.specs.Chains.{Chain}
+use Rattle.lk_node_process.specs.Revivals.{IsServerStarted, IsRefusedWith, StartsOn, Surroundings}
+use Rattle.lk_node_process.specs.Turns.{DoesTurn, EndsTurn, EndsByStranger, RunsTurns, EndsEarly, EndsEarlyByStranger}
 use Rattle.lk_sim_nodes.specs.declared.seat.Life.TheVariants.{Up, Down}
-use Rattle.lk_cluster_theorems.specs.Clusters.{Cluster, Network, IsReachable}
-use Rattle.lk_cluster_theorems.specs.Continuing.{HasNode, MayAllCome, letters_of}
-use Rattle.lk_cluster_theorems.specs.Sealing.{OnlyNodesSealAll}
+use Rattle.lk_cluster_theorems.specs.Clusters.{Cluster, Network, IsReachable, server_disks}
+use Rattle.lk_cluster_theorems.specs.Continuing.{HasNode}
+use Rattle.lk_cluster_theorems.specs.Processes.{SaysIfHonest, Move}
 
 -- `May` says what the network may bring, `Metered` that the devices count their calls, and `observable` that the
 -- sockets reveal what they send
@@ -38,66 +37,168 @@ module _ (May : Network) (Metered observable : Type 0) where
       → (index n : ℕ) (server : ServerValue ReplicaValue) → HasNode cluster index n (Up server)
       → Holds genesis cluster index n server
 
--- ---- a run, and one that its last turn broke off
+-- `Honest` says that the device is honest. The node of this number in a cluster of this genesis is at that place, and
+-- was down on a device with these disks
+module _ (Metered observable Honest : Type 0) (genesis : Genesis) (n : ℕ) (disks : Side → Disk) where
+  -- the node was taken up from them
+  abbrev pub StartsFrom : ServerValue ReplicaValue → Type 0
+  StartsFrom = IsServerStarted table_meaning Honest disks (header_of genesis n)
 
--- the node of that number was taken up from these disks
-abbrev pub StartsFrom : Type 0 → Cluster → ℕ → (Side → Disk) → ServerValue ReplicaValue → Type 0
-StartsFrom Honest cluster n disks = IsServerStarted table_meaning Honest disks (header_of cluster.genesis n)
+  -- the same, with what else the program was given: the pace, the hosts, the keys and the socket
+  abbrev pub StartsWith : Surroundings → ServerValue ReplicaValue → Type 0
+  StartsWith given = StartsOn table_meaning Honest disks (header_of genesis n) given
 
--- it did, and has done this many turns; or fewer than this, and then one that ended its replica
-module _ (Says : ReplicaValue → List (Option (List ℕ)) → List LetterValue → ReplicaValue → Type 0)
-    (observable Honest : Type 0) where
-  abbrev pub NodeRun : Cluster → ℕ → (Side → Disk) → Seals → ℕ → Type 0
-  NodeRun cluster n disks seals count =
-      RunsTurns (StartsFrom Honest cluster n disks) (header_of cluster.genesis n) seals Says observable count
+  -- it was not, for this fault, and its device has been left with these disks
+  abbrev pub RefusedStart : ProgramFault → (Side → Disk) → Type 0
+  RefusedStart told rests = IsRefusedWith table_meaning IsTableText Honest disks (header_of genesis n) told rests
 
-  abbrev pub BrokenNodeRun : Cluster → ℕ → (Side → Disk) → Seals → ℕ → Type 0
-  BrokenNodeRun cluster n disks seals most =
-      EndsEarly (StartsFrom Honest cluster n disks) (header_of cluster.genesis n) seals Says observable most
+  -- it was, has done this many turns, and is this server when the program returns
+  abbrev pub NodeRun : Surroundings → ℕ → ServerValue ReplicaValue → Type 0
+  NodeRun given count ended =
+      RunsTurns (StartsWith given) (SaysIfHonest Metered Honest) observable count ended
 
-module _ {StartsAs : ServerValue ReplicaValue → Type 0} {header : HeaderValue} {seals : Seals}
-    {Says : ReplicaValue → List (Option (List ℕ)) → List LetterValue → ReplicaValue
-    → Type 0} {observable : Type 0} where
-  -- the letters that it sent in its turns, in order
-  abbrev pub letters_in_run : {count : ℕ} → RunsTurns StartsAs header seals Says observable count → List LetterValue
-  letters_in_run s = letters_of Says observable s.started s.turns.states s.ended s.turns.chain
+  -- it has done fewer, and then one that ended its replica
+  abbrev pub BrokenNodeRun : Surroundings → ℕ → ServerValue ReplicaValue → Type 0
+  BrokenNodeRun given most ended =
+      EndsEarly (StartsWith given) (SaysIfHonest Metered Honest) observable most ended
 
-  -- the letters that it sent before its last turn
-  abbrev pub letters_before_end : {most : ℕ} → EndsEarly StartsAs header seals Says observable most → List LetterValue
-  letters_before_end s = letters_of Says observable s.started s.breaks.turns.states s.breaks.last s.breaks.turns.chain
+  -- it has done fewer, and then one after which it ended, since it had followed a node of another genesis
+  abbrev pub LedNodeRun : Surroundings → ℕ → ServerValue ReplicaValue → Type 0
+  LedNodeRun given most ended =
+      EndsEarlyByStranger (StartsWith given) (SaysIfHonest Metered Honest) observable most ended
 
-  -- the letters that it sent, those of its last turn behind them
-  abbrev pub letters_to_end : {most : ℕ} → EndsEarly StartsAs header seals Says observable most → List LetterValue
-  letters_to_end s = letters_before_end s ++ s.breaks.ends.turn.hands_on.letters
+  module _ (index : ℕ) where
+    -- turns, one after another
+    abbrev pub turn_moves : (first : ServerValue ReplicaValue) (states : List (ServerValue ReplicaValue))
+        (last : ServerValue ReplicaValue) → Chain (DoesTurn (SaysIfHonest Metered Honest) observable) first states last
+        → List (Move Metered observable Honest genesis)
+    turn_moves first [] last turns = []
+    turn_moves first (next ∷ states) last turns =
+        record {
+          index = index;
+          number = n;
+          before = Up first;
+          after = Up next;
+          does = inr (inr (inl (record { server = first; was = refl; after = next; turn = turns.0; up = refl })));
+        } ∷ turn_moves next states last turns.1
 
-  -- what the nodes have sent before its last turn, after this
-  abbrev pub sent_before_end : {most : ℕ} → ℕ → List Datagram → EndsEarly StartsAs header seals Says observable most
-      → List Datagram
-  sent_before_end n sent s = sent ++ batch_of n (letters_before_end s)
+    -- a turn that ended the replica, and left this
+    abbrev pub end_move : (last ended : ServerValue ReplicaValue)
+        → EndsTurn (SaysIfHonest Metered Honest) observable last ended → (left : Memory)
+        → ((s : Side) → disk_of left s ≡ server_disks ended s) → Move Metered observable Honest genesis
+    end_move last ended turn left leaves =
+        record {
+          index = index;
+          number = n;
+          before = Up last;
+          after = Down left;
+          does = inr (inr (inr (inr (inl (record {
+            server = last;
+            was = refl;
+            after = ended;
+            frames = turn.frames;
+            came = turn.came;
+            opened = turn.opened;
+            turn = turn.turn;
+            failure = turn.failure;
+            left = left;
+            leaves = leaves;
+            down = refl;
+          })))));
+        }
 
-  -- the network may bring what arrived in its turns
-  abbrev pub MayComeInRun : {count : ℕ} → Network → Cluster → ℕ
-      → RunsTurns StartsAs header seals Says observable count
-      → Type 0
-  MayComeInRun May c n s =
-      MayAllCome Says observable May c.genesis n c.sent s.started s.turns.states s.ended s.turns.chain
+    -- a turn after which it had followed a node of another genesis
+    abbrev pub led_move : (last ended : ServerValue ReplicaValue)
+        → EndsByStranger (SaysIfHonest Metered Honest) observable last ended → Move Metered observable Honest genesis
+    led_move last ended turn =
+        record {
+          index = index;
+          number = n;
+          before = Up last;
+          after = Up ended;
+          does = inr (inr (inr (inl (record { server = last; was = refl; after = ended; turn = turn; up = refl }))));
+        }
 
-  -- the same before its last turn
-  abbrev pub MayComeBeforeEnd : {most : ℕ} → Network → Cluster → ℕ
-      → EndsEarly StartsAs header seals Says observable most
-      → Type 0
-  MayComeBeforeEnd May c n s =
-      MayAllCome Says observable May c.genesis n c.sent s.started s.breaks.turns.states s.breaks.last
-      s.breaks.turns.chain
+    -- its process ended between turns, and left this, as after a stop
+    abbrev pub stop_move : (ended : ServerValue ReplicaValue) (left : Memory)
+        → ((s : Side) → (k : ℕ) × (disk_of left s ≡ after_stop k (server_disks ended s)))
+        → Move Metered observable Honest genesis
+    stop_move ended left kept =
+        record {
+          index = index;
+          number = n;
+          before = Up ended;
+          after = Down left;
+          does = inr (inr (inr (inr (inr (record {
+            left = left;
+            down = refl;
+            kept = kept;
+          })))));
+        }
 
-  -- only nodes of the cluster have sealed what arrived in its turns
-  abbrev pub OnlyNodesSealInRun : {count : ℕ} → Cluster → ℕ → RunsTurns StartsAs header seals Says observable count
-      → Type 0
-  OnlyNodesSealInRun c n s =
-      OnlyNodesSealAll Says observable seals n c.sent s.started s.turns.states s.ended s.turns.chain
+    module _ (device : Memory) (same : (s : Side) → disk_of device s ≡ disks s) where
+      -- its start
+      abbrev pub start_move : (server : ServerValue ReplicaValue) → StartsFrom server
+          → Move Metered observable Honest genesis
+      start_move server starts_as =
+          record {
+            index = index;
+            number = n;
+            before = Down device;
+            after = Up server;
+            does = inl (record {
+              device = device;
+              was = refl;
+              disks = disks;
+              same = same;
+              server = server;
+              starts_as = starts_as;
+              up = refl;
+            });
+          }
 
-  -- the same before its last turn
-  abbrev pub OnlyNodesSealBeforeEnd : {most : ℕ} → Cluster → ℕ → EndsEarly StartsAs header seals Says observable most
-      → Type 0
-  OnlyNodesSealBeforeEnd c n s =
-      OnlyNodesSealAll Says observable seals n c.sent s.started s.breaks.turns.states s.breaks.last s.breaks.turns.chain
+      -- the moves of each run
+      abbrev pub run_moves : {given : Surroundings} {count : ℕ} {ended : ServerValue ReplicaValue}
+          → NodeRun given count ended → List (Move Metered observable Honest genesis)
+      run_moves {ended = ended} r =
+          start_move r.started r.starts_as.started ∷ turn_moves r.started r.turns.states ended r.turns.chain
+
+      abbrev pub broken_run_moves : {given : Surroundings} {most : ℕ} {ended : ServerValue ReplicaValue}
+          (r : BrokenNodeRun given most ended) (left : Memory)
+          → ((s : Side) → disk_of left s ≡ server_disks ended s) → List (Move Metered observable Honest genesis)
+      broken_run_moves {ended = ended} r left leaves =
+          start_move r.started r.starts_as.started
+          ∷ (turn_moves r.started r.breaks.turns.states r.breaks.last r.breaks.turns.chain
+          ++ end_move r.breaks.last ended r.breaks.ends left leaves ∷ [])
+
+      abbrev pub led_run_moves : {given : Surroundings} {most : ℕ} {ended : ServerValue ReplicaValue}
+          (r : LedNodeRun given most ended) (left : Memory)
+          → ((s : Side) → (k : ℕ) × (disk_of left s ≡ after_stop k (server_disks ended s)))
+          → List (Move Metered observable Honest genesis)
+      led_run_moves {ended = ended} r left kept =
+          start_move r.started r.starts_as.started
+          ∷ (turn_moves r.started r.leaves.turns.states r.leaves.last r.leaves.turns.chain
+          ++ led_move r.leaves.last ended r.leaves.leave ∷ stop_move ended left kept ∷ [])
+
+      -- a refused start, which left this
+      abbrev pub refused_moves : {told : ProgramFault} {rests : Side → Disk} (refused : RefusedStart told rests)
+          (left : Memory) → ((s : Side) → disk_of left s ≡ rests s) → List (Move Metered observable Honest genesis)
+      refused_moves {told = told} {rests = rests} refused left leaves =
+          record {
+            index = index;
+            number = n;
+            before = Down device;
+            after = Down left;
+            does = inr (inl (record {
+              device = device;
+              was = refl;
+              disks = disks;
+              same = same;
+              told = told;
+              rests = rests;
+              refused = refused;
+              left = left;
+              leaves = leaves;
+              down = refl;
+            }));
+          } ∷ []

@@ -1,10 +1,11 @@
 //! Laws: a cluster of processes meets the guarantee, and whatever a node does leads from a reachable cluster to
 //! another.
 //! The body of a law calls the laws that its proof uses.
-ghost use Rattle.std.specs.Prelude.{◌≡◌, ◌≢◌, ℕ, true, false, Option, Some, List, [], Contains};
+ghost use Rattle.std.specs.Prelude.{◌≡◌, ◌≢◌, ℕ, true, false, Option, Some, List, [], ◌∷◌, Contains};
+ghost use Rattle.std.specs.List.{AllByRecursion};
 ghost use Rattle.std.specs.declared.net.socket_addr.SocketAddr.{SocketAddr};
 ghost use Rattle.lk_types.specs.declared.genesis.Genesis.{Genesis as GenesisValue};
-ghost use Rattle.lk_disk.specs.Disk.{Disk};
+ghost use Rattle.lk_disk.specs.Disk.{Disk, after_stop};
 ghost use Rattle.lk_memory_disk.specs.Memory.{Memory, disk_of};
 ghost use Rattle.lk_disk.specs.declared.device.Side.{Side};
 ghost use Rattle.lk_messages.specs.declared.message.NodeMessage.{NodeMessage};
@@ -12,6 +13,7 @@ ghost use Rattle.lk_locks.specs.Meaning.{table_meaning};
 ghost use Rattle.lk_locks.specs.Packed.{IsTableText};
 ghost use Rattle.lk_agreement_laws.specs.Datagrams.{HasSent};
 ghost use Rattle.lk_node.specs.Leavings.{header_of};
+ghost use Rattle.lk_node_interface.specs.declared.note.Note.{Note};
 ghost use Rattle.lk_auth.specs.Seals.{key_list, heard};
 ghost use Rattle.lk_auth.specs.declared.seals.Seals.{Seals};
 ghost use Rattle.lk_replica.specs.ReplicaValue.{ReplicaValue};
@@ -19,10 +21,12 @@ ghost use Rattle.lk_transport.specs.Addresses.{filter_of};
 ghost use Rattle.lk_transport.specs.Posts.{all_filtered};
 ghost use Rattle.lk_server.specs.Servers.{ServerValue, Turn, LastTurn, IsIdle};
 ghost use Rattle.lk_transport.specs.declared.fault.ProgramFault.{ProgramFault};
-ghost use Rattle.lk_transport.specs.Chains.{Repeats};
-ghost use Rattle.lk_node_process.specs.Revivals.{IsRestartRefused, IsRefusedWith};
-ghost use Rattle.lk_node_process.specs.Turns.{DoesTurn};
+ghost use Rattle.lk_transport.specs.Chains.{Chain};
+ghost use Rattle.lk_node_process.specs.Revivals.{IsRestartRefused, IsRefusedWith, Surroundings};
+ghost use Rattle.lk_node_process.specs.Turns.{DoesTurn, TellsFailure};
 ghost use Rattle.lk_sim.specs.Networks.{MayCome};
+ghost use Rattle.lk_sim_nodes.specs.Seats.{At};
+ghost use Rattle.lk_sim_nodes.specs.declared.seat.Life.{Life};
 ghost use Rattle.lk_sim_nodes.specs.declared.seat.Life.TheVariants.{Up, Down};
 ghost use Rattle.lk_guarantees.specs.ComingBack.{IsExcused};
 ghost use Rattle.lk_guarantees.specs.Converging.{Converges};
@@ -30,16 +34,18 @@ ghost use Rattle.lk_guarantees.specs.ExactlyOnce.{AreExactlyOnce};
 ghost use Rattle.lk_guarantees.specs.Linear.{IsLinearizable};
 ghost use Rattle.lk_guarantees.specs.Guarantee.{MeetsGuarantee};
 ghost use Rattle.lk_cluster_theorems.specs.Clusters.{Node, Cluster, IsReachable, ForgesNothing, HasStarted, Says};
-ghost use Rattle.lk_cluster_theorems.specs.Clusters.{scene_of};
-ghost use Rattle.lk_cluster_theorems.specs.Clusters.{server_disks};
-ghost use Rattle.lk_cluster_theorems.specs.Continuing.{Continues, MayAllCome, letters_of};
+ghost use Rattle.lk_cluster_theorems.specs.Clusters.{OnlyDelivers, TracesGroup, steps_of, scene_of, server_disks};
+ghost use Rattle.lk_cluster_theorems.specs.Clusters.{disks_in};
+ghost use Rattle.lk_cluster_theorems.specs.Continuing.{Continues, AddsNothing, HasNode, node_of};
 ghost use Rattle.lk_cluster_theorems.specs.Forgetting.{HasEmptyDisks, MustBeRemembered};
-ghost use Rattle.lk_cluster_theorems.specs.Sealing.{IsSealed, OnlyNodesSeal, OnlyNodesSealWhatComes};
-ghost use Rattle.lk_cluster_theorems.specs.NodeRuns.{ForEachDown, ForEachUp, NodeRun, BrokenNodeRun};
-ghost use Rattle.lk_cluster_theorems.specs.NodeRuns.{letters_in_run};
-ghost use Rattle.lk_cluster_theorems.specs.NodeRuns.{letters_to_end, sent_before_end, MayComeInRun};
-ghost use Rattle.lk_cluster_theorems.specs.NodeRuns.{MayComeBeforeEnd};
-ghost use Rattle.lk_cluster_theorems.specs.NodeRuns.{OnlyNodesSealInRun, OnlyNodesSealBeforeEnd};
+ghost use Rattle.lk_cluster_theorems.specs.Processes.{SaysIfHonest};
+ghost use Rattle.lk_cluster_theorems.specs.Processes.{Move, Fit, MayAllArrive, RunTo, HasRun, MixRuns};
+ghost use Rattle.lk_cluster_theorems.specs.Processes.{all_letters, seats_after, TraceAll, GoOn, AreNew};
+ghost use Rattle.lk_cluster_theorems.specs.NodeRuns.{ForEachDown, ForEachUp, NodeRun, BrokenNodeRun, LedNodeRun};
+ghost use Rattle.lk_cluster_theorems.specs.NodeRuns.{RefusedStart, run_moves, broken_run_moves, led_run_moves};
+ghost use Rattle.lk_cluster_theorems.specs.NodeRuns.{refused_moves};
+ghost use Rattle.lk_cluster_theorems.specs.Sealing.{IsSealed, OnlyNodesSeal, OnlyNodesSealWhatComes, AllMoveSealed};
+ghost use Rattle.lk_cluster_theorems.specs.Stopping.{IsInTurn};
 
 use lk_disk::LogDisk;
 use lk_guarantees::laws::{
@@ -119,13 +125,14 @@ pub fn a_sealed_cluster_meets_the_guarantee<D: LogDisk, S: DatagramSocket>()
     a_cluster_meets_the_guarantee::<D, S>();
 }
 
-/// A server that starts from the disks of a node continues its cluster: the cluster in which that node is up is
-/// reachable too.
+/// A server that starts from the disks of a node continues its cluster: that leads on to the cluster in which that node
+/// is up.
 pub fn a_start_continues_a_cluster<D: LogDisk, S: DatagramSocket>()
     ensures { ForEachDown ForgesNothing D.is_metered S.is_observable
         (λ genesis cluster index n disks. (server : ServerValue ReplicaValue)
-        → HasStarted cluster.genesis n disks server
-        → Continues ForgesNothing D.is_metered S.is_observable genesis cluster index n (Up server) []) }
+        (started : HasStarted cluster.genesis n disks server)
+        → Continues ForgesNothing D.is_metered S.is_observable genesis cluster index n (Up server) []
+        (λ notes. notes ≡ started.notes)) }
 {}
 
 /// A rejected start continues its cluster: the node stays down, with the disks that the rejection has left. The
@@ -133,20 +140,22 @@ pub fn a_start_continues_a_cluster<D: LogDisk, S: DatagramSocket>()
 pub fn a_refused_start_continues_a_cluster<D: LogDisk, S: DatagramSocket>()
     ensures { D.is_honest → ForEachDown ForgesNothing D.is_metered S.is_observable
         (λ genesis cluster index n disks. (told : ProgramFault)
-        (refused : IsRefusedWith table_meaning IsTableText D.is_honest disks (header_of cluster.genesis n) told)
-        → (left : Memory) → ((s : Side) → disk_of left s ≡ refused.left s)
-        → Continues ForgesNothing D.is_metered S.is_observable genesis cluster index n (Down left) []) }
+        (rests : Side → Disk)
+        (refused : IsRefusedWith table_meaning IsTableText D.is_honest disks (header_of cluster.genesis n) told rests)
+        → (left : Memory) → ((s : Side) → disk_of left s ≡ rests s)
+        → Continues ForgesNothing D.is_metered S.is_observable genesis cluster index n (Down left) []
+        AddsNothing) }
 {}
 
-/// A turn of a server continues its cluster if what arrived in it is not forged. What the turn adds to the trace
-/// follows from what its replica says.
+/// A turn of a server continues its cluster if what arrived in it is not forged. The requests that arrived, what its
+/// replica says of each step, and the answers that it gives join the trace, in that order.
 pub fn a_turn_continues_a_cluster<D: LogDisk, S: DatagramSocket>()
     ensures { ForEachUp ForgesNothing D.is_metered S.is_observable
         (λ genesis cluster index n server. (after : ServerValue ReplicaValue) (came : List (SocketAddr × List ℕ))
         → ForgesNothing cluster.genesis cluster.sent server came
         → (turn : Turn (Says D.is_metered) S.is_observable came server after) → after.replica.failed ≡ false
-        → Continues ForgesNothing D.is_metered S.is_observable genesis cluster index n
-        (Up after) turn.hands_on.letters) }
+        → Continues ForgesNothing D.is_metered S.is_observable genesis cluster index n (Up after) turn.hands_on.letters
+        (TracesGroup cluster.genesis.cluster n turn.given (steps_of D.is_metered turn.hands_on.says.comes))) }
 {}
 
 /// A turn of a server that has the key of the nodes continues its cluster whatever frames came in it.
@@ -159,7 +168,8 @@ pub fn a_sealed_turn_continues_a_cluster<D: LogDisk, S: DatagramSocket>()
         → (turn : Turn (Says D.is_metered) S.is_observable
         (all_filtered (filter_of server.addresses) frames) server after)
         → after.replica.failed ≡ false
-        → Continues IsSealed D.is_metered S.is_observable genesis cluster index n (Up after) turn.hands_on.letters) }
+        → Continues IsSealed D.is_metered S.is_observable genesis cluster index n (Up after) turn.hands_on.letters
+        (TracesGroup cluster.genesis.cluster n turn.given (steps_of D.is_metered turn.hands_on.says.comes))) }
 {
     is_told_by_a_node();
 }
@@ -169,7 +179,7 @@ pub fn an_idle_turn_continues_a_cluster<D: LogDisk, S: DatagramSocket>()
     ensures { ForEachUp ForgesNothing D.is_metered S.is_observable
         (λ genesis cluster index n server. (after : ServerValue ReplicaValue) (frames : List (SocketAddr × List ℕ))
         → IsIdle S.is_observable frames server after
-        → Continues ForgesNothing D.is_metered S.is_observable genesis cluster index n (Up after) []) }
+        → Continues ForgesNothing D.is_metered S.is_observable genesis cluster index n (Up after) [] AddsNothing) }
 {}
 
 /// A turn that ends a server continues its cluster: the node is then down, with the disks that its replica has left.
@@ -180,76 +190,167 @@ pub fn a_last_turn_continues_a_cluster<D: LogDisk, S: DatagramSocket>()
         → (turn : LastTurn (Says D.is_metered) S.is_observable came server after) → after.replica.failed ≡ true
         → (left : Memory) → ((s : Side) → disk_of left s ≡ server_disks after s)
         → Continues ForgesNothing D.is_metered S.is_observable genesis cluster index n
-        (Down left) turn.hands_on.letters) }
+        (Down left) turn.hands_on.letters
+        (TracesGroup cluster.genesis.cluster n turn.given (steps_of D.is_metered turn.hands_on.says.comes))) }
 {}
 
-/// The turns of a process on an honest device continue its cluster, one after another, if nothing that arrived in any
-/// of them is forged.
-pub fn turns_continue_a_cluster<D: LogDisk + Drop, S: DatagramSocket>()
-    ensures { D.is_honest → ForEachUp ForgesNothing D.is_metered S.is_observable
-        (λ genesis cluster index n server. (count : ℕ) (last : ServerValue ReplicaValue)
-        (turns : Repeats (DoesTurn ⟦<Replica<LockTable, D> as ServerReplica>⟧.Says S.is_observable) count server last)
-        → MayAllCome ⟦<Replica<LockTable, D> as ServerReplica>⟧.Says S.is_observable ForgesNothing cluster.genesis n
-        cluster.sent server turns.states last turns.chain
-        → Continues ForgesNothing D.is_metered S.is_observable genesis cluster index n (Up last)
-        (letters_of ⟦<Replica<LockTable, D> as ServerReplica>⟧.Says S.is_observable server turns.states last
-        turns.chain)) }
+/// A stop of a node, up or down, continues its cluster: it is then down, and each of its disks has what was synced and
+/// a prefix of the rest.
+pub fn a_stop_continues_a_cluster<D: LogDisk, S: DatagramSocket>()
+    ensures { (genesis : GenesisValue) (cluster : Cluster)
+        → IsReachable ForgesNothing D.is_metered S.is_observable genesis cluster
+        → (index n : ℕ) (life : Life (ServerValue ReplicaValue)) → HasNode cluster index n life
+        → (left : Memory) → ((s : Side) → (k : ℕ) × (disk_of left s ≡ after_stop k (disks_in life s)))
+        → Continues ForgesNothing D.is_metered S.is_observable genesis cluster index n (Down left) [] AddsNothing }
 {}
 
-/// A node's run continues its cluster, from its start to its last turn. The program's contract ensures such a run.
-pub fn a_node_run_continues_a_cluster<D: LogDisk + Drop, S: DatagramSocket>()
-    ensures { D.is_honest → ForEachDown ForgesNothing D.is_metered S.is_observable
-        (λ genesis cluster index n disks. (count : ℕ) (seals : Seals)
-        (node_run : NodeRun ⟦<Replica<LockTable, D> as ServerReplica>⟧.Says S.is_observable D.is_honest cluster n disks
-        seals count)
-        → MayComeInRun ForgesNothing cluster n node_run
-        → Continues ForgesNothing D.is_metered S.is_observable genesis cluster index n (Up node_run.ended)
-        (letters_in_run node_run)) }
+/// A process that is killed in the middle of a turn has ended its node as a turn that ended its replica there: nothing
+/// is sent, and the disks are as the group has left them so far. After that it stops.
+pub fn a_stop_in_a_turn_ends_it<D: LogDisk, S: DatagramSocket>()
+    ensures { (came : List (SocketAddr × List ℕ)) (server : ServerValue ReplicaValue) (given : List (Option (List ℕ)))
+        (now : ReplicaValue) → IsInTurn D.is_metered S.is_observable D.is_honest came server given now
+        → (after : ServerValue ReplicaValue)
+        × LastTurn (SaysIfHonest D.is_metered D.is_honest) S.is_observable came server after
+        × TellsFailure after × (after.replica ≡ record now { failed = true }) }
 {}
 
-/// A node's run that breaks off continues its cluster: the last turn ends the node, which is down with the disks that
-/// its replica has left.
-pub fn a_node_run_that_breaks_off_continues_a_cluster<D: LogDisk + Drop, S: DatagramSocket>()
-    ensures { D.is_honest → ForEachDown ForgesNothing D.is_metered S.is_observable
-        (λ genesis cluster index n disks. (most : ℕ) (seals : Seals)
-        (node_run : BrokenNodeRun ⟦<Replica<LockTable, D> as ServerReplica>⟧.Says S.is_observable D.is_honest cluster n
-        disks seals most)
-        → MayComeBeforeEnd ForgesNothing cluster n node_run
-        → ForgesNothing cluster.genesis (sent_before_end n cluster.sent node_run) node_run.breaks.last
-        node_run.breaks.ends.came
-        → (left : Memory) → ((s : Side) → disk_of left s ≡ server_disks node_run.ended s)
-        → Continues ForgesNothing D.is_metered S.is_observable genesis cluster index n (Down left)
-        (letters_to_end node_run)) }
+/// The processes of nodes on honest devices run at the same time and continue their cluster, whatever the order of
+/// their moves, if nothing that arrives in a move is forged, given all that any node sent before. What they give to be
+/// sent joins what has been sent, and what each move adds joins the trace, in that order.
+pub fn processes_continue_a_cluster<D: LogDisk, S: DatagramSocket>()
+    ensures { (honest : D.is_honest) (genesis : GenesisValue) (cluster : Cluster)
+        → IsReachable ForgesNothing D.is_metered S.is_observable genesis cluster
+        → (moves : List (Move D.is_metered S.is_observable D.is_honest cluster.genesis))
+        → Fit D.is_metered S.is_observable D.is_honest cluster.genesis cluster.seats moves
+        → MayAllArrive D.is_metered S.is_observable D.is_honest cluster.genesis ForgesNothing cluster.sent moves
+        → GoOn D.is_metered S.is_observable D.is_honest cluster.genesis honest ForgesNothing genesis cluster moves }
 {}
 
-/// The run of a node with the nodes' key continues its cluster whatever frames arrive. The contract of the program
-/// ensures such a run.
-pub fn a_sealed_node_run_continues_a_cluster<D: LogDisk + Drop, S: DatagramSocket>()
-    ensures { D.is_honest → ForEachDown IsSealed D.is_metered S.is_observable
-        (λ genesis cluster index n disks. (count : ℕ) (seals : Seals)
-        (node_run : NodeRun ⟦<Replica<LockTable, D> as ServerReplica>⟧.Says S.is_observable D.is_honest cluster n disks
-        seals count)
-        → key_list seals.nodes ≢ [] → OnlyNodesSealInRun cluster n node_run
-        → Continues IsSealed D.is_metered S.is_observable genesis cluster index n (Up node_run.ended)
-        (letters_in_run node_run)) }
+/// The same of processes with the nodes' key, whatever frames arrive.
+pub fn sealed_processes_continue_a_cluster<D: LogDisk, S: DatagramSocket>()
+    ensures { (honest : D.is_honest) (genesis : GenesisValue) (cluster : Cluster)
+        → IsReachable IsSealed D.is_metered S.is_observable genesis cluster
+        → (moves : List (Move D.is_metered S.is_observable D.is_honest cluster.genesis))
+        → Fit D.is_metered S.is_observable D.is_honest cluster.genesis cluster.seats moves
+        → AllMoveSealed D.is_metered S.is_observable D.is_honest cluster.genesis cluster.sent moves
+        → GoOn D.is_metered S.is_observable D.is_honest cluster.genesis honest IsSealed genesis cluster moves }
 {
     is_told_by_a_node();
 }
 
-/// The run of a node with the nodes' key whose last turn ends it continues its cluster whatever frames arrive: the node
-/// is down then, with the disks that its replica has left.
-pub fn a_sealed_node_run_that_breaks_off_continues_a_cluster<D: LogDisk + Drop, S: DatagramSocket>()
-    ensures { D.is_honest → ForEachDown IsSealed D.is_metered S.is_observable
-        (λ genesis cluster index n disks. (most : ℕ) (seals : Seals)
-        (node_run : BrokenNodeRun ⟦<Replica<LockTable, D> as ServerReplica>⟧.Says S.is_observable D.is_honest cluster n
-        disks seals most)
-        → key_list seals.nodes ≢ [] → OnlyNodesSealBeforeEnd cluster n node_run
-        → OnlyNodesSealWhatComes (sent_before_end n cluster.sent node_run) seals node_run.breaks.ends.frames
-        → (left : Memory) → ((s : Side) → disk_of left s ≡ server_disks node_run.ended s)
-        → Continues IsSealed D.is_metered S.is_observable genesis cluster index n (Down left)
-        (letters_to_end node_run)) }
+/// A server keeps its seals in all its turns. So all turns of a run with the nodes' key are those of a server that has
+/// it.
+pub fn turns_keep_the_seals<D: LogDisk + Drop, S: DatagramSocket>()
+    ensures { (seals : Seals) (first last : ServerValue ReplicaValue) (states : List (ServerValue ReplicaValue))
+        → Chain (DoesTurn ⟦<Replica<LockTable, D> as ServerReplica>⟧.Says S.is_observable) first states last
+        → first.addresses.seals ≡ seals
+        → AllByRecursion (λ (s : ServerValue ReplicaValue). s.addresses.seals ≡ seals) (first ∷ states)
+        × (last.addresses.seals ≡ seals) }
+{}
+
+/// Each outcome of a node's run is moves that take the node from the state in which it was, down on the device that the
+/// run began with, to the one in which the run has left it. The program's contract ensures such a run.
+pub fn a_node_run_is_made_of_moves<D: LogDisk, S: DatagramSocket>()
+    // all turns
+    ensures runs { (genesis : GenesisValue) (index n count : ℕ) (disks : Side → Disk) (device : Memory)
+        (same : (s : Side) → disk_of device s ≡ disks s) (given : Surroundings) (ended : ServerValue ReplicaValue)
+        (node_run : NodeRun D.is_metered S.is_observable D.is_honest genesis n disks given count ended)
+        → RunTo D.is_metered S.is_observable D.is_honest genesis index (node_of n (Down device))
+        (run_moves D.is_metered S.is_observable D.is_honest genesis n disks index device same node_run)
+        (node_of n (Up ended)) }
+    // fewer, and one that ended the replica
+    ensures breaks { (genesis : GenesisValue) (index n most : ℕ) (disks : Side → Disk) (device : Memory)
+        (same : (s : Side) → disk_of device s ≡ disks s) (given : Surroundings) (ended : ServerValue ReplicaValue)
+        (node_run : BrokenNodeRun D.is_metered S.is_observable D.is_honest genesis n disks given most ended)
+        (left : Memory) (leaves : (s : Side) → disk_of left s ≡ server_disks ended s)
+        → RunTo D.is_metered S.is_observable D.is_honest genesis index (node_of n (Down device))
+        (broken_run_moves D.is_metered S.is_observable D.is_honest genesis n disks index device same node_run left
+        leaves) (node_of n (Down left)) }
+    // fewer, and one after which it had followed a node of another genesis
+    ensures is_led { (genesis : GenesisValue) (index n most : ℕ) (disks : Side → Disk) (device : Memory)
+        (same : (s : Side) → disk_of device s ≡ disks s) (given : Surroundings) (ended : ServerValue ReplicaValue)
+        (node_run : LedNodeRun D.is_metered S.is_observable D.is_honest genesis n disks given most ended)
+        (left : Memory) (kept : (s : Side) → (k : ℕ) × (disk_of left s ≡ after_stop k (server_disks ended s)))
+        → RunTo D.is_metered S.is_observable D.is_honest genesis index (node_of n (Down device))
+        (led_run_moves D.is_metered S.is_observable D.is_honest genesis n disks index device same node_run left kept)
+        (node_of n (Down left)) }
+    // none, since its start was refused
+    ensures is_refused { (genesis : GenesisValue) (index n : ℕ) (disks : Side → Disk) (device : Memory)
+        (same : (s : Side) → disk_of device s ≡ disks s) (told : ProgramFault) (rests : Side → Disk)
+        (refused : RefusedStart D.is_metered S.is_observable D.is_honest genesis n disks told rests)
+        (left : Memory) (leaves : (s : Side) → disk_of left s ≡ rests s)
+        → RunTo D.is_metered S.is_observable D.is_honest genesis index (node_of n (Down device))
+        (refused_moves D.is_metered S.is_observable D.is_honest genesis n disks index device same refused left leaves)
+        (node_of n (Down left)) }
+{}
+
+/// Runs of the nodes of a cluster that are mixed in any order fit it, and leave each node as its own run has left it.
+pub fn mixed_runs_fit<D: LogDisk, S: DatagramSocket>()
+    ensures fit { (genesis : GenesisValue) (seats : List Node)
+        (moves : List (Move D.is_metered S.is_observable D.is_honest genesis))
+        → MixRuns D.is_metered S.is_observable D.is_honest genesis seats moves
+        → Fit D.is_metered S.is_observable D.is_honest genesis seats moves }
+    ensures leave { (genesis : GenesisValue) (seats : List Node)
+        (moves : List (Move D.is_metered S.is_observable D.is_honest genesis))
+        (index : ℕ) (node : Node) → At seats index node
+        → (has : HasRun D.is_metered S.is_observable D.is_honest genesis index node moves)
+        → At (seats_after D.is_metered S.is_observable D.is_honest genesis seats moves) index has.last }
+{}
+
+/// The run of one node continues its cluster, where no other node moves: the node is then as its run has left it, its
+/// letters have joined what has been sent, and what its moves add the trace.
+pub fn a_process_continues_a_cluster<D: LogDisk, S: DatagramSocket>()
+    ensures { (honest : D.is_honest) (genesis : GenesisValue) (cluster : Cluster)
+        → IsReachable ForgesNothing D.is_metered S.is_observable genesis cluster
+        → (index n : ℕ) (life last : Life (ServerValue ReplicaValue)) → HasNode cluster index n life
+        → (own : List (Move D.is_metered S.is_observable D.is_honest cluster.genesis))
+        → RunTo D.is_metered S.is_observable D.is_honest cluster.genesis index (node_of n life) own (node_of n last)
+        → MayAllArrive D.is_metered S.is_observable D.is_honest cluster.genesis ForgesNothing cluster.sent own
+        → Continues ForgesNothing D.is_metered S.is_observable genesis cluster index n last
+        (all_letters D.is_metered S.is_observable D.is_honest cluster.genesis own)
+        (TraceAll D.is_metered S.is_observable D.is_honest cluster.genesis honest own) }
+{}
+
+/// A network that only delivers what nodes have sent, beside what is no node's message, forges nothing. So the premise
+/// about the network is met by nodes that talk to each other, and by their clients.
+pub fn a_delivering_network_forges_nothing<D: LogDisk, S: DatagramSocket>()
+    ensures { (genesis : GenesisValue) (cluster : Cluster)
+        → IsReachable OnlyDelivers D.is_metered S.is_observable genesis cluster
+        → IsReachable ForgesNothing D.is_metered S.is_observable genesis cluster }
+{}
+
+/// From the bytes that come to nodes to what their clients see. New nodes run on honest devices, each as the program's
+/// contract ensures, at the same time and in any order; they talk to each other, restart and are killed. Then what
+/// joins the trace by the bytes that they take and give is linearizable.
+pub fn mixed_runs_are_linearizable<D: LogDisk, S: DatagramSocket>()
+    // if nothing that arrives is forged
+    ensures unforged { (honest : D.is_honest) (genesis : GenesisValue) (nodes : List Node) → AreNew nodes
+        → (moves : List (Move D.is_metered S.is_observable D.is_honest genesis))
+        → MixRuns D.is_metered S.is_observable D.is_honest genesis nodes moves
+        → MayAllArrive D.is_metered S.is_observable D.is_honest genesis ForgesNothing [] moves
+        → (notes : List Note) → TraceAll D.is_metered S.is_observable D.is_honest genesis honest moves notes
+        → IsLinearizable genesis notes }
+    // so if the network only delivers
+    ensures delivered { (honest : D.is_honest) (genesis : GenesisValue) (nodes : List Node) → AreNew nodes
+        → (moves : List (Move D.is_metered S.is_observable D.is_honest genesis))
+        → MixRuns D.is_metered S.is_observable D.is_honest genesis nodes moves
+        → MayAllArrive D.is_metered S.is_observable D.is_honest genesis OnlyDelivers [] moves
+        → (notes : List Note) → TraceAll D.is_metered S.is_observable D.is_honest genesis honest moves notes
+        → IsLinearizable genesis notes }
+    // whatever arrives, if the nodes have a key
+    ensures sealed { (honest : D.is_honest) (genesis : GenesisValue) (nodes : List Node) → AreNew nodes
+        → (moves : List (Move D.is_metered S.is_observable D.is_honest genesis))
+        → MixRuns D.is_metered S.is_observable D.is_honest genesis nodes moves
+        → AllMoveSealed D.is_metered S.is_observable D.is_honest genesis [] moves
+        → (notes : List Note) → TraceAll D.is_metered S.is_observable D.is_honest genesis honest moves notes
+        → IsLinearizable genesis notes }
 {
-    is_told_by_a_node();
+    processes_continue_a_cluster::<D, S>();
+    sealed_processes_continue_a_cluster::<D, S>();
+    a_delivering_network_forges_nothing::<D, S>();
+    a_sealed_cluster_forges_nothing::<D, S>();
+    mixed_runs_fit::<D, S>();
+    a_cluster_is_linearizable::<D, S>();
 }
 
 /// A node of a cluster that is down comes back: whatever it was doing when it stopped, and whatever the stop left of

@@ -12,10 +12,11 @@ ghost use Rattle.lk_server.specs.Servers.{HasReceived, TurnOrIdle, LastTurn};
 
 use lk_disk::LogDisk;
 use lk_locks::LockTable;
+use lk_node_interface::ReplicaFault;
+use lk_node_process::node_end::RefusedStart;
 use lk_node_process::running::revive;
 use lk_node_setup::resources::Resources;
 use lk_pacing::tick_timer::TickTimer;
-use lk_recovery::ReviveFault;
 use lk_replica::Replica;
 use lk_server::group_fault::GroupFault;
 use lk_server::server::{Server, node_turn};
@@ -56,7 +57,7 @@ pub fn start<D: LogDisk + Drop, S: DatagramSocket + Drop, L: Log>(
     header: &Header,
     resources: Resources<D, S>,
     log: &L,
-) -> Result<Server<Replica<LockTable, D>, S>, ReviveFault<D>>
+) -> Result<Server<Replica<LockTable, D>, S>, RefusedStart<ReplicaFault, D, S>>
     ensures { D.is_honest → (genesis : GenesisValue) → header.now ≡ header_of genesis header.now.node
         → IfOk result (HasStarted genesis header.now.node (D.disk resources.device)) }
 {

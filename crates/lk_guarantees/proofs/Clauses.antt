@@ -1,5 +1,5 @@
 -- The clauses of a world, in the words of the guarantee.
-use Rattle.std.proofs.Common.{◌≡◌, ℕ, suc, ◌+◌, ◌-◌, true, List, take, refl, ap, sym, ◌∙◌, arith}
+use Rattle.std.proofs.Common.{◌≡◌, ℕ, suc, ◌+◌, ◌-◌, true, List, take, Contains, refl, ap, sym, ◌∙◌, arith}
 use Rattle.std.specs.List.{list_all}
 use Rattle.lk_types.specs.declared.genesis.Genesis.{Genesis}
 use Rattle.lk_messages.specs.declared.message.NodeMessage.TheVariants as message
@@ -9,6 +9,7 @@ use Rattle.lk_agreement_laws.specs.Datagrams.{Datagram}
 use Rattle.lk_agreement_laws.specs.Chosen.{Chosen}
 use Rattle.lk_locks.specs.Meaning.{table_meaning}
 use Rattle.lk_node_interface.specs.declared.note.Note.{Note}
+use Rattle.lk_node_interface.specs.declared.note.Note.TheVariants as note
 use Rattle.lk_sim.specs.Explained.{Explains}
 use Rattle.lk_sim.specs.Orders.{IsEffectiveAt, InOrder}
 use Rattle.std.specs.Prelude.{Result, Ok, Err, OnOk, IfErr}
@@ -36,12 +37,14 @@ use Rattle.lk_sim_nodes.specs.declared.refused.Refused.{Refused}
 use Rattle.lk_sim_nodes.specs.declared.seat.Seat.{Seat}
 use Rattle.lk_guarantees.proofs.Doing.{is_done, refused, runs}
 use Rattle.lk_guarantees.proofs.Executing.{has_executed, is_part}
+use Rattle.lk_guarantees.proofs.Falling.{ends_by_device, runs_end}
 use Rattle.lk_guarantees.proofs.Keeping.{has_snapshots, compacted, kept, covered, short}
 use Rattle.lk_guarantees.proofs.Telling.{told}
 use Rattle.lk_guarantees.specs.Guarantee as guarantee
 use Rattle.lk_guarantees.specs.Plain.{at, TakesEffectAt}
-use Rattle.lk_guarantees.specs.Events.{Compacts, IsDone, IsRefused, IsRun}
-use Rattle.lk_guarantees.specs.Guarantee.{IsChosen, IsExplained, IsOrdered, HaveExecuted, HaveSnapshots, MeetsGuarantee}
+use Rattle.lk_guarantees.specs.Events.{Compacts, EndsByDevice, IsDone, IsRefused, IsRun}
+use Rattle.lk_guarantees.specs.Guarantee.{IsChosen, AreAsked, IsExplained, IsOrdered, HaveExecuted, HaveSnapshots}
+use Rattle.lk_guarantees.specs.Guarantee.{MeetsGuarantee}
 use Rattle.lk_guarantees.proofs.Effects.{leaves}
 use Rattle.lk_guarantees.proofs.Quorums.{agreed, at_is, members_are, has_sent, is_chosen, chosen_is}
 use Rattle.lk_guarantees.proofs.Explaining.{stands_at, all_fit, answered}
@@ -116,6 +119,12 @@ snapshots : (genesis : Genesis) (seats : List (Seat ReplicaValue)) (sent : List 
     → HaveSnapshots genesis seats sent
 snapshots genesis seats sent all s here = has_snapshots genesis sent s (all here.0 s (here.1, here.2))
 
+asked : (genesis : Genesis) (sent : List Datagram) (trace : List Note)
+    → ((L : List Command) → Chosen genesis sent L → (r : RequestValue) → Contains L (Request r)
+    → Contains trace (note.Asked r)) → AreAsked genesis sent trace
+asked genesis sent trace all L chosen i r e =
+    all L (chosen_is genesis sent L chosen) r (stands_at L i (Request r) e)
+
 used_once : (genesis : Genesis) (sent : List Datagram) → world.UsesBallotsOnce genesis sent
     → guarantee.UsesBallotsOnce genesis sent
 used_once genesis sent u = record {
@@ -130,6 +139,7 @@ pub guaranteed : (w : Scene ReplicaValue)
     → WorldGuarantee locks_behave (λ r. r.node.learner.whole) table_meaning w → MeetsGuarantee w
 guaranteed w p = record {
   explained = explained w.genesis w.sent w.trace p.explained;
+  asked = asked w.genesis w.sent w.trace p.asked;
   agree = agreed w.genesis w.sent p.agree;
   ballots = used_once w.genesis w.sent p.ballots;
   executed = executed w.genesis w.seats w.sent p.states;
@@ -167,6 +177,13 @@ if_err P Q (Err e) f p = f e p
 pub done : (old new : Scene ReplicaValue) (e : Event) → IsExecuted locks_behave old e new → IsDone old e new
 done = is_done locks_behave (λ r. refl) (λ t r. refl) (λ r o q came k. k) (λ r given q came k. k)
     (λ device whose came k. k)
+
+pub ends : (old new : Scene ReplicaValue) (e : Event) → IsExecuted locks_behave old e new → EndsByDevice new.ended
+ends old new e d = ends_by_device old new locks_behave e d.1
+
+pub runs_end_so : (old : Scene ReplicaValue) (events : List Event) (how : RunEnd) (new : Scene ReplicaValue)
+    → Runs locks_behave old events how new → EndsByDevice old.ended → EndsByDevice new.ended
+runs_end_so = runs_end locks_behave
 
 pub not_done : (old new : Scene ReplicaValue) (e : Event) (r : Refused)
     → doing.IsRefused locks_behave old e r new → IsRefused old e r new

@@ -2,6 +2,7 @@
 use Rattle.std.proofs.Common.{◌≡◌, ℕ, ◌-◌, ◌==◌, ◌||◌, Bool, true, false, if◌then◌else◌, Option, Some, None, slice_get}
 use Rattle.std.proofs.Common.{Contains, refl, ap, sym, ◌∙◌, subst, inl, inr}
 use Rattle.std.specs.Prelude.{MatchBool, is_some}
+use Rattle.lk_types.specs.Geneses.{IsGenesis}
 use Rattle.lk_types.specs.declared.genesis.Genesis.{Genesis}
 use Rattle.lk_memory_disk.specs.Memory.{Memory, disk_of}
 use Rattle.lk_disk.specs.Meters.{CallsSucceed, start, call, read, Breaks, called, asked, is_failing}
@@ -26,6 +27,8 @@ use Rattle.lk_sim_nodes.specs.declared.seat.Life.{Life}
 use Rattle.lk_sim_nodes.specs.declared.seat.Life.TheVariants.{Down}
 use Rattle.lk_guarantees.specs.ComingBack.{IsQuiet, IsBack, ComesBack}
 use Rattle.lk_guarantees.specs.Events.{HasCause, IsUp, EndsOn, IsRestarted, IsNotRestarted, IsDone, IsReachable}
+use Rattle.lk_guarantees.specs.Guarantee.{MeetsGuarantee}
+use Rattle.lk_guarantees.proofs.Restoring.{is_excused}
 use Rattle.lk_guarantees.proofs.Apart.{Apart, one_seat, read_there, not_up, reachable_apart}
 
 -- ---- a device that nothing makes fail
@@ -89,7 +92,8 @@ not_stopping m q = ap (λ (t : Trap). if m.sprung then armed_for t else None) q.
 
 -- ---- a world
 
-module _ (world : Scene ReplicaValue) (apart : Apart world.seats) (n : ℕ) (device : Memory)
+module _ (world : Scene ReplicaValue) (fits : IsGenesis world.genesis) (p : MeetsGuarantee world)
+    (apart : Apart world.seats) (n : ℕ) (device : Memory)
     (down : Contains world.seats (record { number = n; life = Down device })) where
   abbrev seat : Seat ReplicaValue
   seat = record { number = n; life = Down device }
@@ -125,21 +129,31 @@ module _ (world : Scene ReplicaValue) (apart : Apart world.seats) (n : ℕ) (dev
           (subst (λ (d : Memory). IsQuiet d.meter) (sym (same_device f.index f.device f.was_down)) q)
           f.not_starved f.fails.calls
 
+      of_device : f.device ≡ device
+      of_device = same_device f.index f.device f.was_down
+
       by_number : new.ended ≡ Some (Fault n f.number) → IsBack n device new
-      by_number ended = elim (done.down (Fault n f.number) ended).2 [
-        | inl seven ↦ inr (inl (λ q. (quiet_left q).0 seven, inl (ended ∙ ap (λ (x : ℕ). Some (Fault n x)) seven)))
-        | inr eleven ↦ inr (inr (
-          subst (λ (d : Memory). IsLastOld (seen (disk_of d)))
-              (same_device f.index f.device f.was_down) (f.fails.cause.last eleven),
-          ended ∙ ap (λ (x : ℕ). Some (Fault n x)) eleven,
-        ))
-      ]
+      by_number ended =
+          let x = is_excused world fits p n f.device
+          (subst (λ (d : Memory). Contains world.seats (record { number = n; life = Down d })) (sym of_device) down)
+          f.number f.left f.fails in
+          elim x.excused [
+            | inl seven ↦ inr (inl (
+              ended ∙ ap (λ (k : ℕ). Some (Fault n k)) seven,
+              (f.left, subst (λ (d : Memory). Breaks d.meter f.left.meter) of_device (x.failed seven)),
+            ))
+            | inr (inl eight) ↦ absurd (f.no_memory eight)
+            | inr (inr eleven) ↦ inr (inr (inr (
+              ended ∙ ap (λ (k : ℕ). Some (Fault n k)) eleven.0,
+              subst (λ (d : Memory). IsLastOld (seen (disk_of d))) of_device eleven.1,
+            )))
+          ]
 
       by_end : (o : Option ℕ) → stopping f.left.meter ≡ o
           → EndsOn o n f.number f.left f.rest new.ended → IsBack n device new
       by_end None is ends = by_number ends.0
       by_end (Some bytes) is ends =
-          inr (inl (λ q. some_none bytes (sym is ∙ not_stopping f.left.meter (quiet_left q).1), inr ends.0))
+          inr (inr (inl (ends.0, λ q. some_none bytes (sym is ∙ not_stopping f.left.meter (quiet_left q).1))))
         where
           some_none : (bytes : ℕ) → Some bytes ≡ None → ⊥
           some_none bytes e = cc e
@@ -147,10 +161,12 @@ module _ (world : Scene ReplicaValue) (apart : Apart world.seats) (n : ℕ) (dev
     is_back : IsBack n device new
     is_back = elim done.restarts [ inl r ↦ inl (is_up r) | inr f ↦ by_end f (stopping f.left.meter) refl f.ends ]
 
-pub comes_back : (genesis : Genesis) (world : Scene ReplicaValue) → IsReachable genesis world → ComesBack world
-comes_back genesis world reached =
+pub comes_back : (genesis : Genesis) (world : Scene ReplicaValue) → IsGenesis world.genesis
+    → IsReachable genesis world → MeetsGuarantee world → ComesBack world
+comes_back genesis world fits reached p =
     let apart = reachable_apart genesis world reached in
     record {
-      refused = λ n device down why new refused. only_memory world apart n device down why refused.cause;
-      back = λ n device down new done. is_back world apart n device down new done;
+      excused = λ n device down number left r. is_excused world fits p n device down number left r;
+      refused = λ n device down why new refused. only_memory world fits p apart n device down why refused.cause;
+      back = λ n device down new done. is_back world fits p apart n device down new done;
     }

@@ -12,7 +12,7 @@ use Rattle.lk_replica.specs.ReplicaValue.{ReplicaValue}
 use Rattle.lk_sim.specs.Scenes.{Scene}
 use Rattle.lk_state.specs.declared.session.Session.{Session}
 use Rattle.lk_guarantees.specs.Converging.{Converges}
-use Rattle.lk_guarantees.specs.Disks.{kept_text}
+use Rattle.lk_guarantees.specs.Disks.{kept_text, IsSnapshot}
 use Rattle.lk_guarantees.specs.Plain.{after, at, execute, GivesAnswer, Kept, IsKeptOf}
 use Rattle.lk_guarantees.specs.Guarantee.{IsChosen, IsPrefix, kept_by_replica, MeetsGuarantee}
 use Rattle.lk_guarantees.proofs.Once.{once}
@@ -173,6 +173,11 @@ module _ (genesis : Genesis) (L : List Command) where
       ∙ ap (λ n. kept j.executed j.incoming j.greatest n k.sessions k.locks) changed
       ∙ ap (λ l. kept j.executed j.incoming j.greatest j.changed l k.locks) sessions
       ∙ ap (λ l. kept j.executed j.incoming j.greatest j.changed j.sessions l) locks
+
+-- so a list has one snapshot
+pub one_snapshot : (genesis : Genesis) (L : List Command) (a b : List ℕ) → IsSnapshot genesis L a
+    → IsSnapshot genesis L b → a ≡ b
+one_snapshot genesis L a b x y = x.2 ∙ ap kept_text (one_kept genesis L x.0 y.0 x.1 y.1) ∙ sym y.2
 
 -- chosen lists of one length are one
 module _ (world : Scene ReplicaValue) (p : MeetsGuarantee world) where

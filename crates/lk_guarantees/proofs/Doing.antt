@@ -3,6 +3,7 @@ use Rattle.std.proofs.Common.{◌≡◌, ℕ, zero, suc, ◌⊎◌, List, [], �
 use Rattle.std.proofs.Common.{refl, sym, ap, ◌∙◌, inl, inr, append-nil, arith}
 use Rattle.std.proofs.lemmas.List.Elements.{filter_map-append}
 use Rattle.lk_memory_disk.specs.Memory.{Memory, empty}
+use Rattle.lk_disk.specs.Meters.{trapped}
 use Rattle.lk_disk.specs.declared.trap.Trap.{Trap}
 use Rattle.lk_store_format.specs.Values.{HeaderValue}
 use Rattle.lk_locks.specs.Meaning.{table_meaning}
@@ -28,7 +29,6 @@ use Rattle.lk_sim.specs.Events.{IsRefused}
 use Rattle.lk_replica.specs.Together.{Said, sent_of, ComesToAll}
 use Rattle.lk_sim_nodes.specs.Sends.{cut_short, left_over}
 use Rattle.lk_sim.specs.Groups.{AreNotesOf, given_by}
-use Rattle.lk_sim.specs.Heard.{IsRequestIn}
 use Rattle.lk_sim.specs.Refusals.{datagram_at, IsPermitted}
 use Rattle.lk_sim.specs.Scenes.{Scene}
 use Rattle.lk_sim_nodes.specs.Told.{told_by, NotesReplies}
@@ -44,10 +44,11 @@ use Rattle.lk_sim_nodes.specs.declared.seat.Seat.{Seat}
 use Rattle.lk_sim_nodes.specs.declared.seat.Life.{Life}
 use Rattle.lk_sim_nodes.specs.declared.seat.Life.TheVariants.{Up, Down}
 use Rattle.lk_guarantees.proofs.Falling.{leaves_down}
-use Rattle.lk_guarantees.proofs.Refusing.{none_started, has_cause, leaves_up, takes_as_told}
+use Rattle.lk_guarantees.proofs.Refusing.{none_started, has_cause, leaves_up}
 use Rattle.lk_guarantees.proofs.Reviving.{same_seat, stands_at, restarts_as_told}
+use Rattle.lk_guarantees.proofs.Taking.{asked_in, takes_as_told}
 use Rattle.lk_guarantees.specs.Events as guarantee
-use Rattle.lk_guarantees.specs.Events.{asked_of, requests, AreAskedIn, AreAskedBy, IsFor, ChangesOnly, FallsDown}
+use Rattle.lk_guarantees.specs.Events.{asked_of, requests, AreAskedBy, IsFor, ChangesOnly, FallsDown}
 use Rattle.lk_guarantees.specs.Events.{SendsAsAsked, IsStopped, StopsAsAsked, IsSilent}
 
 -- ---- notes that ask nothing
@@ -158,17 +159,6 @@ module _ (b : Behaviour ReplicaValue) where
     | inr f ↦ adds_just old new [] [] f.adds
   ]
 
-no_request : (r : RequestValue) → None ≡ Some r → ⊥
-no_request r e = absurd cc
-
-asked_in : (bytes : List ℕ) (o : Option RequestValue) → IsRequestIn bytes o → AreAskedIn bytes (requests (asked_note o))
-asked_in bytes (Some r) a = inl (r, a.spelled r refl, refl)
-asked_in bytes None a = inr (
-  λ r cluster spelled. let x = a.only (record { cluster = cluster; content = content.Request r }) spelled in
-      no_request x.0 x.2,
-  refl,
-)
-
 -- ---- the node that an event is for
 
 turned : (old new : List (Seat ReplicaValue)) (n : ℕ) (s t : Seat ReplicaValue) → ReplacesSeat old new s t
@@ -213,7 +203,7 @@ module _ (b : Behaviour ReplicaValue) where
   brings_sends old new (event.Restart n) k = tt
   brings_sends old new (event.Tick n) k = tt
   brings_sends old new (event.Compact n) k = tt
-  brings_sends old new (event.Client n r) k = (k.datagram, k.from, k.to, k.spelled, k.adds.sent, k.seats)
+  brings_sends old new (event.Client n r) k = (k.datagram, k.from, k.to, k.spelled, k.adds.sent, k.adds.trace, k.seats)
   brings_sends old new (event.Deliver i) k = tt
   brings_sends old new (event.Group n group_inputs) k = tt
   brings_sends old new (event.Inject n bytes) k = tt
@@ -384,7 +374,8 @@ module _ (b : Behaviour ReplicaValue) where
 -- ---- a stop
 
 module _ (b : Behaviour ReplicaValue) (memory_is : (r : ReplicaValue) → b.memory r ≡ device_of r.store)
-    (node_stays : (t : Trap) (r : ReplicaValue) → (b.with_trap t r).node ≡ r.node)
+    (traps : (t : Trap) (r : ReplicaValue)
+    → b.with_trap t r ≡ record r { store = record r.store { meter = trapped t r.store.meter } })
     (contract : (r : ReplicaValue) (o : Option (List ℕ)) (q : ReplicaValue)
     (came : Result (List Note × List Datagram) ℕ) → b.Takes r o q came → ComesTo table_meaning IsTableText r o q came)
     (contract_of_all : (r : ReplicaValue) (given : List (Option (List ℕ))) (q : ReplicaValue)
@@ -450,7 +441,7 @@ module _ (b : Behaviour ReplicaValue) (memory_is : (r : ReplicaValue) → b.memo
     silent = silent old new e d.1;
     up = leaves_up old b new e d.1;
     down = leaves_down old new b e d.1;
-    takes = takes_as_told b node_stays contract contract_of_all old new e d.0 d.1;
+    takes = takes_as_told b memory_is traps contract contract_of_all old new e d.0 d.1;
     restarts = restarts_as_told b contract_of_restart old new e d.1;
     grows = done_grows b old new e d;
   }

@@ -1,6 +1,6 @@
 -- What an end leaves, in the words of the guarantee.
-use Rattle.std.proofs.Common.{◌≡◌, ℕ, List, [], ◌∷◌, map, Option, Some, None, Contains, refl, sym, ◌∙◌, subst, inl, inr}
-use Rattle.std.proofs.Common.{arith}
+use Rattle.std.proofs.Common.{◌≡◌, ℕ, List, [], ◌∷◌, map, take, Option, Some, None, Contains, refl, ap, sym, ◌∙◌, subst}
+use Rattle.std.proofs.Common.{inl, inr, arith}
 use Rattle.std.proofs.lemmas.List.Elements.{Contains-append_right}
 use Rattle.lk_memory_disk.specs.Memory.{Memory}
 use Rattle.lk_disk.specs.Meters.{stopping}
@@ -8,18 +8,21 @@ use Rattle.lk_node_interface.specs.declared.note.Note.{Note}
 use Rattle.lk_replica.specs.Behaviours.{Behaviour}
 use Rattle.lk_replica.specs.ReplicaValue.{ReplicaValue}
 use Rattle.lk_sim_nodes.specs.Ends.{IsEndByCalls, end_by}
-use Rattle.lk_sim.specs.Events.{ReplacesSeat, EndsByFault, IsGiven, IsGivenTogether, HasEffect}
+use Rattle.lk_sim.specs.Events.{ReplacesSeat, EndsByFault, IsGiven, IsGivenTogether, HasEffect, Wants, IsRefused}
 use Rattle.lk_sim.specs.Groups.{given_by}
+use Rattle.lk_sim.specs.Runs.{AreExecuted, StopsAt, Runs}
 use Rattle.lk_sim.specs.Scenes.{Scene}
 use Rattle.lk_sim.specs.Traces.{asked_note}
 use Rattle.lk_sim_nodes.specs.declared.end.End.{End}
 use Rattle.lk_sim_nodes.specs.declared.end.End.TheVariants.{Fault, Stopped}
+use Rattle.lk_sim_nodes.specs.declared.refused.Refused.{Refused}
+use Rattle.lk_sim.specs.declared.end.RunEnd.{RunEnd}
 use Rattle.lk_sim.specs.declared.event.Event.{Event}
 use Rattle.lk_sim.specs.declared.event.Event.TheVariants as event
 use Rattle.lk_sim_nodes.specs.declared.seat.Seat.{Seat}
 use Rattle.lk_sim_nodes.specs.declared.seat.Life.TheVariants.{Down}
 use Rattle.lk_sim.proofs.Networks.{at_set_here}
-use Rattle.lk_guarantees.specs.Events.{IsFor, IsDown, ended_node, IsEnding, LeavesDown}
+use Rattle.lk_guarantees.specs.Events.{IsFor, IsDown, ended_node, LeavesDown, IsEnding, EndsByDevice}
 use Rattle.lk_guarantees.proofs.Refusing.{is_for}
 
 is_ending : (x : End) → IsEndByCalls (Some x) → IsEnding x
@@ -30,10 +33,15 @@ node_is : (o : Option ℕ) (n number : ℕ) → ended_node (end_by o n number) �
 node_is None n number = refl
 node_is (Some bytes) n number = refl
 
+-- whom the event ended is down, and a call of its device is to blame, or a stop
+abbrev Falls : Scene ReplicaValue → Event → Scene ReplicaValue → Type 0
+Falls old e new =
+    (x : End) → new.ended ≡ Some x → IsFor old.sent e (ended_node x) × IsDown new.seats (ended_node x) × IsEnding x
+
 module _ (old new : Scene ReplicaValue) where
   -- whoever is down was told of
   told_of : (e : Event) (n : ℕ) (x : End) → ended_node x ≡ n → new.ended ≡ Some x → IsEndByCalls (Some x)
-      → IsFor old.sent e n → IsDown new.seats n → LeavesDown old e new
+      → IsFor old.sent e n → IsDown new.seats n → Falls old e new
   told_of e n x node ended told for_it is_down y is =
       let same : x ≡ y = one (sym ended ∙ is) in
       subst (λ (z : End). IsFor old.sent e (ended_node z) × IsDown new.seats (ended_node z) × IsEnding z) same
@@ -42,7 +50,7 @@ module _ (old new : Scene ReplicaValue) where
       one : Some x ≡ Some y → x ≡ y
       one f = cc f
 
-  none_ended : (e : Event) → new.ended ≡ None → LeavesDown old e new
+  none_ended : (e : Event) → new.ended ≡ None → Falls old e new
   none_ended e none y is = absurd (cc (none, is))
 
   sits : (s t : Seat ReplicaValue) (n : ℕ) (device : Memory) → ReplacesSeat old.seats new.seats s t → s.number ≡ n
@@ -58,7 +66,7 @@ module _ (old new : Scene ReplicaValue) where
 
   -- it fell by a fault, or by an armed stop at a call
   fell : (Ends : ℕ → Memory → Type 0) (e : Event) (n : ℕ) (t : Seat ReplicaValue) (asked : List Note)
-      → EndsByFault Ends old new t asked → t.number ≡ n → IsFor old.sent e n → IsDown new.seats n → LeavesDown old e new
+      → EndsByFault Ends old new t asked → t.number ≡ n → IsFor old.sent e n → IsDown new.seats n → Falls old e new
   fell Ends e n t asked f number for_it is_down =
       told_of e n (end_by (stopping f.left.meter) t.number f.number)
       (node_is (stopping f.left.meter) t.number f.number ∙ number) f.ended
@@ -66,7 +74,7 @@ module _ (old new : Scene ReplicaValue) where
 
   module _ (b : Behaviour ReplicaValue) where
     given_down : (e : Event) (n : ℕ) (o : Option (List ℕ)) (asked : List Note) → IsFor old.sent e n
-        → IsGiven b old new n o asked → LeavesDown old e new
+        → IsGiven b old new n o asked → Falls old e new
     given_down e n o asked for_it k = elim k.comes_to [
       | inl r ↦ none_ended e r.ended
       | inr (inl r) ↦ told_of e n (Stopped k.next.number) (k.replaces.number ∙ k.number) r.ended tt for_it
@@ -77,7 +85,7 @@ module _ (old new : Scene ReplicaValue) where
     ]
 
     together_down : (e : Event) (n : ℕ) (given : List (Option (List ℕ))) → IsFor old.sent e n
-        → IsGivenTogether b old new n given → LeavesDown old e new
+        → IsGivenTogether b old new n given → Falls old e new
     together_down e n given for_it k = elim k.comes_to [
       | inl r ↦ none_ended e r.ended
       | inr (inl r) ↦ told_of e n (Stopped k.next.number) (k.replaces.number ∙ k.number) r.ended tt for_it
@@ -87,8 +95,8 @@ module _ (old new : Scene ReplicaValue) where
           (sits k.seat k.next n _ k.replaces k.number f.down)
     ]
 
-    pub leaves_down : (e : Event) → HasEffect b old e new → LeavesDown old e new
-    leaves_down (event.Start n) k = elim k.comes [
+    falls : (e : Event) → HasEffect b old e new → Falls old e new
+    falls (event.Start n) k = elim k.comes [
       | inl r ↦ none_ended (event.Start n) r.ended
       | inr f ↦ fell _ (event.Start n) n k.seat [] f k.number refl (
         k.seat,
@@ -99,25 +107,72 @@ module _ (old new : Scene ReplicaValue) where
         f.down,
       )
     ]
-    leaves_down (event.Restart n) k = elim k.comes [
+    falls (event.Restart n) k = elim k.comes [
       | inl r ↦ none_ended (event.Restart n) r.ended
       | inr f ↦ fell _ (event.Restart n) n k.next [] f (k.replaces.number ∙ k.number) refl
           (sits k.seat k.next n _ k.replaces k.number f.down)
     ]
-    leaves_down (event.Tick n) k = given_down (event.Tick n) n None [] refl k
-    leaves_down (event.Compact n) k = elim k.comes_to [
+    falls (event.Tick n) k = given_down (event.Tick n) n None [] refl k
+    falls (event.Compact n) k = elim k.comes_to [
       | inl r ↦ none_ended (event.Compact n) r.ended
       | inr f ↦ fell _ (event.Compact n) n k.next [] f (k.replaces.number ∙ k.number) refl
           (sits k.seat k.next n _ k.replaces k.number f.down)
     ]
-    leaves_down (event.Client n q) k = none_ended (event.Client n q) k.ended
-    leaves_down (event.Deliver i) k =
+    falls (event.Client n q) k = none_ended (event.Client n q) k.ended
+    falls (event.Deliver i) k =
         given_down (event.Deliver i) k.node (Some k.datagram.bytes) []
         (is_for old.sent i k.datagram k.node k.stands k.bound) k.given
-    leaves_down (event.Group n group_inputs) k =
+    falls (event.Group n group_inputs) k =
         together_down (event.Group n group_inputs) n (map (given_by old.sent) group_inputs.items) refl k
-    leaves_down (event.Inject n bytes) k =
+    falls (event.Inject n bytes) k =
         given_down (event.Inject n bytes) n (Some bytes.items) (asked_note k.request) refl k.given
-    leaves_down (event.Stop n x y) k = none_ended (event.Stop n x y) k.ended
-    leaves_down (event.FailAt n count) k = none_ended (event.FailAt n count) k.ended
-    leaves_down (event.Arm n count bytes) k = none_ended (event.Arm n count bytes) k.ended
+    falls (event.Stop n x y) k = none_ended (event.Stop n x y) k.ended
+    falls (event.FailAt n count) k = none_ended (event.FailAt n count) k.ended
+    falls (event.Arm n count bytes) k = none_ended (event.Arm n count bytes) k.ended
+
+    pub leaves_down : (e : Event) → HasEffect b old e new → LeavesDown old e new
+    leaves_down e k x is = let f = falls e k x is in (f.0, f.1)
+
+    pub ends_by_device : (e : Event) → HasEffect b old e new → EndsByDevice new.ended
+    ends_by_device e k x is = (falls e k x is).2
+
+-- ---- a run
+
+module _ (b : Behaviour ReplicaValue) where
+  same_end : (old new : Scene ReplicaValue) → new ≡ old → new.ended ≡ old.ended
+  same_end old new same = ap (λ (w : Scene ReplicaValue). w.ended) same
+
+  wants_end : (old new : Scene ReplicaValue) (e : Event) → Wants b old e new → new.ended ≡ old.ended
+  wants_end old new (event.Start n) k = same_end old new k
+  wants_end old new (event.Restart n) k = k.ended
+  wants_end old new (event.Tick n) k = k.ended
+  wants_end old new (event.Compact n) k = k.ended
+  wants_end old new (event.Client n q) k = same_end old new k
+  wants_end old new (event.Deliver i) k = elim k [ inl same ↦ same_end old new same | inr h ↦ h.4.ended ]
+  wants_end old new (event.Group n group_inputs) k = elim k [ inl same ↦ same_end old new same.0 | inr h ↦ h.ended ]
+  wants_end old new (event.Inject n bytes) k = elim k [ inl same ↦ same_end old new same.0 | inr h ↦ h.ended ]
+  wants_end old new (event.Stop n x y) k = absurd k
+  wants_end old new (event.FailAt n count) k = absurd k
+  wants_end old new (event.Arm n count bytes) k = absurd k
+
+  refused_end : (old new : Scene ReplicaValue) (e : Event) (r : Refused) → IsRefused b old e r new
+      → new.ended ≡ old.ended
+  refused_end old new e r k =
+      elim k [ inl same ↦ same_end old new same.1 | inr wants ↦ wants_end old new e wants.2 ]
+
+  all_end : (es : List Event) (old new : Scene ReplicaValue) → AreExecuted b es old new → EndsByDevice old.ended
+      → EndsByDevice new.ended
+  all_end [] old new p ends = subst EndsByDevice (sym (same_end old new p)) ends
+  all_end (e ∷ es) old new p ends = all_end es p.0 new p.2 (ends_by_device old p.0 b e p.1.1)
+
+  run_end : (events : List Event) (done : ℕ) (o : Option Refused) (last new : Scene ReplicaValue)
+      → StopsAt b events done o last new → EndsByDevice last.ended → EndsByDevice new.ended
+  run_end events done None last new s ends = subst EndsByDevice (sym (same_end last new s.1)) ends
+  run_end events done (Some r) last new s ends =
+      subst EndsByDevice (sym (refused_end last new s.0 r s.2)) ends
+
+  pub runs_end : (old : Scene ReplicaValue) (events : List Event) (how : RunEnd) (new : Scene ReplicaValue)
+      → Runs b old events how new → EndsByDevice old.ended → EndsByDevice new.ended
+  runs_end old events how new r ends =
+      run_end events how.done how.refused r.last new r.stops
+      (all_end (take how.done events) old r.last r.are_executed ends)

@@ -30,8 +30,9 @@ use Rattle.lk_locks.specs.declared.slot.Holders.TheVariants.{Nobody, Alone, Toge
 use Rattle.lk_locks.specs.declared.slot.Slot.{Slot as Lock}
 use Rattle.lk_agreement_laws.specs.Datagrams.{Datagram}
 use Rattle.lk_node_interface.specs.declared.note.Note.{Note}
+use Rattle.lk_node_interface.specs.declared.note.Note.TheVariants as note
 use Rattle.lk_guarantees.specs.Guarantee.{IsExplained}
-use Rattle.lk_guarantees.specs.Guarded.{Write, accepted, IsUnder, FencesRise, IsGuarded, AreListed}
+use Rattle.lk_guarantees.specs.Guarded.{Write, accepted, IsUnder, FencesRise, IsGuarded, IsListed, AreListed}
 use Rattle.lk_guarantees.specs.Plain.{Locks, State, hold, give_again, give_first, acquire_known, acquire, adding_client}
 use Rattle.lk_guarantees.specs.Plain.{share_known, share, is_held_by, is_free, is_held_at, release, without, break_lock}
 use Rattle.lk_guarantees.specs.Plain.{first, told_of, asks, use_locks, begin, execute, join, leave, raise, takes_effect}
@@ -487,10 +488,11 @@ acquired client Raise s fence g = absurd (elim (cases_Bool s.raised) [
   | inr e ↦ (let d : Raised ≡ Granted fence = rw e at g in cc d)
 ])
 
-listed : (genesis : Genesis) (L : List Command) (client number fence : ℕ)
+listed : (genesis : Genesis) (trace : List Note) (L : List Command)
+    → ((i : ℕ) (r : Asking) → at L i ≡ Some (Request r) → Contains trace (note.Asked r)) → (client number fence : ℕ)
     → IsPlaced genesis L client number (Granted fence)
-    → (name : List ℕ) × (i : ℕ) × IsUnder genesis L name (record { client = client; number = number; fence = fence }) i
-listed genesis L client number fence p =
+    → IsListed genesis trace L (record { client = client; number = number; fence = fence })
+listed genesis trace L asked client number fence p =
     let before : State = after genesis (take (p.position - 1) L) in
     let served : (execute p.request.client p.request.op before).0 ≡ Granted fence =
     ap (λ (c : ℕ). (execute c p.request.op before).0) p.of_client ∙ p.answered in
@@ -507,6 +509,9 @@ listed genesis L client number fence p =
         acquires = k.acquires;
         granted = served;
       },
+      λ one r there of_client of_number.
+          one p.request r (asked p.position p.request p.is_effective.0) there p.of_client of_client p.of_number
+          of_number,
     )
 
 pub are_listed : (genesis : Genesis) (sent : List Datagram) (trace : List Note) → IsExplained genesis sent trace
@@ -514,6 +519,6 @@ pub are_listed : (genesis : Genesis) (sent : List Datagram) (trace : List Note) 
 are_listed genesis sent trace e = (
   e.0,
   e.1,
-  λ node client number fence c. listed genesis e.0 client number fence
+  λ node client number fence c. listed genesis trace e.0 e.2.asked client number fence
       (placed genesis e.0 client number (Granted fence) (e.2.answered node client number (Granted fence) c)),
 )

@@ -1,12 +1,11 @@
 -- The number of a node that joins is above those of all members so far.
-use Rattle.std.proofs.Common.{◌≡◌, ℕ, zero, suc, ◌+◌, ◌-◌, ◌<◌, ◌≤◌, Bool, true, false, cond, leb, eqb, not}
-use Rattle.std.proofs.Common.{List, [], ◌∷◌, ◌++◌, length, take, drop, fold, filter, max, Contains, refl, ap, sym, ◌∙◌}
+use Rattle.std.proofs.Common.{◌≡◌, ℕ, ◌-◌, ◌<◌, ◌≤◌, leb, eqb, not}
+use Rattle.std.proofs.Common.{List, [], ◌∷◌, ◌++◌, length, take, drop, fold, filter, Contains, ap, sym, ◌∙◌}
 use Rattle.std.proofs.Common.{subst, inl, inr, arith}
 use Rattle.std.specs.List.{list_any}
-use Rattle.std.proofs.lemmas.Bool.{cases_Bool, leb-true, leb-false}
+use Rattle.std.proofs.lemmas.Bool.{cases_Bool, leb-false}
 use Rattle.std.proofs.lemmas.List.{take-append-drop, take-take}
 use Rattle.std.proofs.lemmas.List.Elements.{Contains-push_cases}
-use Rattle.lk_types.specs.declared.answer.Answer.{Answer}
 use Rattle.lk_types.specs.declared.answer.Answer.TheVariants.{Joined, Used}
 use Rattle.lk_types.specs.declared.command.Command.{Command}
 use Rattle.lk_types.specs.declared.command.Command.TheVariants.{Noop, Request}
@@ -15,7 +14,7 @@ use Rattle.lk_types.specs.declared.command.Op.TheVariants.{Table, Join, Leave, R
 use Rattle.lk_types.specs.declared.genesis.Genesis.{Genesis}
 use Rattle.lk_types.specs.declared.member.Member.{Member}
 use Rattle.lk_agreement_laws.proofs.Histories.{cons_cases, filter_from}
-use Rattle.lk_guarantees.specs.Joining.{JoinsAt, JoinsOnce}
+use Rattle.lk_guarantees.specs.Joining.{JoinsOnce}
 use Rattle.lk_guarantees.specs.Plain.{State, greatest_of, begin, execute, join, leave, raise, takes_effect}
 use Rattle.lk_guarantees.specs.Plain.{after_one, after}
 use Rattle.lk_guarantees.proofs.Guarded.{fold-append}

@@ -27,10 +27,11 @@ use Rattle.lk_sim_nodes.specs.declared.seat.Life.{Life}
 use Rattle.lk_sim_nodes.specs.declared.seat.Life.TheVariants.{Up, Down}
 use Rattle.lk_guarantees.specs.Guarantee as guarantee
 use Rattle.lk_guarantees.specs.Disks.{IsSnapshot}
-use Rattle.lk_guarantees.specs.Guarantee.{device_in, IsShort, MayRemainOf, Remembers, EachImage, HasSnapshot, IsCovered}
-use Rattle.lk_guarantees.specs.Guarantee.{IsRemembered, Says, IsPrefix}
+use Rattle.lk_guarantees.specs.Guarantee.{device_in, IsShort, MayRemainOf, Remembers, EachImage, HasSnapshot, IsNear}
+use Rattle.lk_guarantees.specs.Guarantee.{IsCovered, IsRemembered, Says, IsPrefix}
 use Rattle.lk_guarantees.proofs.Executing.{is_snapshot}
 use Rattle.lk_guarantees.proofs.Explaining.{all_fit}
+use Rattle.lk_guarantees.proofs.Nearness.{is_near}
 use Rattle.lk_guarantees.proofs.Quorums.{at_is, members_are, has_sent, is_chosen, chosen_is, stands_in, stood, begins}
 
 abbrev disks_in : ReplicaValue → Side → Disk
@@ -108,20 +109,27 @@ has_snapshot : (genesis : Genesis) (sent : List Datagram) (x : StandingValue)
 has_snapshot genesis sent x p =
     (p.0, is_chosen genesis sent p.0 p.1, p.2, snapshot_of genesis sent p.0 x.snapshot p.1 p.3)
 
+-- a node may restart from it
+abbrev MayRestart : Genesis → List Datagram → StandingValue → Type 0
+MayRestart genesis sent x = HasSnapshot genesis sent x × IsNear genesis x
+
 keeps_packed : (genesis : Genesis) (sent : List Datagram) (n : ℕ) (life : Life ReplicaValue) (image : Image)
     → KeepsPacked table_meaning genesis sent n (disks_of disks_in life) → MayRemainOf life image
-    → (x : StandingValue) × Remembers genesis n image x × HasSnapshot genesis sent x
+    → (x : StandingValue) × Remembers genesis n image x × MayRestart genesis sent x
 keeps_packed genesis sent n life image keeps remains =
-    let x = keeps image (may_leave life image remains) in
-    (x.0, remembers genesis n image x.0 x.1, has_snapshot genesis sent x.0 x.2)
+    let x = keeps image (may_leave life image remains) in (
+      x.0,
+      remembers genesis n image x.0 x.1,
+      (has_snapshot genesis sent x.0 x.2, is_near genesis x.0 x.1.stands.pairs_rise x.3),
+    )
 
 pub has_snapshots : (genesis : Genesis) (sent : List Datagram) (s : Seat ReplicaValue)
     → SumsUpChosen (λ r. r.node.learner.whole) disks_in table_meaning genesis sent s
-    → EachImage genesis s (HasSnapshot genesis sent)
+    → EachImage genesis s (MayRestart genesis sent)
 has_snapshots genesis sent s sums image remains = by_life s.life refl
   where
     by_life : (life : Life ReplicaValue) → s.life ≡ life
-        → (x : StandingValue) × Remembers genesis s.number image x × HasSnapshot genesis sent x
+        → (x : StandingValue) × Remembers genesis s.number image x × MayRestart genesis sent x
     by_life (Up r) e = keeps_packed genesis sent s.number (Up r) image (sums.kept r e)
         (subst (λ (l : Life ReplicaValue). MayRemainOf l image) e remains)
     by_life (Down d) e = keeps_packed genesis sent s.number (Down d) image (sums.left d e)

@@ -5,10 +5,12 @@ mod Explaining
 mod Rising
 mod Executing
 mod Telling
+mod Nearness
 mod Keeping
 mod Refusing
 mod Falling
 mod Reviving
+mod Taking
 mod Doing
 mod Fixed
 mod Once
@@ -22,6 +24,7 @@ mod Converging
 mod Restarting
 mod Reaching
 mod Apart
+mod Restoring
 mod ComingBack
 mod Repeating
 mod Replying

@@ -20,7 +20,7 @@ use Rattle.lk_node_interface.specs.declared.note.Note.TheVariants as note
 use Rattle.lk_guarantees.specs.Linear.{Object, object, alone, Sequence, IsLegal, Linearizes, IsLinearizable}
 use Rattle.lk_guarantees.specs.Plain.{State, begin, execute, takes_effect, used, after_one, after, at, GivesAnswer}
 use Rattle.lk_guarantees.specs.Plain.{TakesEffectAt}
-use Rattle.lk_guarantees.specs.Guarantee.{IsChosen, Explains, IsExplained, IsOrdered}
+use Rattle.lk_guarantees.specs.Guarantee.{IsChosen, Explains, IsExplained, IsOrdered, StandsForOne}
 use Rattle.lk_guarantees.proofs.Once.{once}
 use Rattle.lk_guarantees.proofs.Placing.{get_middle, take_front}
 use Rattle.lk_guarantees.proofs.Quorums.{at_is}
@@ -249,6 +249,15 @@ module _ (genesis : Genesis) where
         let k = split first L cut.0 (r, answer) cut.1 cut.2 in
         x.asked (length k.before + 1) r (effect_at L cut.0 (r, answer) k).0
 
+    -- the one operation that the client has asked under the number
+    its_own : (client number : ℕ) (answer : Answer) → GivesAnswer genesis L client number answer
+        → StandsForOne trace client number → (r : Asking) → Contains trace (note.Asked r) → r.client ≡ client
+        → r.number ≡ number → Contains (effective first L) (r, answer)
+    its_own client number answer a one r asked of_client of_number =
+        let k = completes client number answer a in
+        subst (λ (q : Asking). Contains (effective first L) (q, answer))
+        (one k.0 r (invoked k.0 answer k.3) asked k.1 of_client k.2 of_number) k.3
+
     only_once : (front back : Sequence) (r q : Asking) (a b : Answer) → effective first L ≡ front ++ (r, a) ∷ back
         → Contains front (q, b) → q.client ≡ r.client → q.number ≡ r.number → ⊥
     only_once front back r q a b e c client number =
@@ -288,6 +297,8 @@ module _ (genesis : Genesis) where
       legal = legal first L;
       completes =
           λ node client number answer c. completes client number answer (x.answered node client number answer c);
+      its_own =
+          λ node client number answer c. its_own client number answer (x.answered node client number answer c);
       invoked = invoked;
       once = only_once;
       in_time = in_time;

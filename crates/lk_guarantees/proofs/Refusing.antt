@@ -1,14 +1,9 @@
 -- Why an event is refused, and what one leaves up, in the words of the guarantee.
-use Rattle.std.proofs.Common.{◌≡◌, ℕ, zero, suc, ◌+◌, ◌-◌, List, [], ◌∷◌, ◌++◌, length, map, slice_get, Option, Some}
-use Rattle.std.proofs.Common.{None, Result, Ok, Contains, refl, ap, sym, ◌∙◌, subst, inl, inr, arith}
+use Rattle.std.proofs.Common.{◌≡◌, ℕ, zero, suc, ◌+◌, List, [], ◌∷◌, map, slice_get, Option, Some}
+use Rattle.std.proofs.Common.{None, Contains, refl, ap, sym, ◌∙◌, subst, inl, inr, arith}
 use Rattle.std.specs.Global.{Global}
-use Rattle.std.specs.List.{flat_map}
 use Rattle.std.specs.Prelude.{Vec}
 use Rattle.std.proofs.lemmas.List.Elements.{Contains-append_right}
-use Rattle.lk_disk.specs.declared.trap.Trap.{Trap}
-use Rattle.lk_disk.specs.declared.trap.Trap.TheVariants.{Off, Fail, Arm}
-use Rattle.lk_locks.specs.Meaning.{table_meaning}
-use Rattle.lk_locks.specs.Packed.{IsTableText}
 use Rattle.lk_messages.specs.Grammar.{Spells}
 use Rattle.lk_messages.specs.declared.message.Content.{Content}
 use Rattle.lk_messages.specs.declared.message.Content.TheVariants as content
@@ -20,15 +15,12 @@ use Rattle.lk_node_interface.specs.declared.note.Note.{Note}
 use Rattle.lk_node.specs.Histories.{Datagram, RequestValue}
 use Rattle.lk_replica.specs.Behaviours.{Behaviour}
 use Rattle.lk_replica.specs.ReplicaValue.{ReplicaValue}
-use Rattle.lk_replica.specs.Taking.{ComesTo}
-use Rattle.lk_replica.specs.Together.{Said, sent_of, ComesToAll}
 use Rattle.lk_sim.specs.Events.{ReplacesSeat, IsGiven, IsGivenTogether, ComesUp, HasEffect, Wants}
-use Rattle.lk_sim_nodes.specs.Sends as sending
 use Rattle.lk_sim.specs.Events as doing
-use Rattle.lk_sim.specs.Groups.{bytes_of, given_by}
+use Rattle.lk_sim.specs.Groups.{given_by}
 use Rattle.lk_sim_nodes.specs.Refusals.{NoneUp, NoRestart}
 use Rattle.lk_sim.specs.Refusals.{datagram_at, AreFor, NotStarted, NoStep, NoStart, NoClient, NoneBound, NoDelivery}
-use Rattle.lk_sim.specs.Refusals.{NoInjection, NoGroup, IsPermitted, IsRejectedFor}
+use Rattle.lk_sim.specs.Refusals.{NoInjection, NoGroup, IsRejectedFor}
 use Rattle.lk_sim.specs.Scenes.{Scene}
 use Rattle.lk_sim_nodes.specs.Seats.{HasNo}
 use Rattle.lk_sim_nodes.specs.Seats as seats
@@ -44,8 +36,7 @@ use Rattle.lk_sim_nodes.specs.declared.refused.Refused.TheVariants.{Forged, Worl
 use Rattle.lk_sim_nodes.specs.declared.seat.Seat.{Seat}
 use Rattle.lk_sim_nodes.specs.declared.seat.Life.TheVariants.{Up}
 use Rattle.lk_sim.proofs.Networks.{at_set_here}
-use Rattle.lk_guarantees.specs.Events.{IsFor, IsStarted, IsUp, IsDown, HasCause, LeavesUp, IsTaken, AreGiven, AreTaken}
-use Rattle.lk_guarantees.specs.Events.{TakesAsStated}
+use Rattle.lk_guarantees.specs.Events.{IsFor, IsStarted, IsUp, IsDown, HasCause, LeavesUp}
 
 -- ---- where the node is
 
@@ -336,121 +327,3 @@ module _ (old : Scene ReplicaValue) where
     leaves_up (event.Stop n x y) k = tt
     leaves_up (event.FailAt n count) k = tt
     leaves_up (event.Arm n count bytes) k = tt
-
--- ---- what is taken
-
-brought : (sent : List Datagram) (n : ℕ) (group_inputs : List GroupInput) → AreFor sent n group_inputs
-    → AreGiven sent group_inputs (map (given_by sent) group_inputs)
-brought sent n [] are = refl
-brought sent n (group_input.Tick ∷ group_inputs) are = (
-  map
-      (given_by sent) group_inputs,
-  refl,
-  brought sent n group_inputs are.1,
-)
-brought sent n (group_input.Deliver zero ∷ group_inputs) are = absurd (cc are.0.1)
-brought sent n (group_input.Deliver (suc j) ∷ group_inputs) are = (
-  j,
-  are.0.0,
-  omega arith,
-  are.0.1,
-  (
-    map (given_by sent) group_inputs,
-    ap (λ (o : Option Datagram). bytes_of o ∷ map (given_by sent) group_inputs) are.0.1,
-    brought sent n group_inputs are.1,
-  ),
-)
-
-all_sent : (said : List Said) → sent_of said ≡ flat_map (λ x. x.1) said
-all_sent [] = refl
-all_sent (x ∷ said) = ap (λ (l : List Datagram). x.1 ++ l) (all_sent said)
-
-module _ (b : Behaviour ReplicaValue) (node_stays : (t : Trap) (r : ReplicaValue) → (b.with_trap t r).node ≡ r.node)
-    (contract : (r : ReplicaValue) (o : Option (List ℕ)) (q : ReplicaValue)
-    (came : Result (List Note × List Datagram) ℕ) → b.Takes r o q came → ComesTo table_meaning IsTableText r o q came)
-    (contract_of_all : (r : ReplicaValue) (given : List (Option (List ℕ))) (q : ReplicaValue)
-    (came : Result (List Said) ℕ) → b.TakesAll r given q came
-    → ComesToAll table_meaning IsTableText r given q came) where
-  counted : (trap : Trap) (sends : ℕ) (r : ReplicaValue) → (sending.counting b trap sends r).node ≡ r.node
-  counted Off sends r = refl
-  counted (Fail count) sends r = refl
-  counted (Arm count bytes) sends r = node_stays (Arm (count - sends) bytes) r
-
-  taken : (old new : Scene ReplicaValue) (n : ℕ) (o : Option (List ℕ)) (asked : List Note)
-      → IsGiven b old new n o asked → new.ended ≡ None → IsTaken old n o new
-  taken old new n o asked k none = elim k.comes_to [
-    | inl r ↦ (
-        let here = at_set_here old.seats k.replaces.index k.next k.replaces.at.0 in
-        record {
-          before = k.replica;
-          after = r.replica;
-          was_up = (k.seat, k.replica, (k.replaces.index, k.replaces.at.0, k.replaces.at.1), k.number, k.up, refl);
-          is_up = (
-            k.next,
-            sending.after_sends b (length r.batch) r.replica,
-            subst (λ (l : List (Seat ReplicaValue)). Contains l k.next) (sym k.replaces.seats)
-                (k.replaces.index, here.0, here.1),
-            k.replaces.number ∙ k.number,
-            r.up,
-            counted (b.memory r.replica).meter.trap (length r.batch) r.replica,
-          );
-          notes = r.notes;
-          batch = r.batch;
-          took = contract k.replica o r.replica (Ok (r.notes, r.batch)) r.takes;
-          sent = r.adds.sent;
-        })
-    | inr (inl r) ↦ absurd (not_ended old b new _ r.ended none)
-    | inr (inr f) ↦ absurd (not_ended old b new _ f.ended none)
-  ]
-
-  taken_together : (old new : Scene ReplicaValue) (n : ℕ) (group_inputs : List GroupInput)
-      → AreFor old.sent n group_inputs
-      → IsGivenTogether b old new n (map (given_by old.sent) group_inputs) → new.ended ≡ None
-      → AreTaken old n group_inputs new
-  taken_together old new n group_inputs are k none = elim k.comes_to [
-    | inl r ↦ (
-        let here = at_set_here old.seats k.replaces.index k.next k.replaces.at.0 in
-        record {
-          before = k.replica;
-          after = r.replica;
-          was_up = (k.seat, k.replica, (k.replaces.index, k.replaces.at.0, k.replaces.at.1), k.number, k.up, refl);
-          is_up = (
-            k.next,
-            sending.after_sends b (length (sent_of r.said)) r.replica,
-            subst (λ (l : List (Seat ReplicaValue)). Contains l k.next) (sym k.replaces.seats)
-                (k.replaces.index, here.0, here.1),
-            k.replaces.number ∙ k.number,
-            r.up,
-            counted (b.memory r.replica).meter.trap (length (sent_of r.said)) r.replica,
-          );
-          given = map (given_by old.sent) group_inputs;
-          are_given = brought old.sent n group_inputs are;
-          said = r.said;
-          took = contract_of_all k.replica (map (given_by old.sent) group_inputs) r.replica (Ok r.said) r.takes;
-          sent = r.adds.sent ∙ ap (λ (l : List Datagram). old.sent ++ l) (all_sent r.said);
-        })
-    | inr (inl r) ↦ absurd (not_ended old b new _ r.ended none)
-    | inr (inr f) ↦ absurd (not_ended old b new _ f.ended none)
-  ]
-
-  pub takes_as_told : (old new : Scene ReplicaValue) (e : Event) → IsPermitted old e
-      → HasEffect b old e new → TakesAsStated old e new
-  takes_as_told old new (event.Start n) may k = tt
-  takes_as_told old new (event.Restart n) may k = tt
-  takes_as_told old new (event.Tick n) may k = taken old new n None [] k
-  takes_as_told old new (event.Compact n) may k = tt
-  takes_as_told old new (event.Client n q) may k = tt
-  takes_as_told old new (event.Deliver i) may k =
-      λ none. delivered i k.datagram k.node k.stands k.bound
-      (taken old new k.node (Some k.datagram.bytes) [] k.given none)
-    where
-      delivered : (i : ℕ) (d : Datagram) (n : ℕ) → datagram_at old.sent i ≡ Some d → d.to ≡ party.Node n
-          → IsTaken old n (Some d.bytes) new
-          → (n : ℕ) × (f : IsFor old.sent (event.Deliver i) n) × IsTaken old n (Some f.1.bytes) new
-      delivered zero d n e to t = absurd cc
-      delivered (suc j) d n e to t = (n, (j, d, omega arith, e, to), t)
-  takes_as_told old new (event.Group n group_inputs) may k = taken_together old new n group_inputs.items may.1 k
-  takes_as_told old new (event.Inject n bytes) may k = taken old new n (Some bytes.items) (asked_note k.request) k.given
-  takes_as_told old new (event.Stop n x y) may k = tt
-  takes_as_told old new (event.FailAt n count) may k = tt
-  takes_as_told old new (event.Arm n count bytes) may k = tt

@@ -1,8 +1,8 @@
 -- What a restart leaves, in the words of the guarantee.
-use Rattle.std.proofs.Common.{◌≡◌, ℕ, ◌⊎◌, List, [], set, slice_get, Option, Some, None, Result, Ok, Err, refl, ap, ◌∙◌}
-use Rattle.std.proofs.Common.{subst, inl, inr, append-nil}
+use Rattle.std.proofs.Common.{◌≡◌, ℕ, ◌⊎◌, List, [], ◌∷◌, ◌++◌, set, slice_get, Option, Some, None, Result, Ok, Err}
+use Rattle.std.proofs.Common.{refl, ap, ◌∙◌, subst, inl, inr, append-nil}
 use Rattle.std.proofs.lemmas.Option.{slice_get-get_or}
-use Rattle.lk_memory_disk.specs.Memory.{Memory}
+use Rattle.lk_memory_disk.specs.Memory.{Memory, empty}
 use Rattle.lk_disk.specs.Meters.{stopping}
 use Rattle.lk_store_format.specs.Values.{HeaderValue}
 use Rattle.lk_locks.specs.Meaning.{table_meaning}
@@ -13,7 +13,7 @@ use Rattle.lk_replica.specs.Behaviours.{Behaviour}
 use Rattle.lk_replica.specs.ReplicaValue.{ReplicaValue}
 use Rattle.lk_replica.specs.Revived.{RevivesTo}
 use Rattle.lk_sim_nodes.specs.Ends.{StaysDown, end_by}
-use Rattle.lk_sim.specs.Events.{ReplacesSeat, EndsByFault, IsRevived, IsBack, HasEffect}
+use Rattle.lk_sim.specs.Events.{ReplacesSeat, EndsByFault, IsRevived, IsAdded, IsBack, HasEffect}
 use Rattle.lk_sim.specs.Scenes.{Scene}
 use Rattle.lk_sim_nodes.specs.Seats.{rested_on}
 use Rattle.lk_sim_nodes.specs.declared.end.End.{End}
@@ -22,7 +22,7 @@ use Rattle.lk_sim.specs.declared.event.Event.TheVariants as event
 use Rattle.lk_sim_nodes.specs.declared.seat.Seat.{Seat}
 use Rattle.lk_sim_nodes.specs.declared.seat.Life.{Life}
 use Rattle.lk_sim_nodes.specs.declared.seat.Life.TheVariants.{Up, Down}
-use Rattle.lk_guarantees.specs.Events.{IsRestarted, EndsOn, IsNotRestarted, RestartsAsStated}
+use Rattle.lk_guarantees.specs.Events.{IsRestarted, EndsOn, IsNotRestarted, IsBegun, IsNotBegun, RestartsAsStated}
 
 pub same_seat : (s : Seat ReplicaValue) (n : ℕ) (life : Life ReplicaValue) → s.number ≡ n → s.life ≡ life
     → s ≡ record { number = n; life = life }
@@ -35,7 +35,7 @@ pub stands_at : (old new : List (Seat ReplicaValue)) (s t : Seat ReplicaValue) (
 stands_at old new s t k = slice_get-get_or old k.index s k.at.0 ∙ ap Some k.at.1
 
 -- how a node ended that a fault ended
-ends_on : (o : Option ℕ) (n number : ℕ) (left : Memory) (ended : Option End) → ended ≡ Some (end_by o n number)
+pub ends_on : (o : Option ℕ) (n number : ℕ) (left : Memory) (ended : Option End) → ended ≡ Some (end_by o n number)
     → EndsOn o n number left (rested_on o left) ended
 ends_on None n number left ended e = (e, refl, refl)
 ends_on (Some bytes) n number left ended e = (e, refl, refl)
@@ -82,6 +82,7 @@ module _ (b : Behaviour ReplicaValue)
     number = f.number;
     left = f.left;
     fails = told (Err (f.number, f.left)) f.ends.0;
+    no_memory = f.no_want.memory;
     not_starved = f.no_want.starved;
     rest = rested_on (stopping f.left.meter) f.left;
     is_down = k.replaces.seats ∙ ap (set old.seats k.replaces.index)
@@ -95,11 +96,60 @@ module _ (b : Behaviour ReplicaValue)
   is_back : IsRestarted old n new ⊎ IsNotRestarted old n new
   is_back = elim k.comes [ inl r ↦ inl (restarted r) | inr f ↦ inr (not_restarted f) ]
 
+-- ---- a new node
+
+module _ (b : Behaviour ReplicaValue)
+    (contract : (device : Memory) (whose : HeaderValue) (came : Result (ReplicaValue × List Note) (ℕ × Memory))
+    → b.Revives device whose came → RevivesTo table_meaning IsTableText device whose came)
+    (old new : Scene ReplicaValue) (n : ℕ) (k : IsAdded b old new n) where
+  told_new : (came : Result (ReplicaValue × List Note) (ℕ × Memory))
+      → b.Revives empty (header_of old.genesis k.seat.number) came
+      → RevivesTo table_meaning IsTableText empty (header_of old.genesis n) came
+  told_new came r = contract empty (header_of old.genesis n) came
+      (subst (λ (m : ℕ). b.Revives empty (header_of old.genesis m) came) k.number r)
+
+  stands_new : (life : Life ReplicaValue) → k.seat.life ≡ life
+      → new.seats ≡ old.seats ++ record { number = n; life = life } ∷ []
+  stands_new life is =
+      k.seats ∙ ap (λ (s : Seat ReplicaValue). old.seats ++ s ∷ []) (same_seat k.seat n life k.number is)
+
+  begun : IsRevived b old new k.seat empty → IsBegun old n new
+  begun r = record {
+    replica = r.replica;
+    notes = r.notes;
+    revives = told_new (Ok (r.replica, r.notes)) r.revives;
+    is_up = stands_new (Up r.replica) r.up;
+    noted = r.adds.trace;
+    nothing_sent = r.adds.sent ∙ append-nil old.sent;
+    none_ended = r.ended;
+  }
+
+  not_begun : EndsByFault (StaysDown b empty (header_of old.genesis k.seat.number)) old new k.seat []
+      → IsNotBegun old n new
+  not_begun f = record {
+    number = f.number;
+    left = f.left;
+    fails = told_new (Err (f.number, f.left)) f.ends.0;
+    no_memory = f.no_want.memory;
+    not_starved = f.no_want.starved;
+    rest = rested_on (stopping f.left.meter) f.left;
+    is_down = stands_new (Down (rested_on (stopping f.left.meter) f.left)) f.down;
+    ends = ends_on (stopping f.left.meter) n f.number f.left new.ended
+        (f.ended ∙ ap (λ (m : ℕ). Some (end_by (stopping f.left.meter) m f.number)) k.number);
+    nothing_noted = f.adds.trace ∙ append-nil old.trace;
+    nothing_sent = f.adds.sent ∙ append-nil old.sent;
+  }
+
+  is_new : IsBegun old n new ⊎ IsNotBegun old n new
+  is_new = elim k.comes [ inl r ↦ inl (begun r) | inr f ↦ inr (not_begun f) ]
+
+-- ---- any event
+
 module _ (b : Behaviour ReplicaValue)
     (contract : (device : Memory) (whose : HeaderValue) (came : Result (ReplicaValue × List Note) (ℕ × Memory))
     → b.Revives device whose came → RevivesTo table_meaning IsTableText device whose came) where
   pub restarts_as_told : (old new : Scene ReplicaValue) (e : Event) → HasEffect b old e new → RestartsAsStated old e new
-  restarts_as_told old new (event.Start n) k = tt
+  restarts_as_told old new (event.Start n) k = is_new b contract old new n k
   restarts_as_told old new (event.Restart n) k = is_back b contract old new n k
   restarts_as_told old new (event.Tick n) k = tt
   restarts_as_told old new (event.Compact n) k = tt

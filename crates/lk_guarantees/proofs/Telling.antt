@@ -45,7 +45,7 @@ by_content d ds rest cluster (content.Request r) spelled later =
     no_reply d (record { cluster = cluster; content = content.Request r }) spelled refl later
 by_content d ds rest cluster (content.Node node x) spelled later = by_node d ds rest cluster node x spelled later
 
-replies : (sent : List Datagram) (notes : List Note) → NotesReplies sent notes → AreReplies sent notes
+pub replies : (sent : List Datagram) (notes : List Note) → NotesReplies sent notes → AreReplies sent notes
 replies [] notes e = subst (AreReplies []) (sym e) nothing_more
 replies (d ∷ ds) notes t =
     subst (AreReplies (d ∷ ds)) (sym t.3) (by_content d ds t.1 t.0.cluster t.0.content t.2 (replies ds t.1 t.4))

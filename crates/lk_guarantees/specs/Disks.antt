@@ -1,7 +1,7 @@
 -- What the disks of nodes keep, and the bytes of a snapshot. Which bytes are which entries, which file is live, and
 -- what entries stand for, is the grammar of files.
-use Rattle.std.specs.Prelude.{◌≡◌, ℕ, ◌*◌, ◌<◌, ◌≤◌, ◌⊎◌, Bool, Some, List, [], ◌∷◌, ◌++◌, length, take, count_by}
-use Rattle.std.specs.Prelude.{Contains, IsTrue}
+use Rattle.std.specs.Prelude.{◌≡◌, ℕ, ◌+◌, ◌*◌, ◌<◌, ◌≤◌, ◌⊎◌, ◌==◌, Bool, if◌then◌else◌, Some, List, [], ◌∷◌, ◌++◌}
+use Rattle.std.specs.Prelude.{length, take, count_by, Contains, IsTrue}
 use Rattle.std.specs.List.{flat_map}
 use Rattle.lk_types.specs.Ballots.{IsBelow, IsAtMost}
 use Rattle.lk_types.specs.declared.command.Command.{Command}
@@ -92,10 +92,24 @@ abbrev pub HasSnapshot : Genesis → List Datagram → StandingValue → Type 0
 HasSnapshot genesis sent memory =
     (L : List Command) × IsChosen genesis sent L × (length L ≡ memory.position) × IsSnapshot genesis L memory.snapshot
 
--- the same of each node, whatever a stop may leave of it
+-- the position up to which a restart executes: from that of the snapshot, one more for each decided command without a
+-- gap
+abbrev pub reach : ℕ → List (ℕ × Command) → ℕ
+reach position [] = position
+reach position (p ∷ pairs) = if p.0 == position + 1 then reach (position + 1) pairs else position
+
+-- no vote and no decided command lies more than twice alpha above that
+pub record IsNear (genesis : Genesis) (memory : StandingValue) : Type 0 where
+  pub votes : (x : Vote) → Contains memory.votes x
+      → x.position ≤ reach memory.position memory.pairs + 2 * genesis.alpha
+  pub pairs : (p : ℕ × Command) → Contains memory.pairs p
+      → p.0 ≤ reach memory.position memory.pairs + 2 * genesis.alpha
+
+-- each node has such a snapshot, and nothing lies too far above it for a restart, whatever a stop may leave of it
 abbrev pub HaveSnapshots : Genesis → List (Seat ReplicaValue) → List Datagram → Type 0
 HaveSnapshots genesis seats sent =
-    (s : Seat ReplicaValue) → Contains seats s → EachImage genesis s (HasSnapshot genesis sent)
+    (s : Seat ReplicaValue) → Contains seats s
+    → EachImage genesis s (λ memory. HasSnapshot genesis sent memory × IsNear genesis memory)
 
 -- the vote, or one for its position in a greater ballot, is among these
 abbrev pub HasVote : List Vote → Vote → Type 0

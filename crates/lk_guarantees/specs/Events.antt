@@ -1,15 +1,16 @@
 -- Events: how a world begins, what each event does to it, when one is refused, and what a run of events does.
 --
 -- As in `Guarantee.antt`, all is restated independently, except for the contract of a replica, which is named.
-use Rattle.std.specs.Prelude.{◌≡◌, ℕ, ◌+◌, ◌<◌, ◌≤◌, ◌⊎◌, false, Option, Some, None, Ok, Err, List, [], ◌∷◌, ◌++◌}
-use Rattle.std.specs.Prelude.{length, take, set, slice_get, Contains}
+use Rattle.std.specs.Prelude.{◌≡◌, ℕ, ◌+◌, ◌-◌, ◌<◌, ◌≤◌, ◌⊎◌, false, Option, Some, None, Result, Ok, Err, List, []}
+use Rattle.std.specs.Prelude.{◌∷◌, ◌++◌, length, map, take, set, slice_get, Contains}
 use Rattle.std.specs.List.{filter_map, flat_map}
 use Rattle.lk_types.specs.declared.command.Request.{Request as Asking}
 use Rattle.lk_types.specs.declared.genesis.Genesis.{Genesis}
 use Rattle.lk_disk.specs.Disk.{Disk}
-use Rattle.lk_memory_disk.specs.Memory.{Memory}
-use Rattle.lk_disk.specs.Meters.{stopping}
-use Rattle.lk_disk.specs.declared.trap.Trap.TheVariants.{Off}
+use Rattle.lk_memory_disk.specs.Memory.{Memory, empty}
+use Rattle.lk_disk.specs.Meters.{stopping, trapped}
+use Rattle.lk_disk.specs.declared.trap.Trap.{Trap}
+use Rattle.lk_disk.specs.declared.trap.Trap.TheVariants.{Off, Arm}
 use Rattle.lk_messages.specs.Grammar.{Spells}
 use Rattle.lk_messages.specs.declared.message.Content.TheVariants as content
 use Rattle.lk_messages.specs.declared.message.NodeMessage.{NodeMessage}
@@ -38,7 +39,7 @@ use Rattle.lk_sim_nodes.specs.declared.refused.Refused.TheVariants.{Forged, Worl
 use Rattle.lk_sim_nodes.specs.declared.seat.Life.TheVariants.{Up, Down}
 use Rattle.lk_sim_nodes.specs.declared.seat.Seat.{Seat}
 use Rattle.lk_guarantees.specs.Disks.{EachImage, HasSnapshot}
-use Rattle.lk_guarantees.specs.Guarantee.{kept_by_replica}
+use Rattle.lk_guarantees.specs.Guarantee.{kept_by_replica, AreReplies}
 
 -- ---- how a world begins
 
@@ -106,12 +107,12 @@ FallsDown number old new =
     (index : ℕ) × (s : Seat ReplicaValue) × (device : Memory) × (slice_get old index ≡ Some s) × (s.number ≡ number)
     × (new ≡ set old index (record { number = number; life = Down device }))
 
--- what a client asks joins the datagrams, alone, addressed to the node, and changes no node
+-- what a client asks joins the datagrams, alone, addressed to the node, is noted, alone, and changes no node
 abbrev pub SendsAsAsked : Scene ReplicaValue → Event → Scene ReplicaValue → Type 0
 SendsAsAsked old (event.Client n r) new =
     (d : Datagram) × (d.from ≡ party.Client r.client) × (d.to ≡ party.Node n)
     × Spells (record { cluster = old.genesis.cluster; content = content.Request r }) d.bytes
-    × (new.sent ≡ old.sent ++ d ∷ []) × (new.seats ≡ old.seats)
+    × (new.sent ≡ old.sent ++ d ∷ []) × (new.trace ≡ old.trace ++ note.Asked r ∷ []) × (new.seats ≡ old.seats)
 SendsAsAsked old _ new = Unit {0}
 
 -- what was sent stays sent, and what was noted stays noted
@@ -149,11 +150,6 @@ StopsAsAsked old (event.Stop number x y) new = IsStopped old new number x y
 StopsAsAsked old _ new = Unit {0}
 
 -- ---- when an event is refused, and what one leaves up
-
-abbrev pub IsUpWith : List (Seat ReplicaValue) → ℕ → (ReplicaValue → Type 0) → Type 0
-IsUpWith seats number Is =
-    (s : Seat ReplicaValue) × (replica : ReplicaValue) × Contains seats s × (s.number ≡ number)
-    × (s.life ≡ Up replica) × Is replica
 
 abbrev pub IsUp : List (Seat ReplicaValue) → ℕ → Type 0
 IsUp seats number =
@@ -237,29 +233,138 @@ abbrev pub ended_node : End → ℕ
 ended_node (Fault n number) = n
 ended_node (Stopped n) = n
 
--- a fault that ends a node is one of its device (7), or that its store has failed before or has no generation left
--- (11): its files are never damaged (9) or another's (10), and so a restart always comes back
+-- if the event ended a node, that is the node that it is for, and it is down
+abbrev pub LeavesDown : Scene ReplicaValue → Event → Scene ReplicaValue → Type 0
+LeavesDown old e new =
+    (x : End) → new.ended ≡ Some x → IsFor old.sent e (ended_node x) × IsDown new.seats (ended_node x)
+
+-- a fault that ended a node is one of its device (7), or that its store has failed before or has no generation left
+-- (11): its files are never damaged (9) or another's (10)
 abbrev pub IsEnding : End → Type 0
 IsEnding (Fault n number) = (number ≡ 7) ⊎ (number ≡ 11)
 IsEnding (Stopped n) = Unit {0}
 
--- if the event ended a node, that is the node that it is for, and it is down
-abbrev pub LeavesDown : Scene ReplicaValue → Event → Scene ReplicaValue → Type 0
-LeavesDown old e new =
-    (x : End) → new.ended ≡ Some x → IsFor old.sent e (ended_node x) × IsDown new.seats (ended_node x) × IsEnding x
+-- and so did the one that ended a node last, if one did
+abbrev pub EndsByDevice : Option End → Type 0
+EndsByDevice ended = (x : End) → ended ≡ Some x → IsEnding x
 
--- a replica took a tick, or these bytes: it did what its contract says, and what it sent was sent. (The contracts,
--- `ComesTo` and `ComesToAll`, are named here and not restated)
-pub record IsTaken (old : Scene ReplicaValue) (n : ℕ) (given : Option (List ℕ))
+-- ---- what a replica that takes something leaves
+
+-- how the node ended that a fault has ended: with the fault of this number, and its disks are as that left them; or at
+-- an armed stop, if it has reached one, for this many bytes
+abbrev pub EndsOn : Option ℕ → ℕ → ℕ → Memory → Memory → Option End → Type 0
+EndsOn None n number left rest ended = (ended ≡ Some (Fault n number)) × (rest.a ≡ left.a) × (rest.b ≡ left.b)
+EndsOn (Some bytes) n number left rest ended =
+    (ended ≡ Some (Stopped n)) × (rest.a ≡ remaining bytes left.a) × (rest.b ≡ remaining bytes left.b)
+
+-- what a step noted, and the datagrams that it sent
+abbrev pub Step : Type 0
+Step = List Note × List Datagram
+
+-- the datagrams of all of these steps
+abbrev pub datagrams_of : List Step → List Datagram
+datagrams_of said = flat_map (λ x. x.1) said
+
+-- the steps, with no more than this many of their datagrams
+abbrev pub up_to : ℕ → List Step → List Step
+up_to most [] = []
+up_to most (x ∷ said) = (x.0, take most x.1) ∷ up_to (most - length x.1) said
+
+-- these notes are those of the steps, one step after another: what the replica noted, and then, in order, the replies
+-- that it sent
+abbrev pub AreNotesOf : List Step → List Note → Type 0
+AreNotesOf [] notes = notes ≡ []
+AreNotesOf (x ∷ said) notes =
+    (replies rest : List Note) × AreReplies x.1 replies × (notes ≡ (x.0 ++ replies) ++ rest) × AreNotesOf said rest
+
+-- a call of a replica: what it was and what it became, with its steps, or with the number of a fault
+abbrev pub Call : Type 1
+Call = ReplicaValue → ReplicaValue → Result (List Step) ℕ → Type 0
+
+-- it takes a tick, or these bytes, in one step. (The contracts, `ComesTo` and `ComesToAll`, are named here and not
+-- restated)
+abbrev pub Takes : Option (List ℕ) → Call
+Takes given before after (Ok said) =
+    (x : Step) × (said ≡ x ∷ []) × ComesTo table_meaning IsTableText before given after (Ok x)
+Takes given before after (Err number) = ComesTo table_meaning IsTableText before given after (Err number)
+
+-- it takes these together, each in a step of its own
+abbrev pub TakesAll : List (Option (List ℕ)) → Call
+TakesAll given before after came = ComesToAll table_meaning IsTableText before given after came
+
+-- the replica once it has sent this many datagrams: an armed trap of its device has counted them, and nothing else has
+-- changed
+abbrev pub with_sends : Trap → ℕ → ReplicaValue → ReplicaValue
+with_sends (Arm count bytes) sends replica =
+    record replica { store = record replica.store { meter = trapped (Arm (count - sends) bytes) replica.store.meter } }
+with_sends _ sends replica = replica
+
+abbrev pub after_sends : ℕ → ReplicaValue → ReplicaValue
+after_sends sends replica = with_sends replica.store.meter.trap sends replica
+
+-- The node took something, and went on: its replica is what the call left. All that the call sent was sent; all that it
+-- noted is noted, after what was just asked, and nothing else is.
+pub record GoesOn (old : Scene ReplicaValue) (n : ℕ) (Calls : Call) (asked : List Asking)
     (new : Scene ReplicaValue) : Type 0 where
+  pub index : ℕ
   pub before : ReplicaValue
+  pub was_up : slice_get old.seats index ≡ Some (record { number = n; life = Up before })
   pub after : ReplicaValue
-  pub was_up : IsUpWith old.seats n (λ replica. replica ≡ before)
-  pub is_up : IsUpWith new.seats n (λ replica. replica.node ≡ after.node)
+  pub said : List Step
+  pub calls : Calls before after (Ok said)
+  pub is_up : new.seats
+      ≡ set old.seats index (record { number = n; life = Up (after_sends (length (datagrams_of said)) after) })
+  pub sent : new.sent ≡ old.sent ++ datagrams_of said
   pub notes : List Note
-  pub batch : List Datagram
-  pub took : ComesTo table_meaning IsTableText before given after (Ok (notes, batch))
-  pub sent : new.sent ≡ old.sent ++ batch
+  pub are_notes : AreNotesOf said notes
+  pub noted : new.trace ≡ old.trace ++ (map (λ r. note.Asked r) asked ++ notes)
+  pub none_ended : new.ended ≡ None
+
+-- It stopped at a send, the first at which an armed trap was due: so many of the datagrams were sent, with their
+-- replies noted, and everything else of the call was noted.
+pub record StopsSending (old : Scene ReplicaValue) (n : ℕ) (Calls : Call) (asked : List Asking)
+    (new : Scene ReplicaValue) : Type 0 where
+  pub index : ℕ
+  pub before : ReplicaValue
+  pub was_up : slice_get old.seats index ≡ Some (record { number = n; life = Up before })
+  pub after : ReplicaValue
+  pub said : List Step
+  pub calls : Calls before after (Ok said)
+  pub sends : ℕ
+  pub bytes : ℕ
+  pub fewer : sends < length (datagrams_of said)
+  pub armed : after.store.meter.trap ≡ Arm (sends + 1) bytes
+  pub rest : Memory
+  pub is_down : new.seats ≡ set old.seats index (record { number = n; life = Down rest })
+  pub disk_a : rest.a ≡ remaining bytes (device_of after.store).a
+  pub disk_b : rest.b ≡ remaining bytes (device_of after.store).b
+  pub sent : new.sent ≡ old.sent ++ take sends (datagrams_of said)
+  pub notes : List Note
+  pub are_notes : AreNotesOf (up_to sends said) notes
+  pub noted : new.trace ≡ old.trace ++ (map (λ r. note.Asked r) asked ++ notes)
+  pub ended : new.ended ≡ Some (Stopped n)
+
+-- the call failed, not for want of memory, and ended the node: it has sent nothing, and only what was asked is noted
+pub record Breaks (old : Scene ReplicaValue) (n : ℕ) (Calls : Call) (asked : List Asking)
+    (new : Scene ReplicaValue) : Type 0 where
+  pub index : ℕ
+  pub before : ReplicaValue
+  pub was_up : slice_get old.seats index ≡ Some (record { number = n; life = Up before })
+  pub after : ReplicaValue
+  pub number : ℕ
+  pub calls : Calls before after (Err number)
+  pub no_memory : (number ≡ 8 → ⊥) × (number ≡ 14 → ⊥) × (number ≡ 15 → ⊥)
+  pub not_starved : after.store.meter.starved ≡ false
+  pub rest : Memory
+  pub is_down : new.seats ≡ set old.seats index (record { number = n; life = Down rest })
+  pub ends : EndsOn (stopping after.store.meter) n number (device_of after.store) rest new.ended
+  pub nothing_sent : new.sent ≡ old.sent
+  pub noted : new.trace ≡ old.trace ++ map (λ r. note.Asked r) asked
+
+-- one of these
+abbrev pub IsTaken : Scene ReplicaValue → ℕ → Call → List Asking → Scene ReplicaValue → Type 0
+IsTaken old n Calls asked new =
+    GoesOn old n Calls asked new ⊎ StopsSending old n Calls asked new ⊎ Breaks old n Calls asked new
 
 -- what the inputs of a group give: nothing but the time at a tick, and else the bytes of the datagram at that place
 abbrev pub AreGiven : List Datagram → List GroupInput → List (Option (List ℕ)) → Type 0
@@ -270,27 +375,19 @@ AreGiven sent (group_input.Deliver k ∷ group_inputs) given =
     (j : ℕ) × (d : Datagram) × (k ≡ j + 1) × (slice_get sent j ≡ Some d)
     × ((rest : List (Option (List ℕ))) × (given ≡ Some d.bytes ∷ rest) × AreGiven sent group_inputs rest)
 
--- so a replica took these together
-pub record AreTaken (old : Scene ReplicaValue) (n : ℕ) (group_inputs : List GroupInput)
-    (new : Scene ReplicaValue) : Type 0 where
-  pub before : ReplicaValue
-  pub after : ReplicaValue
-  pub was_up : IsUpWith old.seats n (λ replica. replica ≡ before)
-  pub is_up : IsUpWith new.seats n (λ replica. replica.node ≡ after.node)
-  pub given : List (Option (List ℕ))
-  pub are_given : AreGiven old.sent group_inputs given
-  pub said : List (List Note × List Datagram)
-  pub took : ComesToAll table_meaning IsTableText before given after (Ok said)
-  pub sent : new.sent ≡ old.sent ++ flat_map (λ x. x.1) said
-
--- unless the event ended the node, its replica took the input as its contract says
+-- the node took the input as the contract of a replica says
 abbrev pub TakesAsStated : Scene ReplicaValue → Event → Scene ReplicaValue → Type 0
-TakesAsStated old (event.Tick n) new = new.ended ≡ None → IsTaken old n None new
-TakesAsStated old (event.Inject n bytes) new = new.ended ≡ None → IsTaken old n (Some bytes.items) new
+TakesAsStated old (event.Tick n) new = IsTaken old n (Takes None) [] new
+TakesAsStated old (event.Inject n bytes) new =
+    (asked : List Asking) × AreAskedIn bytes.items asked × IsTaken old n (Takes (Some bytes.items)) asked new
 TakesAsStated old (event.Deliver k) new =
-    new.ended ≡ None → (n : ℕ) × (f : IsFor old.sent (event.Deliver k) n) × IsTaken old n (Some f.1.bytes) new
-TakesAsStated old (event.Group n group_inputs) new = new.ended ≡ None → AreTaken old n group_inputs.items new
+    (n : ℕ) × (f : IsFor old.sent (event.Deliver k) n) × IsTaken old n (Takes (Some f.1.bytes)) [] new
+TakesAsStated old (event.Group n group_inputs) new =
+    (given : List (Option (List ℕ))) × AreGiven old.sent group_inputs.items given
+    × IsTaken old n (TakesAll given) [] new
 TakesAsStated old _ new = Unit {0}
+
+-- ---- what a start and a restart leave
 
 -- a node that was down restarted from its disks: it is up as the contract of a replica says, and what it executed again
 -- is noted. (The contract, `RevivesTo`, is named here and not restated)
@@ -306,13 +403,6 @@ pub record IsRestarted (old : Scene ReplicaValue) (n : ℕ) (new : Scene Replica
   pub nothing_sent : new.sent ≡ old.sent
   pub none_ended : new.ended ≡ None
 
--- how the node ended whose restart failed: with the fault of this number, and its disks are as that left them; or at an
--- armed stop, if it has reached one, for this many bytes
-abbrev pub EndsOn : Option ℕ → ℕ → ℕ → Memory → Memory → Option End → Type 0
-EndsOn None n number left rest ended = (ended ≡ Some (Fault n number)) × (rest.a ≡ left.a) × (rest.b ≡ left.b)
-EndsOn (Some bytes) n number left rest ended =
-    (ended ≡ Some (Stopped n)) × (rest.a ≡ remaining bytes left.a) × (rest.b ≡ remaining bytes left.b)
-
 -- its restart failed as the contract of a replica says, not for want of memory, and it is down
 pub record IsNotRestarted (old : Scene ReplicaValue) (n : ℕ) (new : Scene ReplicaValue) : Type 0 where
   pub index : ℕ
@@ -321,6 +411,7 @@ pub record IsNotRestarted (old : Scene ReplicaValue) (n : ℕ) (new : Scene Repl
   pub number : ℕ
   pub left : Memory
   pub fails : RevivesTo table_meaning IsTableText device (header_of old.genesis n) (Err (number, left))
+  pub no_memory : number ≡ 8 → ⊥
   pub not_starved : left.meter.starved ≡ false
   pub rest : Memory
   pub is_down : new.seats ≡ set old.seats index (record { number = n; life = Down rest })
@@ -328,7 +419,32 @@ pub record IsNotRestarted (old : Scene ReplicaValue) (n : ℕ) (new : Scene Repl
   pub nothing_noted : new.trace ≡ old.trace
   pub nothing_sent : new.sent ≡ old.sent
 
+-- a new node started from two empty disks: it is up as the contract of a replica says
+pub record IsBegun (old : Scene ReplicaValue) (n : ℕ) (new : Scene ReplicaValue) : Type 0 where
+  pub replica : ReplicaValue
+  pub notes : List Note
+  pub revives : RevivesTo table_meaning IsTableText empty (header_of old.genesis n) (Ok (replica, notes))
+  pub is_up : new.seats ≡ old.seats ++ record { number = n; life = Up replica } ∷ []
+  pub noted : new.trace ≡ old.trace ++ notes
+  pub nothing_sent : new.sent ≡ old.sent
+  pub none_ended : new.ended ≡ None
+
+-- its start failed as the contract of a replica says, not for want of memory, and it is down
+pub record IsNotBegun (old : Scene ReplicaValue) (n : ℕ) (new : Scene ReplicaValue) : Type 0 where
+  pub number : ℕ
+  pub left : Memory
+  pub fails : RevivesTo table_meaning IsTableText empty (header_of old.genesis n) (Err (number, left))
+  pub no_memory : number ≡ 8 → ⊥
+  pub not_starved : left.meter.starved ≡ false
+  pub rest : Memory
+  pub is_down : new.seats ≡ old.seats ++ record { number = n; life = Down rest } ∷ []
+  pub ends : EndsOn (stopping left.meter) n number left rest new.ended
+  pub nothing_noted : new.trace ≡ old.trace
+  pub nothing_sent : new.sent ≡ old.sent
+
+-- a node is started or restarted as the contract of a replica says
 abbrev pub RestartsAsStated : Scene ReplicaValue → Event → Scene ReplicaValue → Type 0
+RestartsAsStated old (event.Start n) new = IsBegun old n new ⊎ IsNotBegun old n new
 RestartsAsStated old (event.Restart n) new = IsRestarted old n new ⊎ IsNotRestarted old n new
 RestartsAsStated old _ new = Unit {0}
 

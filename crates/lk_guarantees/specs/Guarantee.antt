@@ -37,7 +37,8 @@ use Rattle.lk_sim_nodes.specs.declared.seat.Seat.{Seat}
 use Rattle.lk_guarantees.specs.Plain.{at, members, GivesAnswer, TakesEffectAt, Kept, IsKeptOf}
 pub use Rattle.lk_guarantees.specs.Chosen.{Says, UsesBallotsOnce, IsAcceptedBy, IsChosen, IsPrefix, Agree}
 pub use Rattle.lk_guarantees.specs.Disks.{members_text, session_text, kept_text, IsSnapshot, device_in, MayRemain}
-pub use Rattle.lk_guarantees.specs.Disks.{MayRemainOf, Remembers, EachImage, HasSnapshot, HaveSnapshots, HasVote}
+pub use Rattle.lk_guarantees.specs.Disks.{MayRemainOf, Remembers, EachImage, HasSnapshot, IsNear, HaveSnapshots}
+pub use Rattle.lk_guarantees.specs.Disks.{HasVote}
 pub use Rattle.lk_guarantees.specs.Disks.{IsCovered, AreCovered, IsRemembered, IsKeptBy, AreKept, IsShort, AreShort}
 
 -- ---- what one chosen list explains
@@ -77,6 +78,12 @@ pub record Explains (genesis : Genesis) (sent : List Datagram) (trace : List Not
       → at d.commands (k + 1) ≡ Some v → at L (d.first + k) ≡ Some w → v ≡ w
   -- and a part of a snapshot is a piece of the snapshot of a prefix of the list
   pub parts : (node : ℕ) (p : PartValue) → Says genesis sent node (message.Part p) → IsPart genesis L p
+
+-- each request in a chosen list was asked by a client, whatever list that is
+abbrev pub AreAsked : Genesis → List Datagram → List Note → Type 0
+AreAsked genesis sent trace =
+    (L : List Command) → IsChosen genesis sent L → (i : ℕ) (r : Asking) → at L i ≡ Some (Request r)
+    → Contains trace (note.Asked r)
 
 -- some chosen list explains everything that was noted and sent
 abbrev pub IsExplained : Genesis → List Datagram → List Note → Type 0
@@ -131,6 +138,12 @@ IsOrdered genesis sent trace =
     → (L : List Command) (i : ℕ) → IsChosen genesis sent L → TakesEffectAt genesis L i r
     → (j : ℕ) × (q : Asking) × (j < i) × (q.client ≡ client) × (q.number ≡ number) × TakesEffectAt genesis L j q
 
+-- the client has asked only one operation under the number
+abbrev pub StandsForOne : List Note → ℕ → ℕ → Type 0
+StandsForOne trace client number =
+    (q r : Asking) → Contains trace (note.Asked q) → Contains trace (note.Asked r) → q.client ≡ client
+    → r.client ≡ client → q.number ≡ number → r.number ≡ number → q ≡ r
+
 -- a greater number of which a client was told was asked before
 abbrev pub AreToldInTime : List Note → Type 0
 AreToldInTime trace =
@@ -169,6 +182,8 @@ HaveExecuted genesis seats sent =
 pub record MeetsGuarantee (world : Scene ReplicaValue) : Type 0 where
   -- some chosen list of no-ops and asked requests explains everything that was noted and sent
   pub explained : IsExplained world.genesis world.sent world.trace
+  -- each request in any chosen list was asked
+  pub asked : AreAsked world.genesis world.sent world.trace
   -- of two chosen lists one is a prefix of the other
   pub agree : Agree world.genesis world.sent
   -- each ballot is used once
@@ -185,7 +200,7 @@ pub record MeetsGuarantee (world : Scene ReplicaValue) : Type 0 where
   pub kept : AreKept world.genesis world.seats world.sent
   -- whatever a stop may leave of a node covers everything that it has sent
   pub covered : AreCovered world.genesis world.seats world.sent
-  -- whatever a stop may leave of a node has a snapshot of a chosen list
+  -- whatever a stop may leave of a node has a snapshot of a chosen list, and nothing too far above it for a restart
   pub snapshots : HaveSnapshots world.genesis world.seats world.sent
   -- no file of a node is ever longer than 262,144 bytes
   pub room : AreShort world.seats

@@ -12,7 +12,7 @@ use Rattle.lk_agreement_laws.specs.Datagrams.{Datagram}
 use Rattle.lk_node_interface.specs.declared.note.Note.{Note}
 use Rattle.lk_node_interface.specs.declared.note.Note.TheVariants as note
 use Rattle.lk_guarantees.specs.Plain.{after, execute, TakesEffectAt}
-use Rattle.lk_guarantees.specs.Guarantee.{IsChosen}
+use Rattle.lk_guarantees.specs.Guarantee.{IsChosen, StandsForOne}
 
 -- a write, with the grant under which it is made: the client and number of the request that was granted, and the fence
 pub record Write : Type 0 where
@@ -54,9 +54,17 @@ pub record IsGuarded (genesis : Genesis) (L : List Command) (name : List ℕ) (w
   pub in_order : (front back : List Write) (v w : Write) (i j : ℕ) → accepted 0 writes ≡ front ++ v ∷ back
       → Contains back w → IsUnder genesis L name v i → IsUnder genesis L name w j → i ≤ j
 
+-- the grant of this write was told: the list has it, for a name that a request of that client and number acquires. If
+-- the client has asked only one operation under the number, it is that one
+abbrev pub IsListed : Genesis → List Note → List Command → Write → Type 0
+IsListed genesis trace L w =
+    (name : List ℕ) × (i : ℕ) × (u : IsUnder genesis L name w i)
+    × (StandsForOne trace w.client w.number → (r : Asking) → Contains trace (note.Asked r) → r.client ≡ w.client
+    → r.number ≡ w.number → u.request ≡ r)
+
 -- each grant that was told is in a chosen list
 abbrev pub AreListed : Genesis → List Datagram → List Note → Type 0
 AreListed genesis sent trace =
     (L : List Command) × IsChosen genesis sent L
     × ((node client number fence : ℕ) → Contains trace (note.Answered node client number (Granted fence))
-    → (name : List ℕ) × (i : ℕ) × IsUnder genesis L name (record { client = client; number = number; fence = fence }) i)
+    → IsListed genesis trace L (record { client = client; number = number; fence = fence }))

@@ -10,6 +10,7 @@ use Rattle.lk_types.specs.declared.member.Member.{Member}
 use Rattle.lk_node_interface.specs.declared.note.Note.{Note}
 use Rattle.lk_node_interface.specs.declared.note.Note.TheVariants as note
 use Rattle.lk_guarantees.specs.Plain.{State, Locks, begin, execute}
+use Rattle.lk_guarantees.specs.Guarantee.{StandsForOne}
 
 -- the object alone: the members, the greatest number that was ever a member's, and the lock table. It knows no
 -- positions and no clients' numbers
@@ -52,6 +53,10 @@ pub record Linearizes (genesis : Genesis) (trace : List Note) (history : Sequenc
   -- it has each request that was answered, with that answer; of those that wait it may have any
   pub completes : (node client number : ℕ) (answer : Answer) → Contains trace (note.Answered node client number answer)
       → (r : Asking) × (r.client ≡ client) × (r.number ≡ number) × Contains history (r, answer)
+  -- if its client has asked only one operation under the number, that one has the answer
+  pub its_own : (node client number : ℕ) (answer : Answer) → Contains trace (note.Answered node client number answer)
+      → StandsForOne trace client number → (r : Asking) → Contains trace (note.Asked r) → r.client ≡ client
+      → r.number ≡ number → Contains history (r, answer)
   -- and nothing that was not asked
   pub invoked : (r : Asking) (answer : Answer) → Contains history (r, answer) → Contains trace (note.Asked r)
   -- it has a number of a client at most once

@@ -4,6 +4,7 @@ ghost use Rattle.std.specs.Prelude.{ℕ, List};
 ghost use Rattle.lk_memory_disk.specs.Memory.{Memory};
 ghost use Rattle.lk_store_format.specs.Values.{HeaderValue};
 ghost use Rattle.lk_node_interface.specs.declared.note.Note.{Note};
+ghost use Rattle.lk_types.specs.Geneses.{IsGenesis};
 ghost use Rattle.lk_types.specs.declared.command.Command.{Command};
 ghost use Rattle.lk_types.specs.declared.genesis.Genesis.{Genesis};
 ghost use Rattle.lk_replica.specs.ReplicaValue.{ReplicaValue};
@@ -99,11 +100,14 @@ pub fn worlds_stay_reachable()
         (new : Scene ReplicaValue) → IsReachable genesis world → IsRun world events how new → IsReachable genesis new }
 {}
 
-/// A restart always succeeds: in every reachable world a Restart of a node that is down is rejected only when out of
-/// memory. It leaves the node up, unless a trap fails or stops a call of its device, or its file has format 1 and the
-/// last generation. So recovery accepts whatever a crash may leave (Chen et al., FSCQ, 2015).
+/// A node that is down comes back: in a world of a valid genesis that meets the guarantee, as each world does that
+/// `apply` leaves, a restart from the node's disks fails only when out of memory, or if a call of its device failed, or
+/// if its file has format 1 and the last generation. In a reachable one a Restart is rejected only when out of memory,
+/// and so leaves the node up, unless something makes a call of its device fail or stop. Recovery accepts whatever a
+/// crash may leave (Chen et al., FSCQ, 2015).
 pub fn a_node_comes_back()
-    ensures { (genesis : Genesis) (world : Scene ReplicaValue) → IsReachable genesis world → ComesBack world }
+    ensures { (genesis : Genesis) (world : Scene ReplicaValue) → IsGenesis world.genesis → IsReachable genesis world
+        → MeetsGuarantee world → ComesBack world }
 {}
 
 /// Restarts of a world are idempotent: after a restart in a reachable world a node may be stopped and restarted however

@@ -1,5 +1,5 @@
 // The simulated world of lock tables, with the guarantee as the contract of each call.
-ghost use Rattle.lk_guarantees.specs.Events.{Compacts, IsDone, IsRefused, IsRun, nothing};
+ghost use Rattle.lk_guarantees.specs.Events.{Compacts, EndsByDevice, IsDone, IsRefused, IsRun, nothing};
 ghost use Rattle.lk_guarantees.specs.Guarantee.{MeetsGuarantee};
 ghost use Rattle.std.specs.Prelude.{◌≡◌, OnOk, IfErr};
 
@@ -25,6 +25,8 @@ pub fn apply(world: &mut World<Replicas>, event: Event) -> Result<(), Refused>
     ensures guaranteed { MeetsGuarantee world.new }
     // An event that is done has the effect stated for it.
     ensures does { OnOk result (IsDone world.old event world.new) }
+    // A fault ends a node only if a call of its device failed or no generation is left: its files are never damaged.
+    ensures ends { OnOk result (EndsByDevice world.new.ended) }
     // A node that has compacted has a snapshot of everything that it has executed.
     ensures compacts { OnOk result (Compacts event world.new) }
     // A rejected event changes nothing, except that its node may have stopped for want of memory.
@@ -38,6 +40,8 @@ pub fn run(world: &mut World<Replicas>, events: &[Event]) -> RunEnd
     ensures guaranteed { MeetsGuarantee world.new }
     // Each event has the effect stated for it, up to the first that is rejected.
     ensures runs { IsRun world.old events.now result world.new }
+    // So does a fault in a run.
+    ensures ends { EndsByDevice world.old.ended → EndsByDevice world.new.ended }
 {
     world.run(events)
 }

@@ -2,6 +2,7 @@
 
 ghost use Rattle.std.specs.Prelude.{◌≤◌};
 
+use crate::node::run_logged;
 use crate::plans::{AskPlan, ask_options, ask_plan, client_key_plan, fuzz_plan, node_plan};
 use crate::subcommand::Subcommand;
 use clap::error::ErrorKind;
@@ -15,13 +16,10 @@ use lk_inspect::dump::dump;
 use lk_inspect::inspect::inspect;
 use lk_locks::LockTable;
 use lk_memory_disk::MemoryDisk;
-use lk_node_events::line::{Events, Observer, Unobserved};
 use lk_node_files::causes::open_socket_at;
 use lk_node_process::demo::demo;
-use lk_node_process::running::run_node;
 use lk_node_setup::client_key::client_key;
 use lk_node_setup::network::{NetworkOptions, destination_of};
-use lk_node_setup::resources::{NodePlan, open_resources};
 use lk_random_schedules::fuzzing::{print_script, run_fuzz};
 use lk_replica::Replica;
 use lk_script::ending::{end, write_fault};
@@ -30,8 +28,7 @@ use lk_script_lines::fault::ScriptFault;
 use lk_sim_dump::node_state::run_to_state;
 use lk_status_command::status::status;
 use lk_transport::fault::ProgramFault;
-use log::sink::{Console, Discard};
-use log::{Level, Log, Logged};
+use log::Level;
 use std::alloc::Global;
 use std::fs::{File, Files};
 use std::io;
@@ -64,44 +61,6 @@ fn folder_in<'a>(matches: &ArgMatches<'a>) -> &'a str {
     matches.get_str("dir").unwrap_or("")
 }
 
-// Runs a node on the files of its folder and a socket of the system.
-fn run_plan<R: Files<File = File> + Net + Clock, L: Log, O: Observer, E: Write>(
-    rt: &R,
-    alloc: Global,
-    plan: &NodePlan<'_>,
-    log: &L,
-    observer: &mut O,
-    err: &mut E,
-) -> u8
-    ensures { result ≤ 2 }
-{
-    match open_resources(rt, alloc, plan, err) {
-        Ok((resources, _lock)) => run_node::<LockTable, _, _, _, _, _, _>(
-            rt, alloc, plan, resources, log, observer, err,
-        ),
-        Err(fault) => fault.write_to(err),
-    }
-}
-
-// Runs a node as `run_plan` does, and logs its events at level info if `tells_events`.
-fn run_observed<R: Files<File = File> + Net + Eprint + Clock, L: Log, E: Write>(
-    rt: &R,
-    alloc: Global,
-    plan: &NodePlan<'_>,
-    tells_events: bool,
-    log: &L,
-    err: &mut E,
-) -> u8
-    ensures { result ≤ 2 }
-{
-    if !tells_events {
-        return run_plan(rt, alloc, plan, log, &mut Unobserved, err);
-    }
-    let told = Logged::new(rt, Level::Info, Console(rt));
-    let mut events = Events::new(rt, told, plan.header.node());
-    run_plan(rt, alloc, plan, log, &mut events, err)
-}
-
 // Runs `locks node`.
 fn run_node_words<R: Files<File = File> + Net + Eprint + Clock, E: Write>(
     rt: &R,
@@ -115,13 +74,16 @@ fn run_node_words<R: Files<File = File> + Net + Eprint + Clock, E: Write>(
         Ok(plan) => plan,
         Err(error) => return write_argument_error(&error, err),
     };
-    let events = matches.get_flag("events");
-    match level_of(matches) {
-        None => run_observed(rt, alloc, &plan, events, &Discard, err),
-        Some(level) => {
-            let log = Logged::new(rt, level, Console(rt));
-            run_observed(rt, alloc, &plan, events, &log, err)
-        }
+    match run_logged(
+        rt,
+        alloc,
+        &plan,
+        level_of(matches),
+        matches.get_flag("events"),
+        err,
+    ) {
+        Ok(ended) => ended.status,
+        Err(fault) => fault.write_to(err),
     }
 }
 

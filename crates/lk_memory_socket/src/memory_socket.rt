@@ -1,6 +1,6 @@
 //! A socket in memory, for tests: its contract reveals what is sent and what arrives.
 
-ghost use Rattle.std.specs.Prelude.{◌≡◌, ◌++◌, ◌∷◌, [], min, take, OnOk, OnErr};
+ghost use Rattle.std.specs.Prelude.{◌≡◌, ◌≤◌, ◌++◌, ◌∷◌, [], Some, None, length, min, take, OnOk, OnErr};
 ghost use Rattle.lk_memory_socket.specs.Sockets.{sent_in, coming_in};
 
 use lk_node_interface::SendFault;
@@ -19,12 +19,13 @@ pub struct MemoryDatagram {
     pub bytes: Vec<u8>,
 }
 
-/// Datagrams still to arrive, in order, and those that were sent.
+/// What its receives are to find, in order, and the datagrams that were sent.
 #[derive(Drop)]
 pub struct MemorySocket {
     alloc: Global,
     port: u16,
-    incoming: VecDeque<MemoryDatagram>,
+    // a datagram, or nothing
+    incoming: VecDeque<Option<MemoryDatagram>>,
     sent: Vec<MemoryDatagram>,
     failures: u64,
 }
@@ -34,6 +35,20 @@ fn cut_length(length: usize) -> usize
     ensures { result ≡ min length 8229 }
 {
     if length <= 8229 { length } else { 8229 }
+}
+
+impl MemoryDatagram {
+    // Copies its first bytes into a buffer, at most 8,229. Returns how many these are, and its source.
+    fn copy_to(&self, buffer: &mut [u8]) -> (usize, SocketAddr)
+        requires room { 8229 ≤ length buffer.old }
+        ensures within { result.0 ≤ length buffer.new }
+        ensures copies { take result.0 buffer.new ≡ take 8229 self.now.bytes.items }
+        ensures source { result.1 ≡ self.now.address }
+    {
+        let length = cut_length(self.bytes.len());
+        buffer[..length].copy_from_slice(&self.bytes[..length]);
+        (length, self.address)
+    }
 }
 
 impl MemorySocket {
@@ -51,19 +66,30 @@ impl MemorySocket {
         }
     }
 
-    /// Appends a datagram to those that will arrive. A receive returns its first 8,229 bytes only.
+    /// Appends a datagram to what the receives will find. A receive returns its first 8,229 bytes only.
     pub fn add_incoming(&mut self, from: SocketAddr, bytes: &[u8]) -> Result<(), NoMemory>
         ensures ok { OnOk result
-            (coming_in self.new.incoming.items ≡ coming_in self.old.incoming.items ++ (from, take 8229 bytes.now)
-            ∷ []) }
+            (coming_in self.new.incoming.items
+            ≡ coming_in self.old.incoming.items ++ Some (from, take 8229 bytes.now) ∷ []) }
         ensures err { OnErr result (coming_in self.new.incoming.items ≡ coming_in self.old.incoming.items) }
         ensures others { self.new ≡ record self.old { incoming = self.new.incoming } }
     {
         let kept = bytes.to_vec(self.alloc)?;
-        self.incoming.push_back(MemoryDatagram {
+        self.incoming.push_back(Some(MemoryDatagram {
             address: from,
             bytes: kept,
-        })?;
+        }))?;
+        Ok(())
+    }
+
+    /// Appends a silence to what the receives will find: after what was added before, one receive finds nothing.
+    pub fn add_silence(&mut self) -> Result<(), NoMemory>
+        ensures ok { OnOk result
+            (coming_in self.new.incoming.items ≡ coming_in self.old.incoming.items ++ None ∷ []) }
+        ensures err { OnErr result (coming_in self.new.incoming.items ≡ coming_in self.old.incoming.items) }
+        ensures others { self.new ≡ record self.old { incoming = self.new.incoming } }
+    {
+        self.incoming.push_back(None)?;
         Ok(())
     }
 
@@ -118,13 +144,10 @@ impl DatagramSocket for MemorySocket {
     fn set_timeout(&mut self, _time: Duration) {}
 
     fn receive(&mut self, buffer: &mut [u8]) -> Option<(usize, SocketAddr)> {
-        let Some(told) = self.incoming.pop_front() else {
-            return None;
-        };
-        let MemoryDatagram { address, bytes } = told;
-        let length = cut_length(bytes.len());
-        buffer[..length].copy_from_slice(&bytes[..length]);
-        Some((length, address))
+        match self.incoming.pop_front() {
+            Some(Some(datagram)) => Some(datagram.copy_to(buffer)),
+            Some(None) | None => None,
+        }
     }
 
     // The same as `receive`, which never waits.

@@ -1,7 +1,12 @@
 -- The turns of a server, one after another, and one more.
 use Rattle.std.proofs.Common.{◌≡◌, ◌∙◌, ◌⊎◌, ◌<◌, ℕ, List, Option, Result, Ok, Err, inl, inr, refl, subst, sym}
+use Rattle.std.proofs.Common.{arith}
 use Rattle.std.specs.declared.net.socket_addr.SocketAddr.{SocketAddr}
-use Rattle.std.specs.Prelude.{OnOk, OnErr, IfErr, IsErrAnd}
+use Rattle.std.specs.Prelude.{OnOk, OnErr, IfErr, IsErrAnd, MatchResult}
+use Rattle.lk_disk.specs.Disk.{Disk}
+use Rattle.lk_disk.specs.declared.device.Side.{Side}
+use Rattle.lk_store_format.specs.Values.{HeaderValue}
+use Rattle.lk_recovery.specs.Revivals.{IsRefusedFor}
 use Rattle.lk_state.specs.Meanings.{Meaning}
 use Rattle.lk_node_interface.specs.Letters.{LetterValue}
 use Rattle.lk_replica.specs.ReplicaValue.{ReplicaValue}
@@ -14,6 +19,7 @@ use Rattle.lk_server.specs.ProbeHandling.{HandlesProbes}
 use Rattle.lk_server_replica.specs.Showing.{IsShown}
 use Rattle.lk_server.specs.Servers.{ServerValue, HasReceived, TurnOrIdle as ServerTurn, LastTurn}
 use Rattle.lk_transport.specs.Chains.{Repeats}
+use Rattle.lk_node_process.specs.Revivals.{IsRestartRefused, StaysDown}
 use Rattle.lk_node_process.specs.Turns.{DoesTurn, DoesTurnWith, EndsByStranger, EndsTurn, BreaksOff}
 use Rattle.lk_node_process.specs.Turns.{BreaksOffByStranger, TellsFailure}
 
@@ -87,11 +93,6 @@ pub on_either : {T E P Q : Type 0} (r : Result T E) → OnOk r P → OnErr r Q �
 on_either (Ok x) p q = inl p
 on_either (Err e) p q = inr q
 
--- what stands of a refusal stands beside what an error may be
-pub or_later : {T E A B : Type 0} (P : E → Type 0) (r : Result T E) → (A → B) → OnErr r A → IfErr r (λ e. P e ⊎ B)
-or_later P (Ok x) f a = tt
-or_later P (Err e) f a = inr (f a)
-
 -- what follows of what stands after a refusal
 pub on_err_weaker : {T E P Q : Type 0} (r : Result T E) → (P → Q) → OnErr r P → OnErr r Q
 on_err_weaker (Ok x) f p = tt
@@ -101,3 +102,27 @@ on_err_weaker (Err e) f p = f p
 pub if_err_is : {T E : Type 0} (P : E → Type 0) (r : Result T E) (e : E) → IsErrAnd r (λ y. y ≡ e) → P e → IfErr r P
 if_err_is P (Ok x) e is p = tt
 if_err_is P (Err y) e is p = subst P (sym is) p
+
+-- a status that is 0 after a call and 1 after its failure: at 0 stands what stands of the call, at 1 what stands of the
+-- failure
+module _ {T E A : Type 0} {status : ℕ} where
+  pub at_zero : (r : Result T E) → MatchResult r (λ _. status ≡ 0) (λ _. status ≡ 1) → OnOk r A → status ≡ 0 → A
+  at_zero (Ok x) is a zero = a
+  at_zero (Err e) is a zero = absurd (omega (arith, is, zero))
+
+  pub at_one : (r : Result T E) → MatchResult r (λ _. status ≡ 0) (λ _. status ≡ 1) → OnErr r A → status ≡ 1 → A
+  at_one (Ok x) is a one = absurd (omega (arith, is, one))
+  at_one (Err e) is a one = a
+
+-- a restart failed so, whichever equal disks are named
+pub refused_leaving : {m : Meaning} {IsText : List ℕ → Type 0} {honest : Type 0} {old left now : Side → Disk}
+    {header : HeaderValue} {number : ℕ} → (honest → (s : Side) → now s ≡ left s)
+    → IsRestartRefused m IsText honest old header number left → IsRestartRefused m IsText honest old header number now
+refused_leaving {m = m} {IsText = IsText} {old = old} {header = header} {number = number} same refused = record {
+  among = refused.among;
+  cause = λ h. subst (λ (d : Side → Disk). IsRefusedFor m IsText old header number d) (λ i s. sym (same h s) i)
+      (refused.cause h);
+  stays_down = λ h. subst (λ (d : Side → Disk). StaysDown m header old d) (λ i s. sym (same h s) i)
+      (refused.stays_down h);
+  comes_back = refused.comes_back;
+}

@@ -18,8 +18,12 @@ use Rattle.lk_replica.specs.Revived.{MayGoOn}
 use Rattle.lk_recovery.specs.Revivals.{IsRefusedFor}
 use Rattle.lk_node_interface.specs.declared.fault.ReplicaFault.{ReplicaFault}
 use Rattle.lk_transport.specs.Faults.{replica_fault}
-use Rattle.lk_server.specs.Servers.{ServerValue}
 use Rattle.lk_transport.specs.declared.fault.ProgramFault.{ProgramFault}
+use Rattle.lk_transport.specs.declared.network.Network.{Network}
+use Rattle.lk_pacing.specs.declared.pace.Pace.{Pace}
+use Rattle.lk_server.specs.Servers.{ServerValue, IsConfiguredAs, HasSocket}
+use Rattle.lk_node_setup.specs.KeysOfNode.{AreSealsOf}
+use Rattle.lk_node_setup.specs.SelfProbes.{SocketValue}
 
 -- a replica of this header restarts from what these disks have: it goes on in each history that they fit, and its
 -- files have not grown, except up to the size of a Base
@@ -49,6 +53,26 @@ module _ (m : Meaning) (honest : Type 0) (old : Side → Disk) (header : HeaderV
     pub loopback : s.loopback ≡ []
     pub received : s.received ≡ 0
 
+-- what a node is given beside the device of its store: what its ticks go by, the hosts and the keys, and its socket, as
+-- that is then
+pub record Surroundings : Type 0 where
+  pub pace : Pace
+  pub network : Network
+  pub socket : SocketValue
+
+-- these together
+abbrev pub surroundings : Pace → Network → SocketValue → Surroundings
+surroundings p known s = record { pace = p; network = known; socket = s }
+
+-- it is such a server, with this pace, these hosts and these keys, which are those of its node, and on this socket, on
+-- which nothing was sent or received before it started
+pub record StartsOn (m : Meaning) (honest : Type 0) (old : Side → Disk) (header : HeaderValue) (given : Surroundings)
+    (s : ServerValue ReplicaValue) : Type 0 where
+  pub started : IsServerStarted m honest old header s
+  pub configured : IsConfiguredAs header.cluster header.node given.pace given.network s
+  pub whose : AreSealsOf header given.network.seals
+  pub socket : HasSocket given.socket.sent given.socket.failures given.socket.incoming s
+
 module _ (m : Meaning) (IsText : List ℕ → Type 0) (honest : Type 0) (old : Side → Disk) (header : HeaderValue) where
   -- the restart from what the device had failed with the fault of this number, and the device now has these disks,
   -- which fit as those did. The faults for damage, for another's store and for a store at its last generation have
@@ -60,9 +84,14 @@ module _ (m : Meaning) (IsText : List ℕ → Type 0) (honest : Type 0) (old : S
     pub comes_back : honest → (h : History) (n : ℕ) → header ≡ header_of h.genesis n → IsLawful m h
         → DisksFit m h n old → IsNumberOfRevival number
 
-  -- the restart failed, and this fault reports it
-  pub record IsRefusedWith (told : ProgramFault) : Type 0 where
+  -- the restart failed, this fault reports it, and the device now has these disks
+  pub record IsRefusedWith (told : ProgramFault) (left : Side → Disk) : Type 0 where
     pub fault : ReplicaFault
     pub is : told ≡ replica_fault fault
-    pub left : Side → Disk
     pub refused : IsRestartRefused (fault_number fault) left
+
+  -- the same, and the socket is as it was given: nothing was sent on it and nothing received
+  pub record RestsOn (given : Surroundings) (told : ProgramFault) (left : Side → Disk)
+      (socket : SocketValue) : Type 0 where
+    pub refused : IsRefusedWith told left
+    pub untouched : socket ≡ given.socket

@@ -2,12 +2,10 @@
 use Rattle.std.proofs.Common.{inl, inr}
 use Rattle.std.specs.Prelude.{◌≡◌, ◌⊎◌, ◌<◌, ℕ, List, [], Option, None, IsSome}
 use Rattle.std.specs.declared.net.socket_addr.SocketAddr.{SocketAddr}
-use Rattle.lk_store_format.specs.Values.{HeaderValue}
 use Rattle.lk_node_interface.specs.Letters.{LetterValue}
 use Rattle.lk_replica.specs.ReplicaValue.{ReplicaValue}
 use Rattle.lk_probe.specs.Neighbours.{bound_in}
 use Rattle.lk_probe.specs.declared.reported.Reported.{Reported}
-use Rattle.lk_auth.specs.declared.seals.Seals.{Seals}
 use Rattle.lk_transport.specs.Addresses.{IsSameNetwork, filter_of}
 use Rattle.lk_transport.specs.Posts.{all_filtered}
 use Rattle.lk_server.specs.ProbeHandling.{HandlesProbes}
@@ -18,7 +16,6 @@ use Rattle.lk_transport.specs.Inquiring.{IsReportedBy}
 use Rattle.lk_transport.specs.Kept.{KeepsFirstOf}
 use Rattle.lk_transport.specs.declared.received_probe.ReceivedProbe.{ReceivedProbe}
 use Rattle.lk_transport.specs.Chains.{Repeats}
-use Rattle.lk_node_setup.specs.KeysOfNode.{AreSealsOf}
 
 -- the server knows whether a call has ended its replica
 abbrev pub TellsFailure : ServerValue ReplicaValue → Type 0
@@ -100,36 +97,29 @@ module _ (Says : ReplicaValue → List (Option (List ℕ)) → List LetterValue 
     pub turns : Repeats DoesTurn count old last
     pub leave : EndsByStranger last new
 
--- a server has these seals, which are those of the node of this header, in its cluster
-pub record HasSeals (header : HeaderValue) (seals : Seals) (s : ServerValue ReplicaValue) : Type 0 where
-  pub are : s.addresses.seals ≡ seals
-  pub whose : AreSealsOf header seals
-
--- `StartsAs` says how the server of a node starts
-module _ (StartsAs : ServerValue ReplicaValue → Type 0) (header : HeaderValue) (seals : Seals)
-    (Says : ReplicaValue → List (Option (List ℕ)) → List LetterValue → ReplicaValue
-    → Type 0) (observable : Type 0) where
-  -- it started in this way, with these seals of the node of this header, and has done this many turns
-  pub record RunsTurns (count : ℕ) : Type 0 where
+-- `StartsAs` says how the server of a node starts, and `ended` is the server that is left when its run is over
+module _ (StartsAs : ServerValue ReplicaValue → Type 0)
+    (Says : ReplicaValue → List (Option (List ℕ)) → List LetterValue → ReplicaValue → Type 0) (observable : Type 0)
+    (most : ℕ) (ended : ServerValue ReplicaValue) where
+  -- it started in this way, and has done this many turns
+  pub record RunsTurns : Type 0 where
     pub started : ServerValue ReplicaValue
     pub starts_as : StartsAs started
-    pub sealed : HasSeals header seals started
-    pub ended : ServerValue ReplicaValue
-    pub turns : Repeats (DoesTurn Says observable) count started ended
+    pub turns : Repeats (DoesTurn Says observable) most started ended
 
   -- it started in this way, and has done fewer turns than this, and then one that ended its replica
-  pub record EndsEarly (most : ℕ) : Type 0 where
+  pub record EndsEarly : Type 0 where
     pub started : ServerValue ReplicaValue
     pub starts_as : StartsAs started
-    pub sealed : HasSeals header seals started
-    pub ended : ServerValue ReplicaValue
     pub breaks : BreaksOff Says observable most started ended
 
   -- it started in this way, and has done fewer turns than this, and then one after which it ended, since it had
   -- followed a node of another genesis
-  pub record EndsEarlyByStranger (most : ℕ) : Type 0 where
+  pub record EndsEarlyByStranger : Type 0 where
     pub started : ServerValue ReplicaValue
     pub starts_as : StartsAs started
-    pub sealed : HasSeals header seals started
-    pub ended : ServerValue ReplicaValue
     pub leaves : BreaksOffByStranger Says observable most started ended
+
+  -- one of these two
+  abbrev pub EndsBefore : Type 0
+  EndsBefore = EndsEarly ⊎ EndsEarlyByStranger

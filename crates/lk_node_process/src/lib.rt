@@ -4,5 +4,6 @@
 
 mod another_genesis;
 pub mod demo;
+pub mod node_end;
 pub mod observing;
 pub mod running;

@@ -1,26 +1,31 @@
 //! Runs a node: starts its server from a device, and does its turns.
 
-ghost use Rattle.std.specs.Prelude.{◌≡◌, ◌≤◌, ◌^◌, ◌⊎◌, None, IfOk, IfErr, OnOk, OnErr};
+ghost use Rattle.std.specs.Prelude.{◌≡◌, ◌<◌, ◌≤◌, ◌^◌, ◌⊎◌, None, IfOk, IfErr, IsOkAnd, OnOk, OnErr};
+ghost use Rattle.lk_disk.specs.declared.device.Side.{Side as SideValue};
 ghost use Rattle.lk_node_interface.specs.Faults.{fault_number};
-ghost use Rattle.lk_replica.specs.ReplicaValue.{ReplicaValue};
 ghost use Rattle.lk_replica.specs.Revived.{MayGoOn};
 ghost use Rattle.lk_server.specs.ProbeHandling.{HandlesProbes};
 ghost use Rattle.lk_server_replica.specs.Showing.{IsShown};
-ghost use Rattle.lk_server.specs.Servers.{ServerValue, IsConfiguredAs, HasSocket};
+ghost use Rattle.lk_server.specs.Servers.{IsConfiguredAs, HasSocket};
 ghost use Rattle.lk_transport.specs.Chains.{Repeats};
+ghost use Rattle.lk_transport.specs.Faults.{replica_fault};
 ghost use Rattle.lk_node_setup.specs.KeysOfNode.{AreSealsOf};
-ghost use Rattle.lk_node_process.specs.Revivals.{ComesUp, IsServerStarted, IsRestartRefused, IsRefusedWith};
+ghost use Rattle.lk_node_setup.specs.SelfProbes.{socket_value};
+ghost use Rattle.lk_node_process.specs.Revivals.{ComesUp, IsServerStarted, IsRestartRefused};
+ghost use Rattle.lk_node_process.specs.Revivals.{StartsOn, RestsOn, surroundings};
 ghost use Rattle.lk_node_process.specs.Turns.{DoesTurn, DoesTurnWith, HasFollowedNoStranger, HasFollowedStranger};
 ghost use Rattle.lk_node_process.specs.Turns.{EndsTurn, BreaksOff, BreaksOffByStranger};
-ghost use Rattle.lk_node_process.specs.Turns.{RunsTurns, EndsEarly, EndsEarlyByStranger, TellsFailure};
+ghost use Rattle.lk_node_process.specs.Turns.{RunsTurns, EndsBefore, TellsFailure};
 ghost use Rattle.lk_node_process.specs.Warnings.{DoesTurnAndWarns, Warns, WarnsUntil, reminded};
 
 use crate::another_genesis::write_other_genesis;
-use crate::observing::{observe_end, observe_start, observe_turn};
+use crate::node_end::{NodeEnd, NodeServer, RefusedStart, status_after};
+use crate::observing::{observe_start, observe_turn};
 use lk_disk::LogDisk;
 use lk_node_events::line::Observer;
 use lk_node_files::causes::{FailureCause, write_failed_calls};
 use lk_node_files::refusals::write_refusal;
+use lk_node_interface::ReplicaFault;
 use lk_node_setup::port_reminder::PortReminder;
 use lk_node_setup::resources::{NodePlan, Resources};
 use lk_pacing::tick_timer::TickTimer;
@@ -43,9 +48,6 @@ use std::time::Clock;
 
 // How many turns a node takes: a loop must have a bound, and this one lasts for years.
 const TURNS: u64 = 1 << 48;
-
-// The server of a node's replica on a device, with a socket.
-type NodeServer<M, D, S> = Server<Replica<M, D>, S>;
 
 // Restarts the replica from a device. Logs how it started and what it executed. An error returns the device too.
 fn restart_replica<M: Machine, D: LogDisk + Drop, L: Log>(
@@ -70,14 +72,29 @@ fn restart_replica<M: Machine, D: LogDisk + Drop, L: Log>(
     Ok(revived.replica)
 }
 
+// Returns the refusal of a replica's restart with the socket beside it.
+fn with_socket<D: LogDisk + Drop, S: DatagramSocket + Drop>(
+    refused: ReviveFault<D>,
+    socket: S,
+) -> RefusedStart<ReplicaFault, D, S>
+    ensures { result ≡ record { fault = refused.fault; device = refused.device; socket = socket } }
+{
+    let ReviveFault { fault, device } = refused;
+    RefusedStart {
+        fault,
+        device,
+        socket,
+    }
+}
+
 /// Starts the server of a node from a device. Logs how it started and what it executed. An error returns the device
-/// too.
+/// and the socket too.
 pub fn revive<M: Machine, D: LogDisk + Drop, S: DatagramSocket + Drop, L: Log>(
     alloc: Global,
     header: &Header,
     resources: Resources<D, S>,
     log: &L,
-) -> Result<NodeServer<M, D, S>, ReviveFault<D>>
+) -> Result<NodeServer<M, D, S>, RefusedStart<ReplicaFault, D, S>>
     // It runs as the node of this header, in its cluster, with a replica restarted from what the device has, and has
     // received nothing.
     ensures started { IfOk result (IsServerStarted M.meaning D.is_honest (D.disk resources.device) header.now) }
@@ -90,6 +107,8 @@ pub fn revive<M: Machine, D: LogDisk + Drop, S: DatagramSocket + Drop, L: Log>(
     ensures refused { IfErr result
         (λ e. IsRestartRefused M.meaning M.IsText D.is_honest (D.disk resources.device) header.now
         (fault_number e.fault) (D.disk e.device)) }
+    // Then nothing was sent on the socket, and nothing received.
+    ensures untouched { IfErr result (λ e. e.socket ≡ resources.socket) }
 {
     let Resources {
         device,
@@ -98,7 +117,10 @@ pub fn revive<M: Machine, D: LogDisk + Drop, S: DatagramSocket + Drop, L: Log>(
         pace,
         unheard: _,
     } = resources;
-    let replica = restart_replica::<M, D, L>(alloc, header, device, log)?;
+    let replica = match restart_replica::<M, D, L>(alloc, header, device, log) {
+        Ok(replica) => replica,
+        Err(refused) => return Err(with_socket(refused, socket)),
+    };
     let cluster = header.genesis().cluster;
     Ok(Server::new(
         alloc,
@@ -109,6 +131,33 @@ pub fn revive<M: Machine, D: LogDisk + Drop, S: DatagramSocket + Drop, L: Log>(
         replica,
         socket,
     ))
+}
+
+// Writes what was found in a store that does not open and what to do, and returns what that means to the process.
+fn write_why<D: LogDisk + FailureCause + Drop, S: DatagramSocket + Drop, E: Write>(
+    alloc: Global,
+    refused: RefusedStart<ReplicaFault, D, S>,
+    plan: &NodePlan<'_>,
+    err: &mut E,
+) -> RefusedStart<ProgramFault, D, S>
+    requires { fault_number refused.fault < 15 }
+    ensures fault { result.fault ≡ replica_fault refused.fault }
+    ensures unchanged { D.is_honest → (s : SideValue) → D.disk result.device s ≡ D.disk refused.device s }
+    ensures untouched { result.socket ≡ refused.socket }
+{
+    let RefusedStart {
+        fault,
+        device,
+        socket,
+    } = refused;
+    let mut device = device;
+    let told = ProgramFault::of_replica(&fault);
+    let fault = write_refusal(alloc, told, &mut device, plan.folder, err);
+    RefusedStart {
+        fault,
+        device,
+        socket,
+    }
 }
 
 // The same for a plan. If the store does not open, writes what was found and what to do.
@@ -124,20 +173,19 @@ fn revive_plan<
     resources: Resources<D, S>,
     log: &L,
     err: &mut E,
-) -> Result<NodeServer<M, D, S>, ProgramFault>
-    ensures started { IfOk result (IsServerStarted M.meaning D.is_honest (D.disk resources.device) plan.now.header) }
-    ensures seals { IfOk result (λ s. s.addresses.seals ≡ resources.network.seals) }
-    ensures refused { IfErr result
-        (IsRefusedWith M.meaning M.IsText D.is_honest (D.disk resources.device) plan.now.header) }
+) -> Result<NodeServer<M, D, S>, RefusedStart<ProgramFault, D, S>>
+    requires { AreSealsOf plan.now.header resources.network.seals }
+    ensures started { IfOk result (StartsOn M.meaning D.is_honest (D.disk resources.device) plan.now.header
+        (surroundings resources.pace resources.network
+        (socket_value S.sent S.failures S.incoming resources.socket))) }
+    ensures refused { IfErr result (λ e. RestsOn M.meaning M.IsText D.is_honest (D.disk resources.device)
+        plan.now.header (surroundings resources.pace resources.network
+        (socket_value S.sent S.failures S.incoming resources.socket)) e.fault (D.disk e.device)
+        (socket_value S.sent S.failures S.incoming e.socket)) }
 {
     match revive::<M, D, S, L>(alloc, &plan.header, resources, log) {
         Ok(server) => Ok(server),
-        Err(refused) => {
-            let ReviveFault { fault, device } = refused;
-            let mut device = device;
-            let told = ProgramFault::of_replica(&fault);
-            Err(write_refusal(alloc, told, &mut device, plan.folder, err))
-        }
+        Err(refused) => Err(write_why(alloc, refused, plan, err)),
     }
 }
 
@@ -290,7 +338,7 @@ fn do_turns<
     Ok(())
 }
 
-// Logs the port of a server, reports its start to an observer, and does 2^48 turns. The server ends then.
+// Logs the port of a server, reports its start to an observer, and does 2^48 turns.
 fn run_turns<
     M: Machine,
     D: LogDisk + FailureCause + Drop,
@@ -301,7 +349,7 @@ fn run_turns<
     E: Write,
 >(
     clock: &C,
-    server: NodeServer<M, D, S>,
+    server: &mut NodeServer<M, D, S>,
     plan: &NodePlan<'_>,
     reminder: PortReminder,
     log: &L,
@@ -309,56 +357,19 @@ fn run_turns<
     err: &mut E,
 ) -> Result<(), ProgramFault>
     ensures ok { OnOk result
-        ((ended : ServerValue ReplicaValue)
-        × Repeats (DoesTurn ⟦<Replica<M, D> as ServerReplica>⟧.Says S.is_observable) (2 ^ 48) server ended) }
+        (Repeats (DoesTurn ⟦<Replica<M, D> as ServerReplica>⟧.Says S.is_observable) (2 ^ 48) server.old server.new) }
     ensures err { OnErr result
-        ((ended : ServerValue ReplicaValue)
-        × (BreaksOff ⟦<Replica<M, D> as ServerReplica>⟧.Says S.is_observable (2 ^ 48) server ended
-        ⊎ BreaksOffByStranger ⟦<Replica<M, D> as ServerReplica>⟧.Says S.is_observable (2 ^ 48) server ended)) }
+        (BreaksOff ⟦<Replica<M, D> as ServerReplica>⟧.Says S.is_observable (2 ^ 48) server.old server.new
+        ⊎ BreaksOffByStranger ⟦<Replica<M, D> as ServerReplica>⟧.Says S.is_observable (2 ^ 48) server.old server.new) }
 {
-    let mut server = server;
     log_port(log, plan.port);
     observe_start(server.replica(), observer);
-    do_turns(clock, &mut server, plan, reminder, log, observer, err)
+    do_turns(clock, server, plan, reminder, log, observer, err)
 }
 
-// Starts the server of a node, and does 2^48 turns.
-fn run_server<
-    M: Machine,
-    D: LogDisk + FailureCause + Drop,
-    S: DatagramSocket + Drop,
-    C: Clock,
-    L: Log,
-    O: Observer,
-    E: Write,
->(
-    clock: &C,
-    alloc: Global,
-    plan: &NodePlan<'_>,
-    resources: Resources<D, S>,
-    log: &L,
-    observer: &mut O,
-    err: &mut E,
-) -> Result<(), ProgramFault>
-    requires { AreSealsOf plan.now.header resources.network.seals }
-    ensures ok { OnOk result
-        (RunsTurns (IsServerStarted M.meaning D.is_honest (D.disk resources.device) plan.now.header) plan.now.header
-        resources.network.seals ⟦<Replica<M, D> as ServerReplica>⟧.Says S.is_observable (2 ^ 48)) }
-    ensures err { IfErr result
-        (λ f. IsRefusedWith M.meaning M.IsText D.is_honest (D.disk resources.device) plan.now.header f
-        ⊎ EndsEarly (IsServerStarted M.meaning D.is_honest (D.disk resources.device) plan.now.header) plan.now.header
-        resources.network.seals ⟦<Replica<M, D> as ServerReplica>⟧.Says S.is_observable (2 ^ 48)
-        ⊎ EndsEarlyByStranger (IsServerStarted M.meaning D.is_honest
-        (D.disk resources.device) plan.now.header) plan.now.header
-        resources.network.seals ⟦<Replica<M, D> as ServerReplica>⟧.Says S.is_observable (2 ^ 48)) }
-{
-    let reminder = PortReminder::of(resources.unheard);
-    let server = revive_plan::<M, D, S, L, E>(alloc, plan, resources, log, err)?;
-    run_turns(clock, server, plan, reminder, log, observer, err)
-}
-
-/// Runs a node on these resources, and reports what happens to it to an observer. The status is 0 after 2^48 turns, and
-/// 1 after a fault, which is written to standard error.
+/// Runs a node on these resources, and reports what happens to it to an observer. Returns its status, which is 0 after
+/// 2^48 turns, and 1 after a fault, which is written to standard error; and what is left, as it is then: the server, or
+/// the device and the socket of a node that did not start.
 pub fn run_node<
     M: Machine,
     D: LogDisk + FailureCause + Drop,
@@ -375,30 +386,43 @@ pub fn run_node<
     log: &L,
     observer: &mut O,
     err: &mut E,
-) -> u8
+) -> NodeEnd<M, D, S>
     requires { AreSealsOf plan.now.header resources.network.seals }
-    ensures status { result ≤ 1 }
-    // At status 0 the server of the plan's node, with a replica restarted from what the device had, has done this
-    // many turns.
-    ensures ran_all_turns { result ≡ 0
-        → RunsTurns (IsServerStarted M.meaning D.is_honest (D.disk resources.device) plan.now.header) plan.now.header
-        resources.network.seals ⟦<Replica<M, D> as ServerReplica>⟧.Says S.is_observable (2 ^ 48) }
-    // At status 1 it did not start, or it has done fewer turns, and then one that ended its replica, or after which a
-    // node of another genesis had led it.
-    ensures broken { result ≡ 1
-        → ((f : ProgramFault) × IsRefusedWith M.meaning M.IsText D.is_honest
-        (D.disk resources.device) plan.now.header f)
-        ⊎ EndsEarly (IsServerStarted M.meaning D.is_honest (D.disk resources.device) plan.now.header) plan.now.header
-        resources.network.seals ⟦<Replica<M, D> as ServerReplica>⟧.Says S.is_observable (2 ^ 48)
-        ⊎ EndsEarlyByStranger (IsServerStarted M.meaning D.is_honest
-        (D.disk resources.device) plan.now.header) plan.now.header
-        resources.network.seals ⟦<Replica<M, D> as ServerReplica>⟧.Says S.is_observable (2 ^ 48) }
+    ensures status { result.status ≤ 1 }
+    // At status 0 a server is left. It has started as the one of the plan's node, on these resources, with a replica
+    // restarted from what the device had, and since then it has done this many turns and nothing else.
+    ensures ran_all_turns { result.status ≡ 0 → IsOkAnd result.left
+        (RunsTurns (StartsOn M.meaning D.is_honest (D.disk resources.device) plan.now.header
+        (surroundings resources.pace resources.network
+        (socket_value S.sent S.failures S.incoming resources.socket)))
+        ⟦<Replica<M, D> as ServerReplica>⟧.Says S.is_observable (2 ^ 48)) }
+    // If one is left at status 1, it has done fewer, and then one that ended its replica, or after which a node of
+    // another genesis had led it, and nothing else.
+    ensures broken { result.status ≡ 1 → IfOk result.left
+        (EndsBefore (StartsOn M.meaning D.is_honest (D.disk resources.device) plan.now.header
+        (surroundings resources.pace resources.network
+        (socket_value S.sent S.failures S.incoming resources.socket)))
+        ⟦<Replica<M, D> as ServerReplica>⟧.Says S.is_observable (2 ^ 48)) }
+    // If none is left, the restart from what the device had failed. Its disks are as that has left them, and the socket
+    // is as it was given.
+    ensures refused { IfErr result.left (λ e. RestsOn M.meaning M.IsText D.is_honest (D.disk resources.device)
+        plan.now.header (surroundings resources.pace resources.network
+        (socket_value S.sent S.failures S.incoming resources.socket)) e.fault (D.disk e.device)
+        (socket_value S.sent S.failures S.incoming e.socket)) }
 {
-    match run_server::<M, D, S, C, L, O, E>(clock, alloc, plan, resources, log, observer, err) {
-        Ok(()) => 0,
-        Err(fault) => {
-            observe_end(fault, observer);
-            fault.write_to(err)
+    let reminder = PortReminder::of(resources.unheard);
+    match revive_plan::<M, D, S, L, E>(alloc, plan, resources, log, err) {
+        Ok(server) => {
+            let mut server = server;
+            let ran = run_turns(clock, &mut server, plan, reminder, log, observer, err);
+            NodeEnd {
+                status: status_after(ran, observer, err),
+                left: Ok(server),
+            }
         }
+        Err(refused) => NodeEnd {
+            status: status_after(Err(refused.fault), observer, err),
+            left: Err(refused),
+        },
     }
 }

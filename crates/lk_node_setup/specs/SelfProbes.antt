@@ -12,54 +12,57 @@ use Rattle.lk_probe.specs.Questions.{question}
 use Rattle.lk_auth.specs.Seals.{key_list, framed_by, to_node}
 use Rattle.lk_auth.specs.declared.seals.Seals.{Seals}
 use Rattle.lk_transport.specs.Hosts.{host_of}
+use Rattle.lk_transport.specs.Streams.{Stream, Receives, ReceivesAll, frames_in, listed}
 use Rattle.lk_transport.specs.declared.network.Network.{Network}
 
--- what a socket has sent, how many of its sends have failed, and what is to come
+-- what a socket has sent, how many of its sends have failed, and what its receives are to find
 pub record SocketValue : Type 0 where
   pub sent : List (SocketAddr × List ℕ)
   pub failures : ℕ
-  pub incoming : List (SocketAddr × List ℕ)
+  pub incoming : Stream
 
 -- these values of a socket, by the ghost functions of its type
 abbrev pub socket_value : {S : Type 0} → (S → List (SocketAddr × List ℕ)) → (S → ℕ)
-    → (S → List (SocketAddr × List ℕ)) → S → SocketValue
+    → (S → Stream) → S → SocketValue
 socket_value sent failures incoming s = record { sent = sent s; failures = failures s; incoming = incoming s }
 
 -- ---- what comes
-
--- these bytes come next, from wherever; or others do, or nothing
-abbrev pub ComesNext : List ℕ → Bool → List (SocketAddr × List ℕ) → List (SocketAddr × List ℕ) → Type 0
-ComesNext frame true old new = (from : SocketAddr) × (old ≡ (from, frame) ∷ new)
-ComesNext frame false old new =
-    ((d : SocketAddr × List ℕ) × (d.1 ≢ frame) × (old ≡ d ∷ new)) ⊎ ((old ≡ []) × (new ≡ []))
 
 -- these bytes are in none of these datagrams
 abbrev pub AreOthers : List ℕ → List (SocketAddr × List ℕ) → Type 0
 AreOthers frame came = AllByRecursion (λ (d : SocketAddr × List ℕ). d.1 ≢ frame) came
 
--- these bytes came back, behind fewer others than this; all of that is lost, and nothing else
-pub record ComesBack (frame : List ℕ) (most : ℕ) (old new : List (SocketAddr × List ℕ)) : Type 0 where
-  pub lost : List (SocketAddr × List ℕ)
-  pub from : SocketAddr
-  pub came : old ≡ lost ++ (from, frame) ∷ new
-  pub others : AreOthers frame lost
+-- a receive finds these bytes, from wherever; or it finds others, or nothing
+abbrev pub ComesNext : List ℕ → Bool → Stream → Stream → Type 0
+ComesNext frame true old new = (from : SocketAddr) × Receives (Some (from, frame)) old new
+ComesNext frame false old new =
+    (found : Option (SocketAddr × List ℕ)) × AreOthers frame (listed found) × Receives found old new
+
+-- a receive found these bytes, after fewer receives than this that found others, or nothing; what they found is lost
+pub record ComesBack (frame : List ℕ) (most : ℕ) (old new : Stream) : Type 0 where
+  pub lost : List (Option (SocketAddr × List ℕ))
   pub few : length lost < most
+  pub others : AreOthers frame (frames_in lost)
+  pub mid : Stream
+  pub earlier : ReceivesAll lost old mid
+  pub from : SocketAddr
+  pub came : Receives (Some (from, frame)) mid new
 
--- they were not in so many datagrams that came, or in all that were to come where these were fewer; those are lost
-pub record StaysAway (frame : List ℕ) (most : ℕ) (old new : List (SocketAddr × List ℕ)) : Type 0 where
-  pub lost : List (SocketAddr × List ℕ)
-  pub came : old ≡ lost ++ new
-  pub others : AreOthers frame lost
-  pub all : (length lost ≡ most) ⊎ ((length lost < most) × (new ≡ []))
+-- each of so many receives found others, or nothing; those are lost
+pub record StaysAway (frame : List ℕ) (most : ℕ) (old new : Stream) : Type 0 where
+  pub lost : List (Option (SocketAddr × List ℕ))
+  pub all : length lost ≡ most
+  pub others : AreOthers frame (frames_in lost)
+  pub came : ReceivesAll lost old new
 
--- whether these bytes came back among at most this many datagrams
-abbrev pub IsHeard : List ℕ → ℕ → Bool → List (SocketAddr × List ℕ) → List (SocketAddr × List ℕ) → Type 0
+-- whether these bytes came back in at most this many receives
+abbrev pub IsHeard : List ℕ → ℕ → Bool → Stream → Stream → Type 0
 IsHeard frame most true old new = ComesBack frame most old new
 IsHeard frame most false old new = StaysAway frame most old new
 
 -- ---- the probe
 
--- the bytes are sent there, once and alone, and after that it is heard in 30 datagrams whether they come back
+-- the bytes are sent there, once and alone, and after that 30 receives tell whether they come back
 pub record SendsAndHears (address : SocketAddr) (frame : List ℕ) (is_back : Bool) (old new : SocketValue) : Type 0 where
   pub sent : new.sent ≡ old.sent ++ (address, frame) ∷ []
   pub failures : new.failures ≡ old.failures

@@ -17,7 +17,7 @@ use std::alloc::Global;
 use std::net::SocketAddr;
 use std::time::Duration;
 
-// How many datagrams a node receives at most to find its probe.
+// How many receives a node makes at most to find its probe.
 const RECEIVES: u32 = 30;
 // How long it waits for each, in milliseconds.
 const WAIT: u64 = 10;
@@ -35,8 +35,8 @@ fn comes_next<S: DatagramSocket>(buffer: &mut ReceiveBuffer, socket: &mut S, fra
     }
 }
 
-// Receives datagrams and drops them, up to one of these bytes: at most 30, each within about 10 ms. Returns whether it
-// came.
+// Drops what its receives find, up to a datagram of these bytes, in at most 30 receives of about 10 ms. Returns whether
+// it came.
 fn comes_back<S: DatagramSocket>(socket: &mut S, frame: &[u8]) -> bool
     ensures heard { S.is_observable → IsHeard frame.now 30 result (S.incoming socket.old) (S.incoming socket.new) }
     ensures unchanged { S.sent socket.new ≡ S.sent socket.old }

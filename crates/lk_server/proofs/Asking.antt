@@ -11,7 +11,8 @@ use Rattle.lk_auth.specs.declared.seals.Seals.{Seals}
 use Rattle.lk_pacing.specs.declared.turn_input.TurnInput.{TurnInput}
 use Rattle.lk_pacing.specs.declared.turn_input.TurnInput.TheVariants.{Nothing, Filtered, Something}
 use Rattle.lk_transport.specs.Askers.{BringsProbe}
-use Rattle.lk_transport.specs.ReceiveBuffers.{BufferValue, listed}
+use Rattle.lk_transport.specs.ReceiveBuffers.{BufferValue}
+use Rattle.lk_transport.specs.Streams.{listed}
 use Rattle.lk_transport.specs.Inquiring.{IsReportedBy}
 use Rattle.lk_transport.specs.Kept.{BringNothing, BringsFirst, IsFirstOf, KeepsFirst, KeepsFirstOf, KeepsProbes}
 use Rattle.lk_transport.specs.Kept.{KeepsOf}

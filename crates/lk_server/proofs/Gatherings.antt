@@ -14,7 +14,8 @@ use Rattle.lk_server.specs.Gatherings.{AddsFromSocket}
 use Rattle.lk_server.specs.Gatherings.{EndsSocket, AreFound, Finds}
 use Rattle.lk_pacing.specs.declared.turn_input.TurnInput.{TurnInput}
 use Rattle.lk_pacing.specs.declared.turn_input.TurnInput.TheVariants.{Nothing, Filtered, Something}
-use Rattle.lk_transport.specs.ReceiveBuffers.{listed}
+use Rattle.lk_transport.specs.Streams.{Stream, Receives, ComeWithin, listed}
+use Rattle.lk_transport.proofs.Streaming.{come_none, come_more, come_wider}
 use Rattle.lk_transport.specs.Posts.{RecordsSender, RecordsSenders, is_filtered_out, opened_as, filtered, all_filtered}
 use Rattle.lk_pacing.specs.Paces.{ticks_after}
 use Rattle.lk_pacing.specs.declared.pace.Pace.{Pace}
@@ -164,14 +165,20 @@ hears_more cluster (x ∷ xs) ys old mid new a b = (a.0, a.1, hears_more cluster
 pub same_network : (old mid new : AddressBook) → IsSameFilter old mid → IsSameFilter mid new → IsSameFilter old new
 same_network old mid new a b = (b.0 ∙ a.0, b.1 ∙ a.1)
 
+-- these frames came, where nothing was received behind them
+come_as : {R : Type 0} (most : ℕ) (e : Option (SocketAddr × List ℕ)) (frames : List (SocketAddr × List ℕ))
+    (old mid new : ServerValue R) → listed e ≡ frames → new.incoming ≡ mid.incoming
+    → ComeWithin most (listed e) old.incoming mid.incoming → ComeWithin most frames old.incoming new.incoming
+come_as most e frames old mid new are same =
+    subst₂ (λ (fs : List (SocketAddr × List ℕ)) (s : Stream). ComeWithin most fs old.incoming s) are (sym same)
+
 -- no frame came
 pub none_came : {R : Type 0} (observable : Type 0) (e : Option (SocketAddr × List ℕ)) (old mid new : ServerValue R)
-    → e ≡ None → (observable → old.incoming ≡ listed e ++ mid.incoming)
+    → e ≡ None → (observable → ComeWithin 2 (listed e) old.incoming mid.incoming)
     → mid ≡ record old { incoming = mid.incoming } → new ≡ mid
-    → (observable → new.incoming ≡ old.incoming) × (record new { incoming = old.incoming } ≡ old)
+    → (observable → ComeWithin 2 [] old.incoming new.incoming) × (record new { incoming = old.incoming } ≡ old)
 none_came {R} observable e old mid new is comes others same = (
-  λ t. ap (λ (s : ServerValue R). s.incoming) same
-      ∙ sym (comes t ∙ ap (λ (o : Option (SocketAddr × List ℕ)). listed o ++ mid.incoming) is),
+  λ t. come_as 2 e [] old mid new (ap listed is) (ap (λ (s : ServerValue R). s.incoming) same) (comes t),
   ap (λ (s : ServerValue R). record s { incoming = old.incoming }) (same ∙ others),
 )
 
@@ -215,36 +222,33 @@ found_few s Something frames never = absurd never
 -- what was found at the socket, where a replica is given nothing of it
 pub finds : {R : Type 0} (observable : Type 0) (found : TurnInput) (e : Option (SocketAddr × List ℕ))
     (group now : GroupValue) (old mid new : ServerValue R)
-    → (observable → old.incoming ≡ listed e ++ mid.incoming) → (observable → e ≡ None → old.incoming ≡ [])
-    → mid ≡ record old { incoming = mid.incoming }
+    → (observable → Receives e old.incoming mid.incoming) → mid ≡ record old { incoming = mid.incoming }
     → (found ≡ Nothing → (e ≡ None) × (new ≡ mid) × (now ≡ group))
     → (found ≡ Filtered → (frame : SocketAddr × List ℕ) × (e ≡ Some frame)
     × (is_filtered_out (filter_of mid.addresses) frame ≡ true) × (new ≡ mid) × (now ≡ group))
     → (found ≡ Something → ⊥) → Finds observable found (listed e) old new × (now ≡ group)
-finds {R} observable Nothing e group now old mid new comes none others nothing beside apart =
+finds {R} observable Nothing e group now old mid new comes others nothing beside apart =
     let n = nothing refl in (
       record {
         are = ap listed n.0;
-        none = λ t empty. none t n.0;
-        comes = λ t. comes t ∙ ap (λ (s : ServerValue R). listed e ++ s.incoming) (sym n.1);
+        comes = λ t. (e, refl, subst (λ (s : ServerValue R). Receives e old.incoming s.incoming) (sym n.1) (comes t));
         same = ap (λ (s : ServerValue R). record s { incoming = old.incoming }) (n.1 ∙ others);
       },
       n.2,
     )
-finds {R} observable Filtered e group now old mid new comes none others nothing beside apart =
+finds {R} observable Filtered e group now old mid new comes others nothing beside apart =
     let b = beside refl in
     let is : is_filtered_out (filter_of old.addresses) b.0 ≡ true =
     subst (λ (s : Filter). is_filtered_out s b.0 ≡ true)
     (ap (λ (s : ServerValue R). filter_of s.addresses) others) b.2 in (
       record {
         are = (b.0, ap listed b.1, is);
-        none = λ t empty. absurd (let both : b.0 ∷ [] ≡ [] = sym (ap listed b.1) ∙ empty in cc both);
-        comes = λ t. comes t ∙ ap (λ (s : ServerValue R). listed e ++ s.incoming) (sym b.3);
+        comes = λ t. (e, refl, subst (λ (s : ServerValue R). Receives e old.incoming s.incoming) (sym b.3) (comes t));
         same = ap (λ (s : ServerValue R). record s { incoming = old.incoming }) (b.3 ∙ others);
       },
       b.4,
     )
-finds observable Something e group now old mid new comes none others nothing beside apart = absurd (apart refl)
+finds observable Something e group now old mid new comes others nothing beside apart = absurd (apart refl)
 
 -- ---- what goes on
 
@@ -333,11 +337,11 @@ module _ {R : Type 0} (G : Gatherings R) where
     pace = t.pace ∙ pace;
   }
 
-  pub socket_more : (observable : Type 0) (xs ys : List (SocketAddr × List ℕ)) (group one now : GroupValue)
-      (old mid new : ServerValue R) → mid.cluster ≡ old.cluster
-      → AddsFromSocket G observable xs group one old mid → AddsFromSocket G observable ys one now mid new
-      → AddsFromSocket G observable (xs ++ ys) group now old new
-  socket_more observable xs ys group one now old mid new cluster a b =
+  pub socket_more : (observable : Type 0) (most more : ℕ) (xs ys : List (SocketAddr × List ℕ))
+      (group one now : GroupValue) (old mid new : ServerValue R) → mid.cluster ≡ old.cluster
+      → AddsFromSocket G observable most xs group one old mid → AddsFromSocket G observable more ys one now mid new
+      → AddsFromSocket G observable (most + more) (xs ++ ys) group now old new
+  socket_more observable most more xs ys group one now old mid new cluster a b =
       let filter = a.adds.network.1 in
       record {
         adds = record {
@@ -355,9 +359,16 @@ module _ {R : Type 0} (G : Gatherings R) where
               cluster filter b.adds.heard));
           network = same_network old.addresses mid.addresses new.addresses a.adds.network b.adds.network;
         };
-        comes = λ t. a.comes t ∙ ap (λ (l : List (SocketAddr × List ℕ)). xs ++ l) (b.comes t)
-            ∙ sym (append_assoc xs ys new.incoming);
+        comes = λ t. come_more (a.comes t) (b.comes t);
       }
+
+  -- in as many receives or fewer
+  pub socket_wider : (observable : Type 0) (most more : ℕ) (frames : List (SocketAddr × List ℕ))
+      (group now : GroupValue) (old new : ServerValue R) → most ≤ more
+      → AddsFromSocket G observable most frames group now old new
+      → AddsFromSocket G observable more frames group now old new
+  socket_wider observable most more frames group now old new le a =
+      record { adds = a.adds; comes = λ t. come_wider le (a.comes t) }
 
   -- a frame of which this was taken
   pub heard_one : (frame x : SocketAddr × List ℕ) (group now : GroupValue) (old mid new : ServerValue R)
@@ -376,12 +387,13 @@ module _ {R : Type 0} (G : Gatherings R) where
   }
 
   -- nothing is taken of a frame that stands beside the protocol
-  pub socket_beside : (observable : Type 0) (e : Option (SocketAddr × List ℕ)) (frame : SocketAddr × List ℕ)
+  pub socket_beside : (observable : Type 0) (most : ℕ) (e : Option (SocketAddr × List ℕ)) (frame : SocketAddr × List ℕ)
       (group now : GroupValue) (old mid new : ServerValue R) → e ≡ Some frame
-      → (observable → old.incoming ≡ listed e ++ mid.incoming) → mid ≡ record old { incoming = mid.incoming }
+      → (observable → ComeWithin most (listed e) old.incoming mid.incoming)
+      → mid ≡ record old { incoming = mid.incoming }
       → is_filtered_out (filter_of mid.addresses) frame ≡ true
-      → new ≡ mid → now ≡ group → AddsFromSocket G observable (frame ∷ []) group now old new
-  socket_beside observable e frame group now old mid new is comes others beside same still =
+      → new ≡ mid → now ≡ group → AddsFromSocket G observable most (frame ∷ []) group now old new
+  socket_beside observable most e frame group now old mid new is comes others beside same still =
       let as_was : new ≡ record old { incoming = mid.incoming } = same ∙ others in
       let aside : is_filtered_out (filter_of old.addresses) frame ≡ true =
       subst (λ (s : Filter). is_filtered_out s frame ≡ true)
@@ -399,18 +411,17 @@ module _ {R : Type 0} (G : Gatherings R) where
               (sym gone) book;
           network = (ap (λ (b : AddressBook). b.hosts) book, ap (λ (b : AddressBook). filter_of b) book);
         };
-        comes = λ t.
-            comes t ∙ ap (λ (o : Option (SocketAddr × List ℕ)). listed o ++ mid.incoming) is
-            ∙ ap (λ (l : List (SocketAddr × List ℕ)). frame ∷ l) (sym (ap (λ (s : ServerValue R). s.incoming) same));
+        comes = λ t. come_as most e (frame ∷ []) old mid new (ap listed is)
+            (ap (λ (s : ServerValue R). s.incoming) same) (comes t);
       }
 
   -- it came from the socket
-  pub socket_one : (observable : Type 0) (e : Option (SocketAddr × List ℕ)) (frame : SocketAddr × List ℕ)
+  pub socket_one : (observable : Type 0) (most : ℕ) (e : Option (SocketAddr × List ℕ)) (frame : SocketAddr × List ℕ)
       (group now : GroupValue) (old mid new : ServerValue R) → e ≡ Some frame
-      → (observable → old.incoming ≡ listed e ++ mid.incoming) → mid ≡ record old { incoming = mid.incoming }
-      → new.incoming ≡ mid.incoming
-      → AddsHeard G (frame ∷ []) group now mid new → AddsFromSocket G observable (frame ∷ []) group now old new
-  socket_one observable e frame group now old mid new is comes others incoming heard =
+      → (observable → ComeWithin most (listed e) old.incoming mid.incoming)
+      → mid ≡ record old { incoming = mid.incoming } → new.incoming ≡ mid.incoming
+      → AddsHeard G (frame ∷ []) group now mid new → AddsFromSocket G observable most (frame ∷ []) group now old new
+  socket_one observable most e frame group now old mid new is comes others incoming heard =
       let h = subst (λ (s : ServerValue R). AddsHeard G (frame ∷ []) group now s new) others heard in
       record {
         adds = record {
@@ -424,15 +435,13 @@ module _ {R : Type 0} (G : Gatherings R) where
           heard = h.heard;
           network = h.network;
         };
-        comes = λ t.
-            comes t ∙ ap (λ (o : Option (SocketAddr × List ℕ)). listed o ++ mid.incoming) is
-            ∙ ap (λ (l : List (SocketAddr × List ℕ)). frame ∷ l) (sym incoming);
+        comes = λ t. come_as most e (frame ∷ []) old mid new (ap listed is) incoming (comes t);
       }
 
   -- no frame
   pub socket_nothing : (observable : Type 0) (group now : GroupValue) (old new : ServerValue R) → now ≡ group → new
       ≡ old
-      → AddsFromSocket G observable [] group now old new
+      → AddsFromSocket G observable 0 [] group now old new
   socket_nothing observable group now old new is same = record {
     adds = record {
       adds = takes_nothing group now old new is same;
@@ -440,15 +449,15 @@ module _ {R : Type 0} (G : Gatherings R) where
       network =
           (ap (λ (s : ServerValue R). s.addresses.hosts) same, ap (λ (s : ServerValue R). filter_of s.addresses) same);
     };
-    comes = λ t. sym (ap (λ (s : ServerValue R). s.incoming) same);
+    comes = λ t. come_none 0 old.incoming new.incoming (ap (λ (s : ServerValue R). s.incoming) same);
   }
 
   -- and no further one
-  pub socket_still : (observable : Type 0) (xs : List (SocketAddr × List ℕ)) (group one now : GroupValue)
-      (old mid new : ServerValue R) → AddsFromSocket G observable xs group one old mid → now ≡ one
-      → record new { incoming = mid.incoming } ≡ mid → (observable → new.incoming ≡ mid.incoming)
-      → AddsFromSocket G observable xs group now old new
-  socket_still observable xs group one now old mid new a is same none =
+  pub socket_still : (observable : Type 0) (most : ℕ) (xs : List (SocketAddr × List ℕ)) (group one now : GroupValue)
+      (old mid new : ServerValue R) → AddsFromSocket G observable most xs group one old mid → now ≡ one
+      → record new { incoming = mid.incoming } ≡ mid → (observable → ComeWithin 2 [] mid.incoming new.incoming)
+      → AddsFromSocket G observable (most + 2) xs group now old new
+  socket_still observable most xs group one now old mid new a is same none =
       let book : new.addresses ≡ mid.addresses = ap (λ (s : ServerValue R). s.addresses) same in
       record {
         adds = record {
@@ -464,7 +473,9 @@ module _ {R : Type 0} (G : Gatherings R) where
               (all_filtered (filter_of old.addresses) xs) old.addresses b) (sym book) a.adds.heard;
           network = subst (λ (b : AddressBook). IsSameFilter old.addresses b) (sym book) a.adds.network;
         };
-        comes = λ t. a.comes t ∙ ap (λ (l : List (SocketAddr × List ℕ)). xs ++ l) (sym (none t));
+        comes = λ t. subst
+            (λ (fs : List (SocketAddr × List ℕ)). ComeWithin (most + 2) fs old.incoming new.incoming)
+            (append-nil xs) (come_more (a.comes t) (none t));
       }
 
   -- all letters that waited were taken
@@ -585,12 +596,12 @@ module _ {R : Type 0} (S : Sayings R) (G : Gatherings R) where
     network = subst (λ (b : AddressBook). IsSameFilter old.addresses b) (sym book) network;
   }
 
-  pub ends_socket : (observable : Type 0) (e : Option (SocketAddr × List ℕ)) (frame : SocketAddr × List ℕ)
+  pub ends_socket : (observable : Type 0) (most : ℕ) (e : Option (SocketAddr × List ℕ)) (frame : SocketAddr × List ℕ)
       (group : GroupValue) (old mid new : ServerValue R) → e ≡ Some frame
-      → (observable → old.incoming ≡ listed e ++ mid.incoming) → mid ≡ record old { incoming = mid.incoming }
-      → new.incoming ≡ mid.incoming
-      → EndsHeard S G (frame ∷ []) group mid new → EndsSocket S G observable (frame ∷ []) group old new
-  ends_socket observable e frame group old mid new is comes others incoming ends =
+      → (observable → ComeWithin most (listed e) old.incoming mid.incoming)
+      → mid ≡ record old { incoming = mid.incoming } → new.incoming ≡ mid.incoming
+      → EndsHeard S G (frame ∷ []) group mid new → EndsSocket S G observable most (frame ∷ []) group old new
+  ends_socket observable most e frame group old mid new is comes others incoming ends =
       let h = subst (λ (s : ServerValue R). EndsHeard S G (frame ∷ []) group s new) others ends in
       record {
         ends = record {
@@ -603,16 +614,14 @@ module _ {R : Type 0} (S : Sayings R) (G : Gatherings R) where
           heard = h.heard;
           network = h.network;
         };
-        comes = λ t.
-            comes t ∙ ap (λ (o : Option (SocketAddr × List ℕ)). listed o ++ mid.incoming) is
-            ∙ ap (λ (l : List (SocketAddr × List ℕ)). frame ∷ l) (sym incoming);
+        comes = λ t. come_as most e (frame ∷ []) old mid new (ap listed is) incoming (comes t);
       }
 
-  pub ends_further : (observable : Type 0) (xs ys : List (SocketAddr × List ℕ)) (group one : GroupValue)
-      (old mid new : ServerValue R) → mid.cluster ≡ old.cluster
-      → AddsFromSocket G observable xs group one old mid → EndsSocket S G observable ys one mid new
-      → EndsSocket S G observable (xs ++ ys) group old new
-  ends_further observable xs ys group one old mid new cluster a b =
+  pub ends_further : (observable : Type 0) (most more all : ℕ) (xs ys : List (SocketAddr × List ℕ))
+      (group one : GroupValue) (old mid new : ServerValue R) → mid.cluster ≡ old.cluster → most + more ≤ all
+      → AddsFromSocket G observable most xs group one old mid → EndsSocket S G observable more ys one mid new
+      → EndsSocket S G observable all (xs ++ ys) group old new
+  ends_further observable most more all xs ys group one old mid new cluster le a b =
       let filter = a.adds.network.1 in
       record {
         ends = record {
@@ -630,8 +639,7 @@ module _ {R : Type 0} (S : Sayings R) (G : Gatherings R) where
               cluster filter b.ends.heard));
           network = same_network old.addresses mid.addresses new.addresses a.adds.network b.ends.network;
         };
-        comes = λ t. a.comes t ∙ ap (λ (l : List (SocketAddr × List ℕ)). xs ++ l) (b.comes t)
-            ∙ sym (append_assoc xs ys new.incoming);
+        comes = λ t. come_wider le (come_more (a.comes t) (b.comes t));
       }
 
   -- a letter has ended it

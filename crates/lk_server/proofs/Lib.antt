@@ -6,3 +6,4 @@ mod FilteredOut
 mod Acting
 mod Gatherings
 mod Turning
+mod Waiting

@@ -1,7 +1,7 @@
 -- A turn, by what was taken in it.
 use Rattle.std.proofs.Common.{◌≡◌, ◌≢◌, ◌++◌, ℕ, zero, suc, ◌≤◌, Bool, true, false, List, [], ◌∷◌, length, map, take}
-use Rattle.std.proofs.Common.{drop, Option, None, inl, inr, refl, ap, sym, ◌∙◌, subst, subst₂, append-nil, append_assoc}
-use Rattle.std.proofs.Common.{arith}
+use Rattle.std.proofs.Common.{drop, Option, Some, None, inl, inr, refl, ap, sym, ◌∙◌, subst, subst₂, append-nil}
+use Rattle.std.proofs.Common.{append_assoc, arith}
 use Rattle.std.specs.Prelude.{Result, Ok, Err, OnOk, OnErr}
 use Rattle.std.specs.declared.net.socket_addr.SocketAddr.{SocketAddr}
 use Rattle.lk_node_interface.specs.Letters.{LetterValue}
@@ -9,16 +9,18 @@ use Rattle.lk_replica.specs.Groups.{GroupValue}
 use Rattle.lk_transport.specs.Addresses.{AddressBook, Filter, filter_of, IsSameFilter}
 use Rattle.lk_server_replica.specs.Groups.{Sayings, Gatherings, GathersMore, SaysNoMore}
 use Rattle.lk_server.specs.Gatherings.{AreFound, Finds, AddsAll, EndsWithin, AddsLoopback, EndsLoopback}
-use Rattle.lk_server.specs.Gatherings.{AddsFromSocket}
-use Rattle.lk_server.specs.Gatherings.{EndsSocket, AddsWaiting, AddsGroup, EndsGroup, DeliversAllLetters, SaysNothing}
+use Rattle.lk_server.specs.Gatherings.{AddsHeard, EndsHeard, AddsWaiting, AddsGroup, EndsGroup, DeliversAllLetters}
+use Rattle.lk_server.specs.Gatherings.{SaysNothing}
 use Rattle.lk_pacing.specs.Paces.{MayFollow}
 use Rattle.lk_auth.specs.Seals.{heard}
 use Rattle.lk_transport.specs.Posts.{RecordsSenders, is_filtered_out, all_filtered}
+use Rattle.lk_transport.specs.Streams.{Stream, Receives, ReceivesOne, frames_in, listed}
+use Rattle.lk_transport.proofs.Streaming.{receives_frames, come_none, come_first}
 use Rattle.lk_server.specs.Servers.{ServerValue, DeliversLetters, DeliversNothing, HasReceived, IsSameServer, Turn}
 use Rattle.lk_server.specs.Servers.{LastTurn}
 use Rattle.lk_server.specs.Servers.{IsIdle, Given, GivenPrefix, LettersFirst, all_inputs, all_ticks, counted}
 use Rattle.lk_server.specs.Servers.{datagrams_in}
-use Rattle.lk_server.specs.Servers.{one_more_tick}
+use Rattle.lk_server.specs.Servers.{ReceivesGroup, one_more_tick}
 use Rattle.lk_pacing.specs.declared.turn_input.TurnInput.{TurnInput}
 use Rattle.lk_pacing.specs.declared.turn_input.TurnInput.TheVariants.{Nothing, Filtered, Something}
 use Rattle.lk_pacing.specs.declared.pace.Pace.{Pace}
@@ -89,6 +91,24 @@ same_by old new others = record {
   pace = ap (λ (s : ServerValue _). s.pace) others;
 }
 
+-- one receive is all that a turn receives
+group_of_one : (frames : List (SocketAddr × List ℕ)) (old new : Stream) → ReceivesOne frames old new
+    → ReceivesGroup frames old new
+group_of_one frames old new r =
+    subst (λ (fs : List (SocketAddr × List ℕ)). ReceivesGroup fs old new) (sym r.1) (only r.0 r.2)
+  where
+    only : (found : Option (SocketAddr × List ℕ)) → Receives found old new → ReceivesGroup (listed found) old new
+    only None r = r
+    only (Some d) r = (new, r, come_none 2 new new refl)
+
+-- the frames of a turn are the first of those to come
+group_first : (frames : List (SocketAddr × List ℕ)) (old new : Stream) → ReceivesGroup frames old new
+    → frames_in old ≡ frames ++ frames_in new
+group_first [] old new r = receives_frames None old new r
+group_first (first ∷ further) old new r =
+    receives_frames (Some first) old r.0 r.1
+    ∙ ap (λ (l : List (SocketAddr × List ℕ)). first ∷ l) (come_first r.2)
+
 -- what is taken of the frames that came is what may be taken
 received_first : {R : Type 0} (observable : Type 0) (frames : List (SocketAddr × List ℕ)) (old new : ServerValue R)
     → HasReceived observable frames old new → LettersFirst observable (all_filtered
@@ -101,9 +121,10 @@ received_first observable frames old new r = record {
   ];
   few = omega (arith, r.few, long_as (filter_of old.addresses) frames);
   comes = λ telling empty. (
-    all_filtered (filter_of old.addresses) new.incoming,
-    ap (λ (l : List (SocketAddr × List ℕ)). all_filtered (filter_of old.addresses) l) (r.comes telling)
-        ∙ taken_more (filter_of old.addresses) frames new.incoming,
+    all_filtered (filter_of old.addresses) (frames_in new.incoming),
+    ap (λ (l : List (SocketAddr × List ℕ)). all_filtered (filter_of old.addresses) l)
+        (group_first frames old.incoming new.incoming (r.comes telling empty))
+        ∙ taken_more (filter_of old.addresses) frames (frames_in new.incoming),
   );
 }
 
@@ -114,8 +135,9 @@ pub received_on : {R : Type 0} (observable : Type 0) (frames : List (SocketAddr 
 received_on observable frames old mid new still r = record {
   alone = r.alone;
   few = r.few;
-  comes = λ telling. r.comes telling ∙ ap (λ (l : List (SocketAddr × List ℕ)). frames ++ l) (sym (still telling));
-  waited = r.waited;
+  waits = λ telling some. still telling ∙ r.waits telling some;
+  comes = λ telling empty. subst (λ (s : Stream). ReceivesGroup frames old.incoming s) (sym (still telling))
+      (r.comes telling empty);
 }
 
 module _ {R : Type 0} (S : Sayings R) (G : Gatherings R) (observable : Type 0) where
@@ -125,40 +147,40 @@ module _ {R : Type 0} (S : Sayings R) (G : Gatherings R) (observable : Type 0) w
   pub socket_group : (frame : SocketAddr × List ℕ) (frames : List (SocketAddr × List ℕ)) (group now : GroupValue)
       (old new : ServerValue R) → old.loopback ≡ [] → new.loopback ≡ old.loopback → length frames ≤ 63
       → is_filtered_out (filter_of old.addresses) frame ≡ false
-      → AddsFromSocket G observable (frame ∷ frames) group now old new → AddsWaiting G observable
-      (frame ∷ frames) group now old new
-  socket_group frame frames group now old new none loopback few apart t = record {
+      → (observable → ReceivesGroup (frame ∷ frames) old.incoming new.incoming)
+      → AddsHeard G (frame ∷ frames) group now old new → AddsWaiting G observable (frame ∷ frames) group now old new
+  socket_group frame frames group now old new none loopback few apart comes t = record {
     received = record {
       alone = inl none;
       few = omega (arith, few);
-      comes = t.comes;
-      waited = λ telling empty is. absurd (cc is);
+      waits = λ telling some. absurd (some none);
+      comes = λ telling empty. comes telling;
     };
     adds = subst (λ (o : List LetterValue). AddsAll G
         (datagrams_in (take 64 o) (all_filtered (filter_of old.addresses) (frame ∷ frames))) group now old new)
-        (sym none) t.adds.adds;
+        (sym none) t.adds;
     some = some_datagrams (filter_of old.addresses) (take 64 old.loopback) frame frames
         (ap (λ (o : List LetterValue). take 64 o) none) apart;
     left = loopback ∙ none ∙ sym (ap (λ (o : List LetterValue). drop 64 o) none);
-    heard = t.adds.heard;
-    network = t.adds.network;
+    heard = t.heard;
+    network = t.network;
   }
 
   pub socket_ends : (frame : SocketAddr × List ℕ) (frames : List (SocketAddr × List ℕ)) (group : GroupValue)
       (old new : ServerValue R) → old.loopback ≡ [] → new.loopback ≡ old.loopback → length frames ≤ 63
-      → is_filtered_out (filter_of old.addresses) frame ≡ false → EndsSocket S G observable
-      (frame ∷ frames) group old new
-      → EndsGroup S G observable (frame ∷ frames) group old new
-  socket_ends frame frames group old new none loopback few apart t =
+      → is_filtered_out (filter_of old.addresses) frame ≡ false
+      → (observable → ReceivesGroup (frame ∷ frames) old.incoming new.incoming)
+      → EndsHeard S G (frame ∷ frames) group old new → EndsGroup S G observable (frame ∷ frames) group old new
+  socket_ends frame frames group old new none loopback few apart comes t =
       let e = subst (λ (o : List LetterValue). EndsWithin S G
       (datagrams_in (take 0 o) (all_filtered (filter_of old.addresses) (frame ∷ frames))) group old new)
-      (sym none) t.ends.ends in
+      (sym none) t.ends in
       record {
         received = record {
           alone = inl none;
           few = omega (arith, few);
-          comes = t.comes;
-          waited = λ telling empty is. absurd (cc is);
+          waits = λ telling some. absurd (some none);
+          comes = λ telling empty. comes telling;
         };
         count = 0;
         letters = record { at_most = omega arith; some = λ is. none };
@@ -175,8 +197,8 @@ module _ {R : Type 0} (S : Sayings R) (G : Gatherings R) (observable : Type 0) w
         silent = e.silent;
         ticks = e.ticks;
         left = loopback ∙ none ∙ sym (ap (λ (o : List LetterValue). drop 0 o) none);
-        heard = t.ends.heard;
-        network = t.ends.network;
+        heard = t.heard;
+        network = t.network;
       }
 
   -- letters of the node to itself: a first one, and further ones
@@ -185,8 +207,8 @@ module _ {R : Type 0} (S : Sayings R) (G : Gatherings R) (observable : Type 0) w
   own_received l rest old new loopback still = record {
     alone = inr refl;
     few = omega arith;
-    comes = λ telling. sym still;
-    waited = λ telling empty is. absurd (let both : l ∷ rest ≡ [] = sym loopback ∙ empty in cc both);
+    waits = λ telling some. still;
+    comes = λ telling empty. absurd (let both : l ∷ rest ≡ [] = sym loopback ∙ empty in cc both);
   }
 
   pub own_group : (l : LetterValue) (group one now : GroupValue) (old mid new : ServerValue R) → old.loopback
@@ -373,9 +395,10 @@ module _ {R : Type 0} (S : Sayings R) (G : Gatherings R) (observable : Type 0) w
     alone_received = record {
       alone = inl loopback;
       few = found_few (filter_of old.addresses) found frames f.are;
-      comes = λ telling. f.comes telling
-          ∙ ap (λ (l : List (SocketAddr × List ℕ)). frames ++ l) (sym (ap (λ (s : ServerValue R). s.incoming) same));
-      waited = λ telling empty is. f.none telling is;
+      waits = λ telling some. absurd (some loopback);
+      comes = λ telling empty. subst (λ (s : Stream). ReceivesGroup frames old.incoming s)
+          (sym (ap (λ (s : ServerValue R). s.incoming) same))
+          (group_of_one frames old.incoming mid.incoming (f.comes telling));
     }
 
     alone_book : new.addresses ≡ old.addresses

@@ -7,6 +7,7 @@ use Rattle.lk_pacing.specs.declared.turn_input.TurnInput.{TurnInput}
 use Rattle.lk_pacing.specs.declared.turn_input.TurnInput.TheVariants.{Nothing, Filtered, Something}
 use Rattle.lk_transport.specs.Addresses.{Filter, filter_of, IsSameFilter}
 use Rattle.lk_transport.specs.Posts.{RecordsSenders, is_filtered_out, all_filtered}
+use Rattle.lk_transport.specs.Streams.{ReceivesOne, ComeWithin}
 use Rattle.lk_server.specs.Servers.{ServerValue, all_inputs, all_ticks, counted, datagrams_in, Given, GivenPrefix}
 use Rattle.lk_server.specs.Servers.{HasReceived, IsPrefix, TakesLetters, DeliversLetters}
 
@@ -17,13 +18,12 @@ AreFound s Nothing frames = frames ≡ []
 AreFound s Filtered frames = (frame : SocketAddr × List ℕ) × (frames ≡ frame ∷ []) × (is_filtered_out s frame ≡ true)
 AreFound s Something frames = ⊥
 
--- these frames were found at the socket, and a replica is given nothing of them; where there is none, nothing was to
--- come, if the socket tells that; and nothing else is changed
+-- one receive found these frames, one or none, if the socket tells that; a replica is given nothing of them, and
+-- nothing else is changed
 pub record Finds {R : Type 0} (observable : Type 0) (found : TurnInput) (frames : List (SocketAddr × List ℕ))
     (old new : ServerValue R) : Type 0 where
   pub are : AreFound (filter_of old.addresses) found frames
-  pub none : observable → frames ≡ [] → old.incoming ≡ []
-  pub comes : observable → old.incoming ≡ frames ++ new.incoming
+  pub comes : observable → ReceivesOne frames old.incoming new.incoming
   pub same : record new { incoming = old.incoming } ≡ old
 
 -- ---- what a part of a turn may change: a datagram that the replica takes, a letter of the node to itself, what comes
@@ -97,11 +97,11 @@ module _ {R : Type 0} (Gathers : Gatherings R) where
     pub heard : RecordsSenders old.cluster (all_filtered (filter_of old.addresses) frames) old.addresses new.addresses
     pub network : IsSameFilter old.addresses new.addresses
 
-  -- their content was taken, and exactly these frames came from the socket, in order
-  pub record AddsFromSocket (observable : Type 0) (frames : List (SocketAddr × List ℕ)) (group now : GroupValue)
-      (old new : ServerValue R) : Type 0 where
+  -- their content was taken, and exactly these frames came from the socket, in order, in at most so many receives
+  pub record AddsFromSocket (observable : Type 0) (most : ℕ) (frames : List (SocketAddr × List ℕ))
+      (group now : GroupValue) (old new : ServerValue R) : Type 0 where
     pub adds : AddsHeard frames group now old new
-    pub comes : observable → old.incoming ≡ frames ++ new.incoming
+    pub comes : observable → ComeWithin most frames old.incoming new.incoming
 
   -- what waits is taken: letters of the node to itself, or these frames of the socket
   pub record AddsWaiting (observable : Type 0) (frames : List (SocketAddr × List ℕ)) (group now : GroupValue)
@@ -153,11 +153,12 @@ module _ {R : Type 0} (Says : Sayings R) (Gathers : Gatherings R) where
     pub heard : RecordsSenders old.cluster (all_filtered (filter_of old.addresses) frames) old.addresses new.addresses
     pub network : IsSameFilter old.addresses new.addresses
 
-  -- the replica ended at their content, and exactly these frames came from the socket, in order
-  pub record EndsSocket (observable : Type 0) (frames : List (SocketAddr × List ℕ)) (group : GroupValue)
+  -- the replica ended at their content, and exactly these frames came from the socket, in order, in at most so many
+  -- receives
+  pub record EndsSocket (observable : Type 0) (most : ℕ) (frames : List (SocketAddr × List ℕ)) (group : GroupValue)
       (old new : ServerValue R) : Type 0 where
     pub ends : EndsHeard frames group old new
-    pub comes : observable → old.incoming ≡ frames ++ new.incoming
+    pub comes : observable → ComeWithin most frames old.incoming new.incoming
 
   -- the replica ended at the input of a turn
   pub record EndsGroup (observable : Type 0) (frames : List (SocketAddr × List ℕ)) (group : GroupValue)

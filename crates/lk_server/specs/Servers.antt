@@ -1,6 +1,6 @@
 -- The input that a server gives to its replica, and the fate of the letters.
-use Rattle.std.specs.Prelude.{◌≡◌, ◌⊎◌, ◌≤◌, Bool, true, false, ◌+◌, ◌%◌, ◌^◌, ℕ, List, [], ◌∷◌, ◌++◌, length, map, min}
-use Rattle.std.specs.Prelude.{take, drop, Option, Some, None, if◌then◌else◌}
+use Rattle.std.specs.Prelude.{◌≡◌, ◌≢◌, ◌⊎◌, ◌≤◌, Bool, true, false, ◌+◌, ◌*◌, ◌%◌, ◌^◌, ℕ, List, [], ◌∷◌, ◌++◌}
+use Rattle.std.specs.Prelude.{length, map, min, take, drop, Option, Some, None, if◌then◌else◌}
 use Rattle.std.specs.declared.net.socket_addr.SocketAddr.{SocketAddr}
 use Rattle.lk_types.specs.Ranges.{IsClient}
 use Rattle.lk_node_interface.specs.Letters.{LetterValue}
@@ -8,6 +8,7 @@ use Rattle.lk_replica.specs.Posts.{CarriesAll}
 use Rattle.lk_transport.specs.Addresses.{AddressBook, filter_of, client_at, node_at}
 use Rattle.lk_pacing.specs.Paces.{ticks_after, MayFollow}
 use Rattle.lk_transport.specs.Posts.{RecordsSenders, SendState, Becomes, all_filtered}
+use Rattle.lk_transport.specs.Streams.{Stream, Receives, ReceivesOne, ComeWithin, frames_in}
 use Rattle.lk_transport.specs.declared.network.Network.{Network}
 use Rattle.lk_pacing.specs.declared.pace.Pace.{Pace}
 use Rattle.lk_pacing.specs.declared.pace.Pace.TheVariants.{Clock}
@@ -31,8 +32,8 @@ pub record ServerValue (R : Type 0) : Type 0 where
   -- what its socket has sent, and how many of its sends failed
   pub sent : List (SocketAddr × List ℕ)
   pub socket_failures : ℕ
-  -- the frames that are to come to it, in order
-  pub incoming : List (SocketAddr × List ℕ)
+  -- what its receives are to find, in order
+  pub incoming : Stream
 
 -- it serves as this node of this cluster, with this pace, these hosts and these keys
 pub record IsConfiguredAs {R : Type 0} (c n : ℕ) (p : Pace) (known : Network) (s : ServerValue R) : Type 0 where
@@ -55,9 +56,9 @@ pub record Runs {R : Type 0} (r : R) (ended : Bool) (s : ServerValue R) : Type 0
   pub replica : s.replica ≡ r
   pub failed : s.failed ≡ ended
 
--- it serves on a socket that has sent these datagrams, with this many failed sends and these datagrams to come
-pub record HasSocket {R : Type 0} (datagrams : List (SocketAddr × List ℕ)) (count : ℕ)
-    (next : List (SocketAddr × List ℕ)) (s : ServerValue R) : Type 0 where
+-- it serves on a socket that has sent these datagrams, with this many failed sends and this for its receives to find
+pub record HasSocket {R : Type 0} (datagrams : List (SocketAddr × List ℕ)) (count : ℕ) (next : Stream)
+    (s : ServerValue R) : Type 0 where
   pub sent : s.sent ≡ datagrams
   pub failures : s.socket_failures ≡ count
   pub incoming : s.incoming ≡ next
@@ -154,15 +155,21 @@ pub record DeliversNothing {R : Type 0} (Says : R → List (Option (List ℕ)) �
 -- ---- a turn. `frames` are those that came from the socket in it, in order, and `came` is what was taken of them, each
 -- with its source and bytes
 
--- these frames came: none where letters of the node to itself wait, and at most 64. They are the first of those that
--- were to come, the others are still to come, and where the server looked at the socket and none came, none was to
--- come, if the socket tells that
+-- what a turn receives where it looks at the socket: its first receive found nothing, and was the only one; or it found
+-- the first of these frames, and the further ones came in at most two receives each, with two more behind the last
+abbrev pub ReceivesGroup : List (SocketAddr × List ℕ) → Stream → Stream → Type 0
+ReceivesGroup [] old new = Receives None old new
+ReceivesGroup (first ∷ further) old new =
+    (mid : Stream) × Receives (Some first) old mid × ComeWithin (2 * length further + 2) further mid new
+
+-- these frames came: none where letters of the node to itself wait, and at most 64. Where letters wait nothing is
+-- received; else exactly these frames are what the receives of the turn found, in order, if the socket tells that
 pub record HasReceived {R : Type 0} (observable : Type 0) (frames : List (SocketAddr × List ℕ))
     (old new : ServerValue R) : Type 0 where
   pub alone : (old.loopback ≡ []) ⊎ (frames ≡ [])
   pub few : length frames ≤ 64
-  pub comes : observable → old.incoming ≡ frames ++ new.incoming
-  pub waited : observable → old.loopback ≡ [] → frames ≡ [] → old.incoming ≡ []
+  pub waits : observable → old.loopback ≢ [] → new.incoming ≡ old.incoming
+  pub comes : observable → old.loopback ≡ [] → ReceivesGroup frames old.incoming new.incoming
 
 -- what may be taken of the socket: nothing where letters of the node to itself wait, at most 64 datagrams, and the
 -- first of what is to come if the socket tells that
@@ -170,7 +177,8 @@ pub record LettersFirst {R : Type 0} (observable : Type 0) (came : List (SocketA
     (old : ServerValue R) : Type 0 where
   pub alone : (old.loopback ≡ []) ⊎ (came ≡ [])
   pub few : length came ≤ 64
-  pub comes : observable → old.loopback ≡ [] → IsPrefix came (all_filtered (filter_of old.addresses) old.incoming)
+  pub comes : observable → old.loopback ≡ []
+      → IsPrefix came (all_filtered (filter_of old.addresses) (frames_in old.incoming))
 
 -- so many letters of the node to itself are taken: at most 64, and at least one where some wait
 pub record TakesLetters (count : ℕ) (loopback : List LetterValue) : Type 0 where
@@ -215,15 +223,15 @@ pub record LastTurn {R : Type 0} (Says : R → List (Option (List ℕ)) → List
   pub same : IsSameServer old new
   pub ended : new.failed ≡ true
 
--- An idle turn: no letter of the node to itself waited, these frames came, and none of them says anything to the
--- replica. It was given nothing, nothing was sent, and nothing is changed but what is to come: that is now what follows
--- these frames. By datagrams a turn in which no frame comes is never idle: it is a tick
+-- An idle turn: no letter of the node to itself waited, one receive found these frames, one or none, which say nothing
+-- to the replica. It was given nothing, nothing was sent, and nothing is changed but what is to come: that is now what
+-- follows that receive. By datagrams a turn in which no frame comes is never idle: it is a tick
 pub record IsIdle {R : Type 0} (observable : Type 0) (frames : List (SocketAddr × List ℕ))
     (old new : ServerValue R) : Type 0 where
   pub loopback : old.loopback ≡ []
   pub none : all_filtered (filter_of old.addresses) frames ≡ []
   pub clock : frames ≡ [] → old.pace ≡ Clock
-  pub comes : observable → old.incoming ≡ frames ++ new.incoming
+  pub comes : observable → ReceivesOne frames old.incoming new.incoming
   pub same : record new { incoming = old.incoming } ≡ old
 
 -- a turn in which these frames came: its replica was given what was taken of them, or what waited, or a tick; or the

@@ -1,8 +1,8 @@
 //! Pauses before a sync, so that a datagram that arrives in the pause shares it.
 
-ghost use Rattle.std.specs.Prelude.{◌≡◌, ◌↔◌, ◌+◌, ◌++◌, [], None, true, IsTrue};
-ghost use Rattle.lk_server.specs.Pauses.{IsPauseDue};
-ghost use Rattle.lk_transport.specs.ReceiveBuffers.{listed};
+ghost use Rattle.std.specs.Prelude.{◌≡◌, ◌↔◌, ◌+◌, None, true, IsTrue};
+ghost use Rattle.lk_server.specs.Pauses.{IsPauseDue, ReceivesAfterPause, ReceivesOrPauses};
+ghost use Rattle.lk_transport.specs.Streams.{first_of};
 
 use crate::server::Server;
 use lk_pacing::sync_pause::SyncPause;
@@ -42,8 +42,9 @@ fn receive_after_pause<S: DatagramSocket + Drop, C: Clock>(
 )
     // A datagram that arrived in the pause is in the buffer.
     ensures comes { S.is_observable → buffer.old.last ≡ None
-        → post.old.incoming ≡ listed buffer.new.last ++ post.new.incoming }
-    ensures none { S.is_observable → IsPauseDue pause.old group.now → buffer.new.last ≡ None → post.old.incoming ≡ [] }
+        → ReceivesAfterPause (IsPauseDue pause.old group.now) buffer.new.last post.old.incoming post.new.incoming }
+    // Without a pause the buffer holds what it held.
+    ensures skips { (IsPauseDue pause.old group.now → ⊥) → (buffer.new ≡ buffer.old) × (post.new ≡ post.old) }
     ensures pauses { IsPauseDue pause.old group.now → pause.new.left + 1 ≡ pause.old.left }
     ensures asked { buffer.new.asked ≡ buffer.old.asked }
     ensures reported { buffer.new.reported ≡ buffer.old.reported }
@@ -63,10 +64,11 @@ pub(crate) fn receive_or_pause<S: DatagramSocket + Drop, C: Clock>(
     tick_timer: &TickTimer<C>,
     group: &Group,
 )
-    ensures comes { S.is_observable → post.old.incoming ≡ listed buffer.new.last ++ post.new.incoming }
-    ensures none { S.is_observable → buffer.new.last ≡ None → post.old.incoming ≡ [] }
+    // What is waiting is in the buffer; if nothing is, what a receive after the pause finds.
+    ensures comes { S.is_observable
+        → ReceivesOrPauses (IsPauseDue pause.old group.now) buffer.new.last post.old.incoming post.new.incoming }
     // Where none is waiting it pauses if that is due.
-    ensures pauses { S.is_observable → post.old.incoming ≡ [] → IsPauseDue pause.old group.now
+    ensures pauses { S.is_observable → first_of post.old.incoming ≡ None → IsPauseDue pause.old group.now
         → pause.new.left + 1 ≡ pause.old.left }
     ensures asked { buffer.new.asked ≡ buffer.old.asked }
     ensures reported { buffer.new.reported ≡ buffer.old.reported }

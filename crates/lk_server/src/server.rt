@@ -137,28 +137,6 @@ impl<R: ServerReplica, S: DatagramSocket + Drop> Server<R, S> {
         events
     }
 
-    /// Drops the server with its socket, and returns the replica.
-    pub fn into_replica(self) -> R
-        ensures { result ≡ self.replica }
-    {
-        let Server {
-            alloc: _,
-            cluster: _,
-            pace: _,
-            replica,
-            post: _,
-            received: _,
-            ignored: _,
-            events: _,
-            ticks: _,
-            unsent: _,
-            table: _,
-            sync_pause: _,
-            stranger_warned: _,
-        } = self;
-        replica
-    }
-
     // Begins a group.
     fn new_group(&self) -> Group
         ensures { R.Gathers self.now.replica [] result self.now.replica }
@@ -276,11 +254,11 @@ pub fn node_turn<R: ServerReplica, S: DatagramSocket + Drop, C: Clock, L: Log>(
     log: &L,
 ) -> Result<(), GroupFault>
     // If letters of the node to itself wait, it takes the first 64 of them, once and in order, and nothing of the
-    // socket. Otherwise it takes the frames that came next, at most 64, and at least one if one was to come: of each
-    // what it opens to, from where it came. No other frame is lost. The replica was given exactly that, as one group,
-    // and a tick if one was due. Each of its letters was sent, kept for the node itself, lost by a failed send, or
-    // dropped since no address is known, in order, and nothing else was sent. A turn that gives the replica nothing is
-    // idle. Of the probes in these frames the first is kept, unless one was kept before.
+    // socket. Otherwise it takes the frames that its receives find, at most 64, and at least one if the first receive
+    // finds one: of each what it opens to, from where it came. No other frame is lost. The replica was given exactly
+    // that, as one group, and a tick if one was due. Each of its letters was sent, kept for the node itself, lost by a
+    // failed send, or dropped since no address is known, in order, and nothing else was sent. A turn that gives the
+    // replica nothing is idle. Of the probes in these frames the first is kept, unless one was kept before.
     ensures turn { OnOk result
         ((frames : List (Address × List ℕ)) × HasReceived S.is_observable frames server.old server.new
         × TurnOrIdle R.Says S.is_observable frames server.old server.new

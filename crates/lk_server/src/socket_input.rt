@@ -3,13 +3,13 @@
 //! `add_from_socket` takes the first datagram (`add_first_datagram`) and then up to 63 that wait behind it
 //! (`add_next_datagram`). `add_received` filters each.
 
-ghost use Rattle.std.specs.Prelude.{◌≡◌, ◌≤◌, ◌++◌, ℕ, List, ◌∷◌, [], length, Some, None, true, false, OnOk, OnErr};
+ghost use Rattle.std.specs.Prelude.{◌≡◌, ◌≤◌, ◌+◌, ◌*◌, ℕ, List, ◌∷◌, [], length, Some, None, true, false, OnOk, OnErr};
 ghost use Rattle.std.specs.Prelude.{IfOk};
 ghost use Rattle.std.specs.declared.net.socket_addr.SocketAddr.{SocketAddr as Address};
 ghost use Rattle.lk_transport.specs.Addresses.{filter_of, IsSameFilter};
 ghost use Rattle.lk_server.specs.Gatherings.{Finds, AddsHeard, EndsHeard, AddsFromSocket, EndsSocket, AddsWaiting};
 ghost use Rattle.lk_server.specs.Gatherings.{EndsGroup, ChangesAtFrame, ChangesAtSocket};
-ghost use Rattle.lk_transport.specs.ReceiveBuffers.{listed};
+ghost use Rattle.lk_transport.specs.Streams.{Receives, ComeWithin, first_of, listed};
 ghost use Rattle.lk_transport.specs.Posts.{RecordsSender, is_filtered_out};
 ghost use Rattle.lk_transport.specs.Kept.{KeepsProbes, KeepsOf};
 
@@ -33,8 +33,7 @@ use std::time::Clock;
 impl<R: ServerReplica, S: DatagramSocket + Drop> Server<R, S> {
     // Receives the next datagram of the socket into the buffer, if one arrives before the timeout.
     pub(crate) fn receive(&mut self, buffer: &mut ReceiveBuffer)
-        ensures comes { S.is_observable → self.old.incoming ≡ listed buffer.new.last ++ self.new.incoming }
-        ensures none { S.is_observable → buffer.new.last ≡ None → self.old.incoming ≡ [] }
+        ensures comes { S.is_observable → Receives buffer.new.last self.old.incoming self.new.incoming }
         ensures asked { buffer.new.asked ≡ buffer.old.asked }
         ensures reported { buffer.new.reported ≡ buffer.old.reported }
         ensures others { self.new ≡ record self.old { incoming = self.new.incoming } }
@@ -50,8 +49,9 @@ impl<R: ServerReplica, S: DatagramSocket + Drop> Server<R, S> {
         tick_timer: &TickTimer<C>,
         group: &Group,
     )
-        ensures comes { S.is_observable → self.old.incoming ≡ listed buffer.new.last ++ self.new.incoming }
-        ensures none { S.is_observable → buffer.new.last ≡ None → self.old.incoming ≡ [] }
+        ensures comes { S.is_observable
+            → ComeWithin 2 (listed buffer.new.last) self.old.incoming self.new.incoming }
+        ensures none { S.is_observable → buffer.new.last ≡ None → first_of self.old.incoming ≡ None }
         ensures asked { buffer.new.asked ≡ buffer.old.asked }
         ensures reported { buffer.new.reported ≡ buffer.old.reported }
         ensures others { self.new ≡ record self.old { incoming = self.new.incoming } }
@@ -150,7 +150,7 @@ impl<R: ServerReplica, S: DatagramSocket + Drop> Server<R, S> {
         ensures adds { IfOk result
             (λ found. found ≡ TurnInput.Something
             → (frame : Address × List ℕ) × (is_filtered_out (filter_of self.old.addresses) frame ≡ false)
-            × AddsFromSocket R.Gathers S.is_observable (frame ∷ []) group.old group.new self.old self.new
+            × AddsFromSocket R.Gathers S.is_observable 1 (frame ∷ []) group.old group.new self.old self.new
             × KeepsOf self.old.node self.old.addresses.seals (frame ∷ []) buffer.old buffer.new) }
         ensures none { IfOk result
             (λ found. (found ≡ TurnInput.Something → ⊥)
@@ -158,7 +158,7 @@ impl<R: ServerReplica, S: DatagramSocket + Drop> Server<R, S> {
             × (group.new ≡ group.old) × KeepsOf self.old.node self.old.addresses.seals frames buffer.old buffer.new) }
         ensures ends { OnErr result
             ((frame : Address × List ℕ) × (is_filtered_out (filter_of self.old.addresses) frame ≡ false)
-            × EndsSocket R.Says R.Gathers S.is_observable (frame ∷ []) group.old self.old self.new) }
+            × EndsSocket R.Says R.Gathers S.is_observable 1 (frame ∷ []) group.old self.old self.new) }
         ensures others { ChangesAtSocket self.old self.new }
         ensures broken { OnErr result (self.new.failed ≡ true) }
     {
@@ -177,15 +177,16 @@ impl<R: ServerReplica, S: DatagramSocket + Drop> Server<R, S> {
     ) -> Result<bool, GroupFault>
         ensures adds { IfOk result
             (λ came. came ≡ true → (frame : Address × List ℕ)
-            × AddsFromSocket R.Gathers S.is_observable (frame ∷ []) group.old group.new self.old self.new
+            × AddsFromSocket R.Gathers S.is_observable 2 (frame ∷ []) group.old group.new self.old self.new
             × KeepsOf self.old.node self.old.addresses.seals (frame ∷ []) buffer.old buffer.new) }
+        // What it has received then is nothing, at once and after a pause.
         ensures none { IfOk result
-            (λ came. came ≡ false → (S.is_observable → self.new.incoming ≡ self.old.incoming)
+            (λ came. came ≡ false → (S.is_observable → ComeWithin 2 [] self.old.incoming self.new.incoming)
             × (record self.new { incoming = self.old.incoming } ≡ self.old) × (group.new ≡ group.old)
             × (buffer.new.asked ≡ buffer.old.asked) × (buffer.new.reported ≡ buffer.old.reported)) }
         ensures ends { OnErr result
             ((frame : Address × List ℕ)
-            × EndsSocket R.Says R.Gathers S.is_observable (frame ∷ []) group.old self.old self.new) }
+            × EndsSocket R.Says R.Gathers S.is_observable 2 (frame ∷ []) group.old self.old self.new) }
         ensures others { ChangesAtSocket self.old self.new }
         ensures broken { OnErr result (self.new.failed ≡ true) }
     {
@@ -211,11 +212,13 @@ impl<R: ServerReplica, S: DatagramSocket + Drop> Server<R, S> {
     ) -> Result<(), GroupFault>
         ensures adds { OnOk result
             ((frames : List (Address × List ℕ)) × (length frames ≤ 63)
-            × AddsFromSocket R.Gathers S.is_observable frames group.old group.new self.old self.new
+            × AddsFromSocket R.Gathers S.is_observable (2 * length frames + 2) frames group.old group.new
+            self.old self.new
             × KeepsOf self.old.node self.old.addresses.seals frames buffer.old buffer.new) }
         ensures ends { OnErr result
             ((frames : List (Address × List ℕ)) × (length frames ≤ 63)
-            × EndsSocket R.Says R.Gathers S.is_observable frames group.old self.old self.new) }
+            × EndsSocket R.Says R.Gathers S.is_observable (2 * length frames + 2) frames group.old
+            self.old self.new) }
         ensures others { ChangesAtSocket self.old self.new }
         ensures broken { OnErr result (self.new.failed ≡ true) }
     {

@@ -77,6 +77,11 @@ module _ {R : Type 0} (Shows : R → Genesis → ℕ → Holding → Type 0) (di
   request_asked L l r c = let at = at_place L (Request r) c in
       chosen_asked (suc at.0) (Request r) (entry_chosen genesis sent L l (suc at.0) (Request r) at.1)
 
+  -- and so was each request of a chosen list noted
+  pub asked : (L : List Command) → Chosen genesis sent L → (r : RequestValue) → Contains L (Request r)
+      → Contains trace (note.Asked r)
+  asked L l r c = noted_asked trace r (request_asked L l r c)
+
   pub ordered : InOrder genesis sent trace
   ordered = ordering.in_order m genesis sent sound trace w.in_time noted_asked
 
@@ -85,7 +90,7 @@ module _ {R : Type 0} (Shows : R → Genesis → ℕ → Holding → Type 0) (di
 
   pub explains : Explains m genesis sent trace w.list
   explains = record {
-    asked = λ r c. noted_asked trace r (request_asked w.list w.chosen r c);
+    asked = asked w.list w.chosen;
     ran = λ n i v c. w.notes (note.Ran n i v) c;
     among = λ n i set v c. let b = w.notes (note.Counted n i set v) c in (b.0, b.1);
     counted = λ n i set v u c at. one_chosen genesis sent sound i v u (w.notes (note.Counted n i set v) c).2
@@ -105,7 +110,7 @@ module _ {R : Type 0} (Shows : R → Genesis → ℕ → Holding → Type 0) (di
   packed_lists : (n : ℕ) (d : Side → Disk) → DisksFit m (happened genesis sent trace) n d
       → KeepsPacked m genesis sent n d
   packed_lists n d f image may = let i = f image may in
-      (i.standing, i.stands, (i.under, i.stems.done, i.position, i.snapshot))
+      (i.standing, i.stands, (i.under, i.stems.done, i.position, i.snapshot), i.near)
 
   pub states : (whole : R → WholeValue)
       → ((r : R) (g : Genesis) (n : ℕ) (x : Holding) → Shows r g n x → SumsUp m g x.paxos.done (whole r))

@@ -29,8 +29,8 @@ pub heard_sent : {R : Type 0} (Shows : R → Genesis → ℕ → Holding → Typ
 heard_sent Shows disks m genesis seats sent trace w d c bytes e = record {
   said = λ n x said. heard_was_sent genesis sent w.world.sound d c n x
       (subst (λ b. Spells (said_by genesis n x) b) e said);
-  asked = λ r cluster said. w.requests d r cluster c
-      (subst (λ b. Spells (record { cluster = cluster; content = content.Request r }) b) e said);
+  asked = λ r said. w.requests d r genesis.cluster c
+      (subst (λ b. Spells (record { cluster = genesis.cluster; content = content.Request r }) b) e said);
 }
 
 got : {X : Type 0} (xs : List X) (k : ℕ) (x : X) → slice_get xs k ≡ Some x → Contains xs x
@@ -74,7 +74,7 @@ pub heard_request : (genesis : Genesis) (sent : List Datagram) (trace all : List
     → IsHeard (happened genesis sent all) bytes
 heard_request genesis sent trace all bytes r reads e = record {
   said = λ n x said. let q = reads (said_by genesis n x) said in absurd (nobody n x q.0 q.1);
-  asked = λ q cluster said. let p = reads (record { cluster = cluster; content = content.Request q }) said in
+  asked = λ q said. let p = reads (record { cluster = genesis.cluster; content = content.Request q }) said in
       subst (λ l. Contains (asked_in l) q) (sym e)
       (subst (λ z. Contains (asked_in (trace ++ note.Asked r ∷ [])) z)
       (same_some r p.0 p.2 ∙ sym (same_request q p.0 p.1)) (asked_last trace r));
@@ -84,7 +84,8 @@ heard_request genesis sent trace all bytes r reads e = record {
 pub heard_nothing : (h : History) (bytes : List ℕ) → Reads bytes None → IsHeard h bytes
 heard_nothing h bytes reads = record {
   said = λ n x said. absurd (cc ((reads (said_by h.genesis n x) said).2));
-  asked = λ q cluster said. absurd (cc ((reads (record { cluster = cluster; content = content.Request q }) said).2));
+  asked = λ q said. absurd
+      (cc ((reads (record { cluster = h.genesis.cluster; content = content.Request q }) said).2));
 }
 
 -- what was read, and nothing else, is spelled

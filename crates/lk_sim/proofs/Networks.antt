@@ -29,7 +29,7 @@ use Rattle.lk_sim_nodes.specs.declared.seat.Life.{Life}
 use Rattle.lk_sim_nodes.specs.declared.seat.Life.TheVariants.{Up, Down}
 use Rattle.lk_sim.proofs.Asking.{asked_last}
 use Rattle.lk_sim_nodes.proofs.Fitting.{stopped_fit, node_fits, down_fits}
-use Rattle.lk_sim.proofs.Explaining.{lawful, explains, agree, states, ordered, told_in_time}
+use Rattle.lk_sim.proofs.Explaining.{lawful, asked as all_asked, explains, agree, states, ordered, told_in_time}
 use Rattle.lk_sim.proofs.Keeping.{room, covered, kept}
 use Rattle.lk_sim.specs.Guarantees.{WorldGuarantee}
 use Rattle.lk_replica.specs.Behaviours.{Behaviour, disks_by}
@@ -44,17 +44,17 @@ use Rattle.lk_sim.proofs.Starting.{starts}
 -- ---- what comes may be heard, once what it asks is noted
 
 heard_bytes : (genesis : Genesis) (sent : List Datagram) (trace : List Note) (bytes : List ℕ) (o : Option RequestValue)
-    → MayCome genesis sent (Some bytes) → IsRequestIn bytes o
+    → MayCome genesis sent (Some bytes) → IsRequestIn genesis.cluster bytes o
     → IsHeard (happened genesis sent (trace ++ asked_note o)) bytes
 heard_bytes genesis sent trace bytes o may asks =
-    record { said = may; asked = λ r cluster said. noted r (asks.only r cluster said) }
+    record { said = may; asked = λ r said. noted r (asks.only r said) }
   where
     noted : (r : RequestValue) → o ≡ Some r → Contains (asked_in (trace ++ asked_note o)) r
     noted r e =
         subst (λ (p : Option RequestValue). Contains (asked_in (trace ++ asked_note p)) r) (sym e) (asked_last trace r)
 
 pub heard : (genesis : Genesis) (sent : List Datagram) (trace : List Note) (came : Option (List ℕ))
-    (o : Option RequestValue) → MayCome genesis sent came → AreAsking came o
+    (o : Option RequestValue) → MayCome genesis sent came → AreAsking genesis.cluster came o
     → MayHear (happened genesis sent (trace ++ asked_note o)) came
 heard genesis sent trace None o may asks = tt
 heard genesis sent trace (Some bytes) o may asks = heard_bytes genesis sent trace bytes o may asks
@@ -251,6 +251,7 @@ pub promises_of : {R : Type 0} (Shows : R → Genesis → ℕ → Holding → Ty
     → WorldInvariant Shows (disks_by b) m w.genesis w.seats w.sent w.trace → WorldGuarantee b whole m w
 promises_of Shows b whole m sums w h = record {
   explained = (h.list, h.chosen, explains Shows (disks_by b) m w.genesis w.seats w.sent w.trace h);
+  asked = all_asked Shows (disks_by b) m w.genesis w.seats w.sent w.trace h;
   agree = agree Shows (disks_by b) m w.genesis w.seats w.sent w.trace h;
   told = h.told;
   states = states Shows (disks_by b) m w.genesis w.seats w.sent w.trace h whole sums;

@@ -1,9 +1,10 @@
 -- What is guaranteed of every world, whatever has happened in it.
-use Rattle.std.specs.Prelude.{◌≡◌, ℕ, ◌⊎◌, Some, List}
+use Rattle.std.specs.Prelude.{◌≡◌, ℕ, ◌⊎◌, Some, List, Contains}
 use Rattle.lk_agreement_laws.specs.Ballots.{BallotValue}
 use Rattle.lk_agreement_laws.specs.Chosen.{command_at, Chosen, IsPrefix}
 use Rattle.lk_agreement_laws.specs.Datagrams.{Genesis, Datagram, Vote, Accept, HasSent, WasSent}
-use Rattle.lk_node.specs.Histories.{Command}
+use Rattle.lk_node_interface.specs.declared.note.Note.TheVariants as note
+use Rattle.lk_node.specs.Histories.{Command, Request, RequestValue}
 use Rattle.lk_replica.specs.Behaviours.{Behaviour, disks_by}
 use Rattle.lk_sim.specs.Explained.{Explains}
 use Rattle.lk_sim_nodes.specs.Seats.{disks_of, At}
@@ -29,6 +30,9 @@ pub record WorldGuarantee {R : Type 0} (b : Behaviour R) (whole : R → WholeVal
     (w : Scene R) : Type 0 where
   -- some chosen list of no-ops and asked requests explains everything that was noted and sent
   pub explained : (L : List Command) × Chosen w.genesis w.sent L × Explains m w.genesis w.sent w.trace L
+  -- each request of a chosen list was asked
+  pub asked : (L : List Command) → Chosen w.genesis w.sent L → (r : RequestValue) → Contains L (Request r)
+      → Contains w.trace (note.Asked r)
   -- of two chosen lists one is a prefix of the other
   pub agree : (L K : List Command) → Chosen w.genesis w.sent L → Chosen w.genesis w.sent K
       → IsPrefix L K ⊎ IsPrefix K L

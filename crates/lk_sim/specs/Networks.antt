@@ -33,17 +33,17 @@ MayCome genesis sent None = Unit {0}
 MayCome genesis sent (Some bytes) =
     (n : ℕ) (x : NodeMessage) → Spells (said_by genesis n x) bytes → HasSent genesis sent n x
 
--- the request in the bytes, if there is one
-pub record IsRequestIn (bytes : List ℕ) (o : Option RequestValue) : Type 0 where
-  pub only : (r : RequestValue) (cluster : ℕ)
-      → Spells (record { cluster = cluster; content = content.Request r }) bytes → o ≡ Some r
+-- the request to this cluster in the bytes, if there is one. One to another cluster asks nothing here
+pub record IsRequestIn (cluster : ℕ) (bytes : List ℕ) (o : Option RequestValue) : Type 0 where
+  pub only : (r : RequestValue) → Spells (record { cluster = cluster; content = content.Request r }) bytes
+      → o ≡ Some r
   pub some : (r : RequestValue) → o ≡ Some r
-      → (cluster : ℕ) × Spells (record { cluster = cluster; content = content.Request r }) bytes
+      → Spells (record { cluster = cluster; content = content.Request r }) bytes
 
 -- the request that arrives
-abbrev pub AreAsking : Option (List ℕ) → Option RequestValue → Type 0
-AreAsking None o = o ≡ None
-AreAsking (Some bytes) o = IsRequestIn bytes o
+abbrev pub AreAsking : ℕ → Option (List ℕ) → Option RequestValue → Type 0
+AreAsking cluster None o = o ≡ None
+AreAsking cluster (Some bytes) o = IsRequestIn cluster bytes o
 
 -- a tick, or bytes that may arrive
 abbrev pub MayHear : History → Option (List ℕ) → Type 0
@@ -137,7 +137,7 @@ pub record GoesOn {R : Type 0} (Shows : R → Genesis → ℕ → Holding → Ty
   pub came : Option (List ℕ)
   pub may : MayCome old.genesis old.sent came
   pub request : Option RequestValue
-  pub asks : AreAsking came request
+  pub asks : AreAsking old.genesis.cluster came request
   pub notes : List Note
   pub told : List Note
   pub batch : List Datagram
@@ -158,7 +158,7 @@ pub record Ends {R : Type 0} (Shows : R → Genesis → ℕ → Holding → Type
   pub came : Option (List ℕ)
   pub may : MayCome old.genesis old.sent came
   pub request : Option RequestValue
-  pub asks : AreAsking came request
+  pub asks : AreAsking old.genesis.cluster came request
   pub ends : EndsBy Shows disks m seat.number before came (disk_of left)
   pub adds : Adds old new (asked_note request) []
 

@@ -11,6 +11,7 @@ use Rattle.lk_agreement_laws.specs.Chosen.{Chosen}
 use Rattle.lk_node.specs.Histories.{Genesis, Datagram, Command}
 use Rattle.lk_node.specs.Leavings.{header_of, StandsAs}
 use Rattle.lk_node.specs.BorneOut.{text}
+use Rattle.lk_node.specs.Reaching.{AllLieNear}
 use Rattle.lk_sim_nodes.specs.declared.seat.Seat.{Seat}
 use Rattle.lk_sim_nodes.specs.declared.seat.Life.TheVariants.{Up, Down}
 
@@ -19,10 +20,12 @@ abbrev pub IsPackedList : Meaning → Genesis → List Datagram → StandingValu
 IsPackedList m genesis sent s =
     (L : List Command) × Chosen genesis sent L × (length L ≡ s.position) × (s.snapshot ≡ text m genesis L)
 
--- whatever a stop may leave of the disks has such a snapshot
+-- whatever a stop may leave of the disks has such a snapshot, and no vote and no pair that lies too far above it for a
+-- restart
 abbrev pub KeepsPacked : Meaning → Genesis → List Datagram → ℕ → (Side → Disk) → Type 0
 KeepsPacked m genesis sent n disks = (image : Image) → MayLeaveBoth disks image
     → (s : StandingValue) × StandsAs (header_of genesis n) (text m genesis []) image s × IsPackedList m genesis sent s
+    × AllLieNear genesis.alpha s
 
 -- a node that is up has executed a chosen list, which its state sums up; and the snapshots of any node are packed lists
 pub record SumsUpChosen {R : Type 0} (whole : R → WholeValue) (disks : R → Side → Disk) (m : Meaning)

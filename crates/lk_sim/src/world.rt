@@ -104,8 +104,8 @@ impl<R: MemoryReplica> World<R> {
         &self.parts.sent
     }
 
-    /// Returns how the last event that was done ended a node, or `None` if it ended none. A fault has the number 7, 9
-    /// or 11.
+    /// Returns how the last event that was done ended a node, or `None` if it ended none. A fault has the number 7 or
+    /// 11.
     pub fn last_end(&self) -> Option<End>
         ensures is { result ≡ self.now.ended }
         ensures told { IsEndByCalls result }

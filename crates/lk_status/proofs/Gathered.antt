@@ -4,8 +4,9 @@ use Rattle.std.specs.Prelude.{is_some}
 use Rattle.std.specs.declared.net.socket_addr.SocketAddr.{SocketAddr}
 use Rattle.lk_probe.specs.declared.probe.Report.{Report}
 use Rattle.lk_status.specs.declared.target.Inquiry.{Inquiry}
-use Rattle.lk_transport.specs.ReceiveBuffers.{listed, next_of}
-use Rattle.lk_status.specs.Rounds.{IsOfRound, AreOfRound, Adds, HearsReport, ProbesEach, Receives, Reacts, HearsOne}
+use Rattle.lk_transport.specs.Streams.{Stream, Receives, next_of}
+use Rattle.lk_status.specs.Rounds.{IsOfRound, AreOfRound, Adds, HearsReport, ProbesEach, ReceivesNext, Reacts}
+use Rattle.lk_status.specs.Rounds.{HearsOne}
 use Rattle.lk_status.specs.Rounds.{HearsOut}
 use Rattle.lk_status.specs.Rounds.{IsRound}
 
@@ -27,12 +28,13 @@ one_more i first (other ∷ rs) r are is = (are.0, one_more i first rs r are.1 i
 
 -- ---- a receive
 
-pub received : (next last : Option (SocketAddr × List ℕ)) (old new : List (SocketAddr × List ℕ))
-    → old ≡ listed last ++ new → next ≡ last → old ≡ listed next ++ new
-received next last old new comes is = subst (λ (n : Option (SocketAddr × List ℕ)). old ≡ listed n ++ new) (sym is) comes
+pub received : (next last : Option (SocketAddr × List ℕ)) (old new : Stream) → Receives last old new → next ≡ last
+    → Receives next old new
+received next last old new comes is =
+    subst (λ (n : Option (SocketAddr × List ℕ)). Receives n old new) (sym is) comes
 
-module _ {S : Type 0} (sent incoming : S → List (SocketAddr × List ℕ)) (failures : S
-    → ℕ) (i : Inquiry) (first : ℕ) where
+module _ {S : Type 0} (sent : S → List (SocketAddr × List ℕ)) (incoming : S → Stream) (failures : S → ℕ)
+    (i : Inquiry) (first : ℕ) where
   reacts_to_some : (next : Option (SocketAddr × List ℕ)) (heard : S) (old new : List Report) (before : S)
       (silences : ℕ) → is_some next ≡ true
       → Reacts sent incoming failures i first next heard
@@ -52,7 +54,7 @@ module _ {S : Type 0} (sent incoming : S → List (SocketAddr × List ℕ)) (fai
 
   -- something came
   pub hears_some_one : (before heard : S) (old new : List Report) (silences : ℕ)
-      → Receives sent incoming failures before heard → HearsReport i first (next_of incoming before) old new
+      → ReceivesNext sent incoming failures before heard → HearsReport i first (next_of incoming before) old new
       → is_some (next_of incoming before) ≡ true
       → HearsOne sent incoming failures i first (record { socket = before; reports = old; silences = silences })
       (record { socket = heard; reports = new; silences = silences })
@@ -66,7 +68,7 @@ module _ {S : Type 0} (sent incoming : S → List (SocketAddr × List ℕ)) (fai
 
   -- nothing came
   pub hears_no_one : (before heard asked : S) (old new : List Report) (silences : ℕ)
-      → Receives sent incoming failures before heard → HearsReport i first (next_of incoming before) old new
+      → ReceivesNext sent incoming failures before heard → HearsReport i first (next_of incoming before) old new
       → is_some (next_of incoming before) ≡ false
       → ProbesEach sent incoming failures i first i.targets.items new heard asked
       → HearsOne sent incoming failures i first (record { socket = before; reports = old; silences = silences })

@@ -7,7 +7,7 @@ use Rattle.lk_auth.specs.Seals.{key_list, asking, framed_by, replied}
 use Rattle.lk_probe.specs.Grammar.{SpellsReport, probe_spelling, or_zero}
 use Rattle.lk_probe.specs.declared.probe.Report.{Report}
 use Rattle.lk_transport.specs.Chains.{Repeats}
-use Rattle.lk_transport.specs.ReceiveBuffers.{listed, next_of}
+use Rattle.lk_transport.specs.Streams.{Stream, Receives, next_of}
 use Rattle.lk_client.specs.Questions.{SendsOnce}
 use Rattle.lk_status.specs.Targets.{target_address}
 use Rattle.lk_status.specs.declared.target.Inquiry.{Inquiry}
@@ -53,7 +53,7 @@ Adds i first bytes old new =
     ((r : Report) × IsReport i bytes r × IsAwaited i first old r × (new ≡ old ++ r ∷ []))
     ⊎ (((r : Report) → IsReport i bytes r → IsAwaited i first old r → ⊥) × (new ≡ old))
 
--- so of what came next, if anything did
+-- so of what a receive found, if it did
 abbrev pub HearsReport : Inquiry → ℕ → Option (SocketAddr × List ℕ) → List Report → List Report → Type 0
 HearsReport i first None old new = new ≡ old
 HearsReport i first (Some d) old new = Adds i first d.1 old new
@@ -66,9 +66,10 @@ probe_frame i token =
     framed_by (key_list i.destination.seals.keys) (asking i.destination.seals.cluster (or_zero i.client))
     (probe_spelling (record { cluster = i.cluster; origin = None; client = i.client; token = token }))
 
--- what a kind of socket has sent, what is to come to it, and how many of its sends have failed
-module _ {S : Type 0} (sent incoming : S → List (SocketAddr × List ℕ)) (failures : S → ℕ) (i : Inquiry) where
-  -- the probe goes to a target, or its send fails, which is counted; nothing comes meanwhile
+-- what a kind of socket has sent, what its receives are to find, and how many of its sends have failed
+module _ {S : Type 0} (sent : S → List (SocketAddr × List ℕ)) (incoming : S → Stream) (failures : S → ℕ)
+    (i : Inquiry) where
+  -- the probe goes to a target, or its send fails, which is counted; nothing is received meanwhile
   pub record Probes (token : ℕ) (t : Target) (old new : S) : Type 0 where
     pub sends : SendsOnce (target_address i t, t.port) (probe_frame i token) (sent old) (failures old)
         (sent new) (failures new)
@@ -87,7 +88,7 @@ module _ {S : Type 0} (sent incoming : S → List (SocketAddr × List ℕ)) (fai
 
 -- ---- a round
 
--- whoever asks: its socket, the reports that it has gathered, and how often nothing came
+-- whoever asks: its socket, the reports that it has gathered, and how many receives found nothing
 pub record Asker (S : Type 0) : Type 0 where
   pub socket : S
   pub reports : List Report
@@ -97,19 +98,19 @@ pub record Asker (S : Type 0) : Type 0 where
 abbrev pub GoesOn : Inquiry → List Report → ℕ → Type 0
 GoesOn i rs silences = (length rs < length i.targets.items) × (silences < i.patience)
 
--- each target has answered, or nothing came as often as there is patience
+-- each target has answered, or as many receives found nothing as there is patience
 abbrev pub IsOver : Inquiry → List Report → ℕ → Type 0
 IsOver i rs silences = (length i.targets.items ≤ length rs) ⊎ (i.patience ≤ silences)
 
-module _ {S : Type 0} (sent incoming : S → List (SocketAddr × List ℕ)) (failures : S → ℕ) where
-  -- what comes next is received, if anything does, and nothing is sent
-  pub record Receives (old new : S) : Type 0 where
-    pub comes : incoming old ≡ listed (next_of incoming old) ++ incoming new
+module _ {S : Type 0} (sent : S → List (SocketAddr × List ℕ)) (incoming : S → Stream) (failures : S → ℕ) where
+  -- a receive, which finds what is next, and nothing is sent
+  pub record ReceivesNext (old new : S) : Type 0 where
+    pub comes : Receives (next_of incoming old) (incoming old) (incoming new)
     pub silent : sent new ≡ sent old
     pub spared : failures new ≡ failures old
 
   module _ (i : Inquiry) (first : ℕ) where
-    -- where nothing came, that is counted, and each target is asked again that has not answered
+    -- where it found nothing, that is counted, and each target is asked again that has not answered
     abbrev pub Reacts : Option (SocketAddr × List ℕ) → S → Asker S → Asker S → Type 0
     Reacts None heard old new =
         (new.silences ≡ old.silences + 1)
@@ -119,7 +120,7 @@ module _ {S : Type 0} (sent incoming : S → List (SocketAddr × List ℕ)) (fai
     -- a receive: what came is added if it is a report that is awaited
     pub record HearsOne (old new : Asker S) : Type 0 where
       pub heard : S
-      pub receives : Receives old.socket heard
+      pub receives : ReceivesNext old.socket heard
       pub hears : HearsReport i first (next_of incoming old.socket) old.reports new.reports
       pub reacts : Reacts (next_of incoming old.socket) heard old new
 

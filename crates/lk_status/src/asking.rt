@@ -2,10 +2,10 @@
 
 ghost use Rattle.std.specs.Prelude.{◌≡◌, ◌↔◌, ◌<◌, false, is_some, IfOk, OnOk, IfSome, IsNone, IsSomeAnd, IsTrue};
 ghost use Rattle.lk_probe.specs.declared.probe.Report.{Report as ReportValue};
-ghost use Rattle.lk_transport.specs.ReceiveBuffers.{next_of};
+ghost use Rattle.lk_transport.specs.Streams.{next_of};
 ghost use Rattle.lk_status.specs.Rounds.{IsOfRound, AreOfRound, IsReport, IsAwaited, Adds, HearsReport, has_token};
 ghost use Rattle.lk_status.specs.Rounds.{Probes};
-ghost use Rattle.lk_status.specs.Rounds.{ProbesUnless, ProbesEach, GoesOn, IsOver, Receives, HearsOne, HearsOut};
+ghost use Rattle.lk_status.specs.Rounds.{ProbesUnless, ProbesEach, GoesOn, IsOver, ReceivesNext, HearsOne, HearsOut};
 ghost use Rattle.lk_status.specs.Rounds.{IsRound};
 
 use crate::target::{Inquiry, Target, is_reported};
@@ -141,7 +141,7 @@ fn add(
 // Receives the next datagram into the buffer, if one arrives within 100 ms.
 #[tactic(auto, using(crate::proofs::Gathered::received))]
 fn receive<S: DatagramSocket>(socket: &mut S, buffer: &mut ReceiveBuffer)
-    ensures receives { S.is_observable → Receives S.sent S.incoming S.failures socket.old socket.new }
+    ensures receives { S.is_observable → ReceivesNext S.sent S.incoming S.failures socket.old socket.new }
     ensures last { S.is_observable → next_of S.incoming socket.old ≡ buffer.new.last }
 {
     buffer.receive(socket);
@@ -156,7 +156,7 @@ fn receive_report<S: DatagramSocket>(
     first: u64,
     reports: &mut Vec<Report>,
 ) -> Result<bool, ProgramFault>
-    ensures receives { S.is_observable → Receives S.sent S.incoming S.failures socket.old socket.new }
+    ensures receives { S.is_observable → ReceivesNext S.sent S.incoming S.failures socket.old socket.new }
     ensures came { IfOk result (λ is. S.is_observable → is_some (next_of S.incoming socket.old) ≡ is) }
     ensures hears { OnOk result
         (S.is_observable → HearsReport inquiry.now first

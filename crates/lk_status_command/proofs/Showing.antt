@@ -3,13 +3,14 @@ use Rattle.std.specs.Prelude.{◌≡◌, ◌≢◌, ◌↔◌, ℕ, Bool, true, 
 use Rattle.std.proofs.lemmas.Bool.{false≢true}
 use Rattle.std.specs.declared.net.socket_addr.SocketAddr.{SocketAddr}
 use Rattle.lk_probe.specs.declared.probe.Report.{Report}
+use Rattle.lk_transport.specs.Streams.{Stream}
 use Rattle.lk_status.specs.Rounds.{AreHeard}
 use Rattle.lk_status.specs.Verdicts.{IsServed}
 use Rattle.lk_status_command.specs.Outcomes.{IsReady, Shows}
 use Rattle.lk_status_command.specs.declared.status.Plan.{Plan}
 
-module _ {S : Type 0} (sent incoming : S → List (SocketAddr × List ℕ)) (failures : S → ℕ) (tells : Type 0)
-    (p : Plan) (ended : S) where
+module _ {S : Type 0} (sent : S → List (SocketAddr × List ℕ)) (incoming : S → Stream) (failures : S → ℕ)
+    (tells : Type 0) (p : Plan) (ended : S) where
   -- served and ready, by the reports
   pub shows : (first : ℕ) (reports : List Report) (served ready : Bool)
       → AreHeard sent incoming failures p.inquiry first tells reports ended

@@ -2,6 +2,7 @@
 use Rattle.std.specs.Prelude.{◌≡◌, ◌≢◌, ◌↔◌, ℕ, Bool, true, List, length, IsTrue}
 use Rattle.std.specs.declared.net.socket_addr.SocketAddr.{SocketAddr}
 use Rattle.lk_probe.specs.declared.probe.Report.{Report}
+use Rattle.lk_transport.specs.Streams.{Stream}
 use Rattle.lk_status.specs.Rounds.{AreHeard}
 use Rattle.lk_status.specs.Verdicts.{IsServed, is_ready}
 use Rattle.lk_status.specs.declared.target.Inquiry.{Inquiry}
@@ -11,7 +12,8 @@ use Rattle.lk_status_command.specs.declared.status.Plan.{Plan}
 abbrev pub IsReady : Inquiry → List Report → Type 0
 IsReady i rs = (executed : ℕ) × (is_ready (length i.targets.items) executed rs ≡ true)
 
-module _ {S : Type 0} (sent incoming : S → List (SocketAddr × List ℕ)) (failures : S → ℕ) (tells : Type 0) where
+module _ {S : Type 0} (sent : S → List (SocketAddr × List ℕ)) (incoming : S → Stream) (failures : S → ℕ)
+    (tells : Type 0) where
   -- the status that is printed: these reports are those of a round. It is served only if they show that, and are ready
   -- if that is waited for; without waiting it is served exactly if they show that
   pub record Shows (p : Plan) (served : Bool) (ended : S) : Type 0 where

@@ -11,4 +11,6 @@ mod files;
 #[cfg(test)]
 mod replicas;
 #[cfg(test)]
+mod three_servers;
+#[cfg(test)]
 mod turns;

@@ -3,6 +3,7 @@ pub mod Faults
 pub mod Addresses
 pub mod Hosts
 pub mod Posts
+pub mod Streams
 pub mod ReceiveBuffers
 pub mod Askers
 pub mod Inquiring

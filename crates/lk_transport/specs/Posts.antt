@@ -20,9 +20,10 @@ use Rattle.lk_auth.specs.Seals.{key_list, to_node, replying, framed_by, heard}
 use Rattle.lk_auth.specs.declared.seals.Seals.{Seals}
 use Rattle.lk_transport.specs.Addresses.{AddressBook, Filter, client_at, node_at, moved_up, IsSameFilter}
 use Rattle.lk_transport.specs.Hosts.{host_of}
+use Rattle.lk_transport.specs.Streams.{Stream}
 
 -- its node, the addresses, the kept letters of the node to itself, what the socket has sent, how many of its sends
--- have failed overall and in this group, and the frames that are to arrive, in order
+-- have failed overall and in this group, and what the receives to come find, in order
 pub record SocketPostValue : Type 0 where
   pub node : ℕ
   pub addresses : AddressBook
@@ -30,7 +31,7 @@ pub record SocketPostValue : Type 0 where
   pub sent : List (SocketAddr × List ℕ)
   pub socket_failures : ℕ
   pub failures : ℕ
-  pub incoming : List (SocketAddr × List ℕ)
+  pub incoming : Stream
 
 -- what a letter may change: the kept letters of the node to itself, what the socket has sent, and how many of its
 -- sends have failed

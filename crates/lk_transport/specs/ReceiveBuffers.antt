@@ -1,5 +1,5 @@
 -- What a receive buffer holds.
-use Rattle.std.specs.Prelude.{ℕ, List, [], ◌∷◌, take, Option, Some, None}
+use Rattle.std.specs.Prelude.{ℕ, List, Option, Some, None}
 use Rattle.std.specs.declared.net.socket_addr.SocketAddr.{SocketAddr}
 use Rattle.lk_probe.specs.declared.reported.Reported.{Reported}
 use Rattle.lk_transport.specs.declared.received_probe.ReceivedProbe.{ReceivedProbe}
@@ -19,22 +19,3 @@ first_asked (Some a) next = Some a
 abbrev pub first_reported : Option Reported → Option Reported → Option Reported
 first_reported None next = next
 first_reported (Some r) next = Some r
-
--- the latest datagram, of this length and from this source: its source and its own bytes
-abbrev pub heard_in : List ℕ → Option (ℕ × SocketAddr) → Option (SocketAddr × List ℕ)
-heard_in buffer None = None
-heard_in buffer (Some l) = Some (l.1, take l.0 buffer)
-
--- the datagram that arrived, if one did
-abbrev pub listed : Option (SocketAddr × List ℕ) → List (SocketAddr × List ℕ)
-listed None = []
-listed (Some d) = d ∷ []
-
--- the first of these, if there is one
-abbrev pub first_of : List (SocketAddr × List ℕ) → Option (SocketAddr × List ℕ)
-first_of [] = None
-first_of (d ∷ ds) = Some d
-
--- what arrives next at a socket with these datagrams to come
-abbrev pub next_of : {S : Type 0} → (S → List (SocketAddr × List ℕ)) → S → Option (SocketAddr × List ℕ)
-next_of incoming s = first_of (incoming s)

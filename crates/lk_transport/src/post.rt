@@ -5,7 +5,7 @@ ghost use Rattle.std.specs.Prelude.{IsErr, IfSome, IsNone};
 ghost use Rattle.lk_types.specs.Ranges.{IsClient};
 ghost use Rattle.lk_disk.specs.Disk.{HasCause, one_more};
 ghost use Rattle.lk_transport.specs.Addresses.{client_at, node_at, IsSameFilter};
-ghost use Rattle.lk_transport.specs.ReceiveBuffers.{listed};
+ghost use Rattle.lk_transport.specs.Streams.{Receives};
 ghost use Rattle.lk_auth.specs.Seals.{heard};
 ghost use Rattle.lk_transport.specs.Posts.{IsRoute, IsBoundFor, Becomes, RecordsSender};
 ghost use Rattle.lk_transport.specs.Posts.{send_state_of, frame_of, keys_for};
@@ -199,8 +199,7 @@ impl<S: DatagramSocket + Drop> SocketPost<S> {
 
     /// Receives the next datagram of the socket into the buffer, if one arrives within the timeout.
     pub fn receive(&mut self, buffer: &mut ReceiveBuffer)
-        ensures comes { S.is_observable → self.old.incoming ≡ listed buffer.new.last ++ self.new.incoming }
-        ensures none { S.is_observable → buffer.new.last ≡ None → self.old.incoming ≡ [] }
+        ensures comes { S.is_observable → Receives buffer.new.last self.old.incoming self.new.incoming }
         ensures asked { buffer.new.asked ≡ buffer.old.asked }
         ensures reported { buffer.new.reported ≡ buffer.old.reported }
         ensures others { self.new ≡ record self.old { incoming = self.new.incoming } }
@@ -210,8 +209,7 @@ impl<S: DatagramSocket + Drop> SocketPost<S> {
 
     /// Receives the next datagram into the buffer if one is already waiting, and does not wait for one.
     pub fn try_receive(&mut self, buffer: &mut ReceiveBuffer)
-        ensures comes { S.is_observable → self.old.incoming ≡ listed buffer.new.last ++ self.new.incoming }
-        ensures none { S.is_observable → buffer.new.last ≡ None → self.old.incoming ≡ [] }
+        ensures comes { S.is_observable → Receives buffer.new.last self.old.incoming self.new.incoming }
         ensures asked { buffer.new.asked ≡ buffer.old.asked }
         ensures reported { buffer.new.reported ≡ buffer.old.reported }
         ensures others { self.new ≡ record self.old { incoming = self.new.incoming } }

@@ -1,7 +1,8 @@
 //! The buffer into which a socket receives.
 
-ghost use Rattle.std.specs.Prelude.{◌≡◌, ◌++◌, Some, None, IfSome, IsNone};
-ghost use Rattle.lk_transport.specs.ReceiveBuffers.{first_asked, first_reported, listed, next_of};
+ghost use Rattle.std.specs.Prelude.{◌≡◌, Some, None, IfSome, IsNone};
+ghost use Rattle.lk_transport.specs.ReceiveBuffers.{first_asked, first_reported};
+ghost use Rattle.lk_transport.specs.Streams.{Receives, next_of};
 
 use crate::received_probe::ReceivedProbe;
 use crate::socket::DatagramSocket;
@@ -25,7 +26,8 @@ pub struct ReceiveBuffer {
 
 impl Model for ReceiveBuffer {
     ghost use Rattle.std.specs.Prelude.{◌≤◌, IfSome};
-    ghost use Rattle.lk_transport.specs.ReceiveBuffers.{BufferValue, heard_in};
+    ghost use Rattle.lk_transport.specs.ReceiveBuffers.{BufferValue};
+    ghost use Rattle.lk_transport.specs.Streams.{heard_in};
 
     ghost Value = { BufferValue };
 
@@ -50,7 +52,7 @@ impl ReceiveBuffer {
     /// Receives the next datagram of a socket: exactly its bytes, or nothing if none arrived within the socket's
     /// timeout or the receive failed.
     pub fn receive<S: DatagramSocket>(&mut self, socket: &mut S)
-        ensures comes { S.is_observable → S.incoming socket.old ≡ listed self.new.last ++ S.incoming socket.new }
+        ensures comes { S.is_observable → Receives self.new.last (S.incoming socket.old) (S.incoming socket.new) }
         ensures next { S.is_observable → next_of S.incoming socket.old ≡ self.new.last }
         ensures asked { self.new.asked ≡ self.old.asked }
         ensures reported { self.new.reported ≡ self.old.reported }
@@ -62,7 +64,7 @@ impl ReceiveBuffer {
 
     /// Receives a datagram that is already waiting, without waiting for one; nothing if there is none.
     pub fn try_receive<S: DatagramSocket>(&mut self, socket: &mut S)
-        ensures comes { S.is_observable → S.incoming socket.old ≡ listed self.new.last ++ S.incoming socket.new }
+        ensures comes { S.is_observable → Receives self.new.last (S.incoming socket.old) (S.incoming socket.new) }
         ensures next { S.is_observable → next_of S.incoming socket.old ≡ self.new.last }
         ensures asked { self.new.asked ≡ self.old.asked }
         ensures reported { self.new.reported ≡ self.old.reported }

@@ -1,9 +1,10 @@
 //! A socket that sends and receives datagrams, and its implementation over UDP.
 
-ghost use Rattle.std.specs.Prelude.{◌≡◌, ◌≤◌, ◌++◌, ◌∷◌, [], List, ℕ, length, take, IfSome, IsNone, OnOk, OnErr};
+ghost use Rattle.std.specs.Prelude.{◌≡◌, ◌≤◌, ◌++◌, ◌∷◌, [], List, ℕ, length, IfSome, OnOk, OnErr};
 ghost use Rattle.std.specs.Net.Socket.{socket_port};
 ghost use Rattle.std.specs.declared.net.socket_addr.SocketAddr.{SocketAddr as Address};
 ghost use Rattle.lk_disk.specs.Disk.{HasCause};
+ghost use Rattle.lk_transport.specs.Streams.{Receives, Stream, heard_in};
 
 use crate::fault::ProgramFault;
 use lk_node_interface::SendFault;
@@ -29,14 +30,16 @@ pub trait DatagramSocket {
     /// What was sent, in order: each datagram's destination and bytes.
     ghost sent: { Self → List (Address × List ℕ) };
 
-    /// What arrives, in order: each datagram's source and bytes.
-    ghost incoming: { Self → List (Address × List ℕ) };
+    /// What its receives find from now on, in order: each a datagram, with its source and bytes, or nothing. The stream
+    /// says what each receive finds when it is made, and not what has arrived by now.
+    ghost incoming: { Self → Stream };
 
     /// How many sends have failed.
     ghost failures: { Self → ℕ };
 
-    /// Its contract reveals what was sent, how many sends failed, and what arrives. This is a property of its type, so
-    /// no call can change it.
+    /// Its contract reveals what was sent, how many sends failed, and what each receive finds. This is a property of
+    /// its type, so no call can change it. A socket of a network can have it: its `incoming` is the list of what its
+    /// receives will have found, timeouts among them, which nobody knows before.
     ghost is_observable: { Type 0 };
 
     /// Sends a datagram. A failed call sends nothing, and is counted.
@@ -53,14 +56,13 @@ pub trait DatagramSocket {
         ensures still { incoming self.new ≡ incoming self.old };
 
     /// Puts the next datagram into the buffer, and returns its length and its source. Bytes that do not fit are lost.
-    /// `None` if none arrived within the timeout, or the receive failed.
+    /// `None` if none arrived within the timeout, or the receive failed; that says nothing about later receives.
     fn receive(&mut self, buffer: &mut [u8]) -> Option<(usize, SocketAddr)>
         // The buffer has room for the longest frame and one byte more.
         requires room { 8229 ≤ length buffer.old }
         ensures within { IfSome result (λ r. r.0 ≤ length buffer.new) }
-        ensures some { is_observable
-            → IfSome result (λ r. incoming self.old ≡ (r.1, take r.0 buffer.new) ∷ incoming self.new) }
-        ensures none { is_observable → IsNone result → (incoming self.old ≡ []) × (incoming self.new ≡ []) }
+        ensures receives { is_observable
+            → Receives (heard_in buffer.new result) (incoming self.old) (incoming self.new) }
         ensures unchanged { sent self.new ≡ sent self.old }
         ensures spares { failures self.new ≡ failures self.old };
 
@@ -68,9 +70,8 @@ pub trait DatagramSocket {
     fn try_receive(&mut self, buffer: &mut [u8]) -> Option<(usize, SocketAddr)>
         requires room { 8229 ≤ length buffer.old }
         ensures within { IfSome result (λ r. r.0 ≤ length buffer.new) }
-        ensures some { is_observable
-            → IfSome result (λ r. incoming self.old ≡ (r.1, take r.0 buffer.new) ∷ incoming self.new) }
-        ensures none { is_observable → IsNone result → (incoming self.old ≡ []) × (incoming self.new ≡ []) }
+        ensures receives { is_observable
+            → Receives (heard_in buffer.new result) (incoming self.old) (incoming self.new) }
         ensures unchanged { sent self.new ≡ sent self.old }
         ensures spares { failures self.new ≡ failures self.old };
 

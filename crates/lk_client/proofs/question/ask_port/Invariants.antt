@@ -1,6 +1,6 @@
 -- The bytes went to the port, and none of the receives told anything.
 use Rattle.std.specs.Prelude.{◌≤◌, None}
-use Rattle.lk_transport.specs.ReceiveBuffers.{next_of}
+use Rattle.lk_transport.specs.Streams.{next_of}
 use Rattle.lk_transport.specs.Chains.{Repeats}
 use Rattle.lk_client.specs.Questions.{Receives}
 use Rattle.lk_client.proofs.question.ask_port.Given as goal

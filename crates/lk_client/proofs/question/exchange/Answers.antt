@@ -1,4 +1,4 @@
-use Rattle.lk_transport.specs.ReceiveBuffers.{next_of}
+use Rattle.lk_transport.specs.Streams.{next_of}
 use Rattle.lk_client.proofs.Keeping.{all_same, asks_alone, asks_several}
 use Rattle.lk_client.proofs.question.exchange.Goals as goal
 

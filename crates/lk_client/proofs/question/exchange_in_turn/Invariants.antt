@@ -1,6 +1,6 @@
 -- The bytes went to the ports in front, and none of them told anything.
 use Rattle.std.specs.Prelude.{◌≤◌, take}
-use Rattle.lk_transport.specs.ReceiveBuffers.{next_of}
+use Rattle.lk_transport.specs.Streams.{next_of}
 use Rattle.lk_client.specs.Questions.{TriesInVain}
 use Rattle.lk_client.proofs.question.exchange_in_turn.Given as goal
 

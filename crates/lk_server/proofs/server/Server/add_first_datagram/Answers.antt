@@ -7,7 +7,9 @@ use Rattle.lk_server.proofs.Asking.{keeps_given, keeps_found}
 use Rattle.lk_server.proofs.Carrying.{if_ok_both, if_ok_four, if_err_on}
 use Rattle.lk_server.proofs.Gatherings.{socket_one, ends_socket, finds, still_not_out}
 use Rattle.lk_server.proofs.server.Server.add_first_datagram.Goals as goal
-use Rattle.lk_transport.specs.ReceiveBuffers.{BufferValue, listed}
+use Rattle.lk_transport.specs.ReceiveBuffers.{BufferValue}
+use Rattle.lk_transport.specs.Streams.{listed}
+use Rattle.lk_transport.proofs.Streaming.{come_one}
 
 pub returns-clause-adds : goal.returns-clause-adds
 returns-clause-adds g c =
@@ -19,9 +21,11 @@ returns-clause-adds g c =
     let same = rest (λ is. let both : Something ≡ Filtered = sym yes ∙ is in cc both) in (
       t.0,
       apart,
-      socket_one g.R.ServerReplica.Gathers g.S.DatagramSocket.is_observable c.receive.new.buffer.last t.0
+      socket_one g.R.ServerReplica.Gathers g.S.DatagramSocket.is_observable 1 c.receive.new.buffer.last t.0
           c.args.group.now
-          c.add_received.new.group c.args.self.now c.receive.new.self c.add_received.new.self t.1 l.comes l.others
+          c.add_received.new.group c.args.self.now c.receive.new.self c.add_received.new.self t.1
+          (λ telling. come_one c.receive.new.buffer.last c.args.self.now.incoming c.receive.new.self.incoming
+          (l.comes telling)) l.others
           (ap (λ (s : ServerValue _). s.incoming) h.others) t.3,
       keeps_given c.args.self.now.node c.args.self.now.addresses.seals t.0 c.args.buffer.now c.add_received.new.buffer
           (not_beside (filter_of c.args.self.now.addresses) t.0 apart)
@@ -34,7 +38,7 @@ returns-clause-none g c =
     let l = c.receive.ensures in
     if_ok_four c.add_received.result (λ found none beside kept rest apart.
     let f = finds g.S.DatagramSocket.is_observable found c.receive.new.buffer.last c.args.group.now
-    c.add_received.new.group c.args.self.now c.receive.new.self c.add_received.new.self l.comes l.none
+    c.add_received.new.group c.args.self.now c.receive.new.self c.add_received.new.self l.comes
     l.others none beside apart in (
       listed c.receive.new.buffer.last,
       f.0,
@@ -53,8 +57,10 @@ returns-clause-ends g c =
     if_err_on c.add_received.result (λ e. (
       e.0,
       still_not_out c.args.self.now c.receive.new.self e.0 l.others e.2,
-      ends_socket g.R.ServerReplica.Says g.R.ServerReplica.Gathers g.S.DatagramSocket.is_observable
+      ends_socket g.R.ServerReplica.Says g.R.ServerReplica.Gathers g.S.DatagramSocket.is_observable 1
           c.receive.new.buffer.last e.0 c.args.group.now c.args.self.now c.receive.new.self
-          c.add_received.new.self e.1 l.comes l.others
+          c.add_received.new.self e.1
+          (λ telling. come_one c.receive.new.buffer.last c.args.self.now.incoming c.receive.new.self.incoming
+          (l.comes telling)) l.others
           (ap (λ (s : ServerValue _). s.incoming) h.others) e.3,
     )) h.ends

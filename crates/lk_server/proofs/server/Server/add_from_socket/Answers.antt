@@ -1,4 +1,5 @@
-use Rattle.std.proofs.Common.{◌≡◌, ◌∙◌, true, false, [], ◌∷◌, ap, sym, arith}
+use Rattle.std.proofs.Common.{◌≡◌, ◌∙◌, ◌+◌, ◌*◌, true, false, [], ◌∷◌, length, refl, ap, sym, arith}
+use Rattle.lk_transport.proofs.Streaming.{receives_one, come_none}
 use Rattle.lk_transport.specs.Addresses.{Filter}
 use Rattle.lk_server.specs.Servers.{ServerValue}
 use Rattle.lk_server.proofs.Asking.{keeps_more}
@@ -28,10 +29,11 @@ returns-clause-adds g c = λ yes.
       socket_group r.Says r.Gathers observable first.0 more.0 c.args.group.now c.add_further_datagrams.new.group
           c.args.self.now c.add_further_datagrams.new.self c.requires
           (ap (λ (s : ServerValue _). s.loopback) two ∙ ap (λ (s : ServerValue _). s.loopback) one) more.1 first.1
-          (socket_more r.Gathers observable
+          (λ telling. (_, receives_one (first.2.comes telling), more.2.comes telling))
+          (socket_more r.Gathers observable 1 (2 * length more.0 + 2)
           (first.0 ∷ []) more.0 c.args.group.now c.add_first_datagram.new.group c.add_further_datagrams.new.group
           c.args.self.now c.add_first_datagram.new.self c.add_further_datagrams.new.self
-          (ap (λ (s : ServerValue _). s.cluster) one) first.2 more.2),
+          (ap (λ (s : ServerValue _). s.cluster) one) first.2 more.2).adds,
       keeps_more c.args.self.now.node c.add_first_datagram.new.self.node c.args.self.now.addresses.seals
           c.add_first_datagram.new.self.addresses.seals
           (first.0 ∷ []) more.0 c.args.buffer.now c.add_first_datagram.new.buffer c.add_further_datagrams.new.buffer
@@ -47,7 +49,8 @@ returns-in_err-found-clause-ends g c =
       e.0 ∷ [],
       socket_ends r.Says r.Gathers g.S.DatagramSocket.is_observable e.0 [] c.args.group.now c.args.self.now
           c.add_first_datagram.new.self c.requires
-          (ap (λ (s : ServerValue _). s.loopback) c.add_first_datagram.ensures.others) (omega arith) e.1 e.2,
+          (ap (λ (s : ServerValue _). s.loopback) c.add_first_datagram.ensures.others) (omega arith) e.1
+          (λ telling. (_, receives_one (e.2.comes telling), come_none 2 _ _ refl)) e.2.ends,
     )
 
 pub returns-in_err-add_further_datagrams-clause-ends : goal.returns-in_err-add_further_datagrams-clause-ends
@@ -63,8 +66,9 @@ returns-in_err-add_further_datagrams-clause-ends g c =
       socket_ends r.Says r.Gathers observable first.0 e.0 c.args.group.now c.args.self.now
           c.add_further_datagrams.new.self c.requires
           (ap (λ (s : ServerValue _). s.loopback) two ∙ ap (λ (s : ServerValue _). s.loopback) one) e.1 first.1
-          (ends_further r.Says r.Gathers observable
+          (λ telling. (_, receives_one (first.2.comes telling), e.2.comes telling))
+          (ends_further r.Says r.Gathers observable 1 (2 * length e.0 + 2) (2 * length e.0 + 3)
           (first.0 ∷ []) e.0 c.args.group.now c.add_first_datagram.new.group c.args.self.now
           c.add_first_datagram.new.self c.add_further_datagrams.new.self
-          (ap (λ (s : ServerValue _). s.cluster) one) first.2 e.2),
+          (ap (λ (s : ServerValue _). s.cluster) one) (omega arith) first.2 e.2).ends,
     )

@@ -1,9 +1,9 @@
-use Rattle.std.proofs.Common.{◌≡◌, [], ◌∷◌, ◌++◌, refl, ap, ◌∙◌, length-append, arith}
+use Rattle.std.proofs.Common.{◌≡◌, ◌+◌, ◌*◌, [], ◌∷◌, ◌++◌, length, refl, ap, ◌∙◌, length-append, arith}
 use Rattle.lk_transport.specs.Addresses.{Filter}
 use Rattle.lk_server.specs.Servers.{ServerValue}
 use Rattle.lk_server.proofs.Asking.{keeps_more, keeps_still, keeps_on}
 use Rattle.lk_server.proofs.Carrying.{on_err}
-use Rattle.lk_server.proofs.Gatherings.{socket_nothing, socket_more, socket_still, ends_further}
+use Rattle.lk_server.proofs.Gatherings.{socket_nothing, socket_more, socket_wider, socket_still, ends_further}
 use Rattle.lk_server.proofs.server.Server.add_further_datagrams.Goals as goal
 
 pub datagrams-init : goal.datagrams-init
@@ -23,9 +23,12 @@ datagrams-preserved g c =
     let new = c.add_next_datagram.new.self in (
       i.0 ++ t.0 ∷ [],
       omega (arith, i.1, length-append i.0 (t.0 ∷ [])),
-      socket_more g.R.ServerReplica.Gathers g.S.DatagramSocket.is_observable i.0
+      socket_wider g.R.ServerReplica.Gathers g.S.DatagramSocket.is_observable (2 * c.datagrams.counter + 2)
+          (2 * (c.datagrams.counter + 1)) (i.0 ++ t.0 ∷ []) c.args.group.now c.add_next_datagram.new.group
+          c.args.self.now new (omega arith)
+          (socket_more g.R.ServerReplica.Gathers g.S.DatagramSocket.is_observable (2 * c.datagrams.counter) 2 i.0
           (t.0 ∷ []) c.args.group.now c.datagrams.group c.add_next_datagram.new.group c.args.self.now c.datagrams.self
-          new (ap (λ (s : ServerValue _). s.cluster) i.3) i.2 t.1,
+          new (ap (λ (s : ServerValue _). s.cluster) i.3) i.2 t.1),
       c.add_next_datagram.ensures.others
           ∙ ap (λ (s : ServerValue _). record s {
             replica = new.replica;
@@ -47,8 +50,12 @@ returns-then-not-branch-clause-adds g c =
     let n = c.in_ok-add_next_datagram.ensures.none (cc c.if-not-branch.true) in (
       i.0,
       omega (arith, i.1, c.datagrams-test.true),
-      socket_still g.R.ServerReplica.Gathers g.S.DatagramSocket.is_observable i.0 c.args.group.now c.datagrams.group
-          c.add_next_datagram.new.group c.args.self.now c.datagrams.self c.add_next_datagram.new.self i.2 n.2 n.1 n.0,
+      socket_wider g.R.ServerReplica.Gathers g.S.DatagramSocket.is_observable (2 * c.datagrams.counter + 2)
+          (2 * length i.0 + 2) i.0 c.args.group.now c.add_next_datagram.new.group c.args.self.now
+          c.add_next_datagram.new.self (omega (arith, i.1))
+          (socket_still g.R.ServerReplica.Gathers g.S.DatagramSocket.is_observable (2 * c.datagrams.counter) i.0
+          c.args.group.now c.datagrams.group c.add_next_datagram.new.group c.args.self.now c.datagrams.self
+          c.add_next_datagram.new.self i.2 n.2 n.1 n.0),
       keeps_on c.args.self.now.node c.args.self.now.addresses.seals i.0 c.args.buffer.now c.datagrams.buffer
           c.add_next_datagram.new.buffer i.4 n.3 n.4,
     )
@@ -56,7 +63,14 @@ returns-then-not-branch-clause-adds g c =
 pub returns-clause-adds : goal.returns-clause-adds
 returns-clause-adds g c =
     let i = c.datagrams.invariant in
-    let all : c.datagrams.counter ≡ 63 = omega arith in (i.0, omega (arith, i.1, all), i.2, i.4)
+    let all : c.datagrams.counter ≡ 63 = omega arith in (
+      i.0,
+      omega (arith, i.1, all),
+      socket_wider g.R.ServerReplica.Gathers g.S.DatagramSocket.is_observable (2 * c.datagrams.counter)
+          (2 * length i.0 + 2) i.0 c.args.group.now c.datagrams.group c.args.self.now c.datagrams.self
+          (omega (arith, i.1)) i.2,
+      i.4,
+    )
 
 pub returns-in_err-add_next_datagram-clause-ends : goal.returns-in_err-add_next_datagram-clause-ends
 returns-in_err-add_next_datagram-clause-ends g c =
@@ -65,7 +79,8 @@ returns-in_err-add_next_datagram-clause-ends g c =
     on_err c.from_residual.result (
       i.0 ++ e.0 ∷ [],
       omega (arith, i.1, c.datagrams-test.true, length-append i.0 (e.0 ∷ [])),
-      ends_further g.R.ServerReplica.Says g.R.ServerReplica.Gathers g.S.DatagramSocket.is_observable i.0
+      ends_further g.R.ServerReplica.Says g.R.ServerReplica.Gathers g.S.DatagramSocket.is_observable
+          (2 * c.datagrams.counter) 2 (2 * length (i.0 ++ e.0 ∷ []) + 2) i.0
           (e.0 ∷ []) c.args.group.now c.datagrams.group c.args.self.now c.datagrams.self c.add_next_datagram.new.self
-          (ap (λ (s : ServerValue _). s.cluster) i.3) i.2 e.1,
+          (ap (λ (s : ServerValue _). s.cluster) i.3) (omega (arith, i.1, length-append i.0 (e.0 ∷ []))) i.2 e.1,
     )

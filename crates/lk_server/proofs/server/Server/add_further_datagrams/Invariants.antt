@@ -1,5 +1,6 @@
--- So many frames of the socket came, in order, and the first probe and the first report of them are kept.
-use Rattle.std.proofs.Common.{◌≡◌, ℕ, List, length}
+-- So many frames of the socket came, in order, in at most two receives each, and the first probe and the first report
+-- of them are kept.
+use Rattle.std.proofs.Common.{◌≡◌, ◌*◌, ℕ, List, length}
 use Rattle.std.specs.declared.net.socket_addr.SocketAddr.{SocketAddr}
 use Rattle.lk_server.specs.Gatherings.{AddsFromSocket}
 use Rattle.lk_transport.specs.Kept.{KeepsOf}
@@ -8,8 +9,8 @@ use Rattle.lk_server.proofs.server.Server.add_further_datagrams.Given as goal
 abbrev pub invariant-datagrams : goal.invariant-datagrams
 invariant-datagrams g l =
     (frames : List (SocketAddr × List ℕ)) × (length frames ≡ l.counter)
-    × AddsFromSocket g.R.ServerReplica.Gathers g.S.DatagramSocket.is_observable frames l.fn.group l.group l.fn.self
-    l.self
+    × AddsFromSocket g.R.ServerReplica.Gathers g.S.DatagramSocket.is_observable (2 * l.counter) frames l.fn.group
+    l.group l.fn.self l.self
     × (l.self ≡ record l.fn.self {
       replica = l.self.replica;
       failed = l.self.failed;

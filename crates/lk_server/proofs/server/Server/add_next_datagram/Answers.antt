@@ -14,7 +14,7 @@ returns-in-Something-clause-adds g c = λ came.
     let t = c.in_ok-add_received.ensures.adds (search rules) in
     let same = c.in_ok-add_received.ensures.rest (λ is. cc is) in (
       t.0,
-      socket_one g.R.ServerReplica.Gathers g.S.DatagramSocket.is_observable c.receive_or_pause.new.buffer.last t.0
+      socket_one g.R.ServerReplica.Gathers g.S.DatagramSocket.is_observable 2 c.receive_or_pause.new.buffer.last t.0
           c.args.group.now c.add_received.new.group c.args.self.now c.receive_or_pause.new.self
           c.add_received.new.self t.1 l.comes l.others
           (ap (λ (s : ServerValue _). s.incoming) c.add_received.ensures.others) t.3,
@@ -29,7 +29,7 @@ returns-in-Filtered-clause-adds g c = λ came.
     let l = c.receive_or_pause.ensures in
     let b = c.in_ok-add_received.ensures.beside (search rules) in (
       b.0,
-      socket_beside g.R.ServerReplica.Gathers g.S.DatagramSocket.is_observable c.receive_or_pause.new.buffer.last b.0
+      socket_beside g.R.ServerReplica.Gathers g.S.DatagramSocket.is_observable 2 c.receive_or_pause.new.buffer.last b.0
           c.args.group.now c.add_received.new.group c.args.self.now c.receive_or_pause.new.self c.add_received.new.self
           b.1 l.comes l.others b.2 b.3 b.4,
       keeps_beside c.args.self.now.node c.receive_or_pause.new.self.node c.args.self.now.addresses.seals
@@ -60,7 +60,7 @@ returns-in_err-add_received-clause-ends g c =
     let e = c.in_err-add_received.ensures.ends in
     on_err c.from_residual.result (
       e.0,
-      ends_socket g.R.ServerReplica.Says g.R.ServerReplica.Gathers g.S.DatagramSocket.is_observable
+      ends_socket g.R.ServerReplica.Says g.R.ServerReplica.Gathers g.S.DatagramSocket.is_observable 2
           c.receive_or_pause.new.buffer.last e.0 c.args.group.now c.args.self.now c.receive_or_pause.new.self
           c.add_received.new.self e.1 l.comes l.others
           (ap (λ (s : ServerValue _). s.incoming) c.add_received.ensures.others) e.3,

@@ -1,4 +1,4 @@
-use Rattle.lk_sim.proofs.Explaining.{explains, agree, states, ordered, told_in_time}
+use Rattle.lk_sim.proofs.Explaining.{asked, explains, agree, states, ordered, told_in_time}
 use Rattle.lk_sim.proofs.Keeping.{room, covered, kept}
 use Rattle.lk_sim.proofs.world.World.facts.Goals as goal
 
@@ -9,6 +9,7 @@ returns g c =
     record {
       guaranteed = rw (← c.self.view_is) (record {
         explained = (w.list, w.chosen, explains _ _ _ p.genesis p.seats.items p.sent.items p.trace.items w);
+        asked = asked _ _ _ p.genesis p.seats.items p.sent.items p.trace.items w;
         agree = agree _ _ _ p.genesis p.seats.items p.sent.items p.trace.items w;
         told = w.told;
         states = states _ _ _ p.genesis p.seats.items p.sent.items p.trace.items w _ g.met.R.MemoryReplica.sums_up;
