@@ -54,10 +54,12 @@ class CancellationTest(TableCase, unittest.IsolatedAsyncioTestCase):
         await asyncio.sleep(0.01)
 
     async def test_a_cancelled_first_call_leaves_a_client_that_works(self):
+        self.node.takes = lambda body: False  # so that the call is still under way when it is cancelled
         client = self.one()
         first = asyncio.create_task(client.acquire("db"))
         await asyncio.sleep(0)
-        first.cancel()
+        self.assertTrue(first.cancel())
+        self.node.takes = lambda body: True
         with self.assertRaises(asyncio.CancelledError):
             await first
         self.assertEqual(await client.withdraw("db"), False)
