@@ -124,9 +124,17 @@ class CompactedTest(unittest.TestCase):
 
     def wait_for(self, node, file, text, votes):
         """Waits until the text is the snapshot of the Base in that file, before so many votes."""
-        end = time.monotonic() + 10.0
-        while text + number(votes, 2) not in self.read(node, file):
-            self.assertLess(time.monotonic(), end, f"not in {file} of node {node}")
+        self.wait_until(lambda: text + number(votes, 2) in self.read(node, file), f"not in {file} of node {node}")
+
+    def wait_for_cut(self, node, file):
+        """Waits until the file is empty, which a node makes it after it has written the other one."""
+        self.wait_until(lambda: not self.read(node, file), f"{file} of node {node} was not cut")
+
+    def wait_until(self, is_so, problem):
+        """Waits for a condition."""
+        end = time.monotonic() + 30.0
+        while not is_so():
+            self.assertLess(time.monotonic(), end, problem)
             time.sleep(0.02)
 
     def read(self, node, file):
@@ -143,6 +151,7 @@ class CompactedTest(unittest.TestCase):
         for part in (one[0], two[1], *one[2:]):
             self.third.sendto(part, ("127.0.0.1", self.own[2]))
         self.wait_for(3, "b", text, 0)
+        self.wait_for_cut(3, "a")
         self.processes[3].kill()
         self.processes[3].wait()
         self.start_full()
@@ -150,7 +159,6 @@ class CompactedTest(unittest.TestCase):
 
     def start_full(self):
         """Starts node 3 once its file has grown so long that it writes its snapshot, with the last of its votes."""
-        self.assertEqual(os.path.getsize(self.path(3, "a")), 0)
         with open(self.path(3, "b"), "ab") as file:
             file.write(votes())
         self.start(3)
