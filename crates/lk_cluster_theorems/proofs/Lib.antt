@@ -7,8 +7,10 @@ mod Continuing
 mod Serving
 mod Processes
 mod Runs
+mod ThreeNodes
 mod Outcomes
 mod Sealing
+mod Carrying
 mod Stopping
 mod Forgetting
 mod ComingBack

@@ -37,7 +37,7 @@ no_request : (genesis : Genesis) (n : ℕ) (x : NodeMessage) (r : Request) → c
 no_request genesis n x r e = cc e
 
 -- a probe or a report spells no message
-no_message : (bytes : List ℕ) (m : Message) → Spells m bytes → is_probe_or_report bytes ≡ true → ⊥
+pub no_message : (bytes : List ℕ) (m : Message) → Spells m bytes → is_probe_or_report bytes ≡ true → ⊥
 no_message bytes m spelled is =
     let same : true ≡ false = sym is ∙ ap is_probe_or_report spelled.1 in
     absurd (cc same)

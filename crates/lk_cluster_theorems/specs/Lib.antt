@@ -3,7 +3,9 @@ pub mod Continuing
 pub mod Forgetting
 pub mod Processes
 pub mod NodeRuns
+pub mod ThreeNodes
 pub mod Sealing
+pub mod Carrying
 pub mod Stopping
 pub mod Running
 pub mod Asking

@@ -44,6 +44,8 @@ ghost use Rattle.lk_cluster_theorems.specs.Processes.{all_letters, seats_after, 
 ghost use Rattle.lk_cluster_theorems.specs.NodeRuns.{ForEachDown, ForEachUp, NodeRun, BrokenNodeRun, LedNodeRun};
 ghost use Rattle.lk_cluster_theorems.specs.NodeRuns.{RefusedStart, run_moves, broken_run_moves, led_run_moves};
 ghost use Rattle.lk_cluster_theorems.specs.NodeRuns.{refused_moves};
+ghost use Rattle.lk_cluster_theorems.specs.Carrying.{AllBrought};
+ghost use Rattle.lk_cluster_theorems.specs.ThreeNodes.{ThreeNodesRun, three_nodes};
 ghost use Rattle.lk_cluster_theorems.specs.Sealing.{IsSealed, OnlyNodesSeal, OnlyNodesSealWhatComes, AllMoveSealed};
 ghost use Rattle.lk_cluster_theorems.specs.Stopping.{IsInTurn};
 
@@ -319,6 +321,17 @@ pub fn a_delivering_network_forges_nothing<D: LogDisk, S: DatagramSocket>()
         → IsReachable ForgesNothing D.is_metered S.is_observable genesis cluster }
 {}
 
+/// Sockets between which a network carries, and forges nothing, show what nodes are given: if whatever comes to a node
+/// in a move is a copy of a datagram that one of the sockets has sent before, or no node's message, then the network
+/// only delivers. The nodes have no key, and their sockets reveal what they send. So the premise about the network is
+/// met by whoever passes on what each of three servers sends, as a cable does.
+pub fn what_sockets_carry_is_delivered<D: LogDisk, S: DatagramSocket>()
+    ensures { S.is_observable → (genesis : GenesisValue)
+        → (moves : List (Move D.is_metered S.is_observable D.is_honest genesis))
+        → AllBrought D.is_metered S.is_observable D.is_honest genesis [] moves
+        → MayAllArrive D.is_metered S.is_observable D.is_honest genesis OnlyDelivers [] moves }
+{}
+
 /// From the bytes that come to nodes to what their clients see. New nodes run on honest devices, each as the program's
 /// contract ensures, at the same time and in any order; they talk to each other, restart and are killed. Then what
 /// joins the trace by the bytes that they take and give is linearizable.
@@ -337,6 +350,13 @@ pub fn mixed_runs_are_linearizable<D: LogDisk, S: DatagramSocket>()
         → MayAllArrive D.is_metered S.is_observable D.is_honest genesis OnlyDelivers [] moves
         → (notes : List Note) → TraceAll D.is_metered S.is_observable D.is_honest genesis honest moves notes
         → IsLinearizable genesis notes }
+    // so if it carries between sockets that reveal what they send
+    ensures carried { (honest : D.is_honest) → S.is_observable → (genesis : GenesisValue) (nodes : List Node)
+        → AreNew nodes → (moves : List (Move D.is_metered S.is_observable D.is_honest genesis))
+        → MixRuns D.is_metered S.is_observable D.is_honest genesis nodes moves
+        → AllBrought D.is_metered S.is_observable D.is_honest genesis [] moves
+        → (notes : List Note) → TraceAll D.is_metered S.is_observable D.is_honest genesis honest moves notes
+        → IsLinearizable genesis notes }
     // whatever arrives, if the nodes have a key
     ensures sealed { (honest : D.is_honest) (genesis : GenesisValue) (nodes : List Node) → AreNew nodes
         → (moves : List (Move D.is_metered S.is_observable D.is_honest genesis))
@@ -348,9 +368,34 @@ pub fn mixed_runs_are_linearizable<D: LogDisk, S: DatagramSocket>()
     processes_continue_a_cluster::<D, S>();
     sealed_processes_continue_a_cluster::<D, S>();
     a_delivering_network_forges_nothing::<D, S>();
+    what_sockets_carry_is_delivered::<D, S>();
     a_sealed_cluster_forges_nothing::<D, S>();
     mixed_runs_fit::<D, S>();
     a_cluster_is_linearizable::<D, S>();
+}
+
+/// Three new nodes that run the program on honest devices, and between whose sockets a network carries, meet every
+/// premise of `mixed_runs_are_linearizable`. So its conclusion is about them.
+pub fn three_nodes_meet_the_premises<D: LogDisk, S: DatagramSocket>()
+    ensures new { (genesis : GenesisValue) (moves : List (Move D.is_metered S.is_observable D.is_honest genesis))
+        (run : ThreeNodesRun D.is_metered S.is_observable D.is_honest genesis moves)
+        → AreNew (three_nodes D.is_metered S.is_observable D.is_honest genesis run) }
+    ensures mix { (genesis : GenesisValue) (moves : List (Move D.is_metered S.is_observable D.is_honest genesis))
+        (run : ThreeNodesRun D.is_metered S.is_observable D.is_honest genesis moves)
+        → MixRuns D.is_metered S.is_observable D.is_honest genesis
+        (three_nodes D.is_metered S.is_observable D.is_honest genesis run) moves }
+    ensures delivered { S.is_observable → (genesis : GenesisValue)
+        (moves : List (Move D.is_metered S.is_observable D.is_honest genesis))
+        → ThreeNodesRun D.is_metered S.is_observable D.is_honest genesis moves
+        → MayAllArrive D.is_metered S.is_observable D.is_honest genesis OnlyDelivers [] moves }
+    ensures linearizable { (honest : D.is_honest) → S.is_observable → (genesis : GenesisValue)
+        (moves : List (Move D.is_metered S.is_observable D.is_honest genesis))
+        → ThreeNodesRun D.is_metered S.is_observable D.is_honest genesis moves → (notes : List Note)
+        → TraceAll D.is_metered S.is_observable D.is_honest genesis honest moves notes
+        → IsLinearizable genesis notes }
+{
+    what_sockets_carry_is_delivered::<D, S>();
+    mixed_runs_are_linearizable::<D, S>();
 }
 
 /// A node of a cluster that is down comes back: whatever it was doing when it stopped, and whatever the stop left of

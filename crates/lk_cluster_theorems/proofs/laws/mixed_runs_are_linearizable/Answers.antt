@@ -29,6 +29,11 @@ returns-clause-delivered g c honest genesis nodes new moves mix may notes traces
     (c.a_cluster_is_linearizable.ensures genesis on.cluster
     (c.a_delivering_network_forges_nothing.ensures genesis on.cluster on.reachable))
 
+pub returns-clause-carried : goal.returns-clause-carried
+returns-clause-carried g c honest shown genesis nodes new moves mix brought notes traces =
+    returns-clause-delivered g c honest genesis nodes new moves mix
+    (c.what_sockets_carry_is_delivered.ensures shown genesis moves brought) notes traces
+
 pub returns-clause-sealed : goal.returns-clause-sealed
 returns-clause-sealed g c honest genesis nodes new moves mix sealed notes traces =
     let all = new_reachable IsSealed g.D.LogDisk.is_metered g.S.DatagramSocket.is_observable genesis nodes new in
