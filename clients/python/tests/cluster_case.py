@@ -21,6 +21,8 @@ class ClusterCase(unittest.TestCase):
         self.folder = self.enterContext(tempfile.TemporaryDirectory())
         self.cluster = self.enterContext(Cluster(PROGRAM, self.folder))
         self.ports = list(self.cluster.ports.values())
+        with self.cluster.client(Client, 256, patience=60.0) as first:
+            first.ask("ready")  # so that no test has to wait for the first leader
         self.enterContext(warnings.catch_warnings())
         warnings.simplefilter("ignore", ResourceWarning)  # many of these tests leave their locks held
         # A shell lets what it runs in the background ignore an interrupt, and so would what the tests start.
@@ -28,6 +30,7 @@ class ClusterCase(unittest.TestCase):
         self.addCleanup(signal.signal, signal.SIGINT, before)
 
     def client(self, number, **how):
+        how.setdefault("patience", 60.0)
         return self.enterContext(self.cluster.client(Client, number, **how))
 
     def all_nodes(self, number):
@@ -37,7 +40,7 @@ class ClusterCase(unittest.TestCase):
 
     def run_program(self, number, *words, first=None, ports=None, **how):
         """Starts the client as a program."""
-        known = ["--port", *map(str, ports or self.ports)]
+        known = ["--patience", "60", "--port", *map(str, ports or self.ports)]
         who = ["--cluster", "5", "--client", str(number), "--first", str(first or milliseconds())]
         command = [sys.executable, "-m", "locks_client", *known, *who, *words]
         process = subprocess.Popen(command, stdout=subprocess.PIPE, stderr=subprocess.PIPE, text=True, **how)
@@ -47,7 +50,7 @@ class ClusterCase(unittest.TestCase):
 
     def ended(self, process):
         """The status, the output and what stands on standard error of a run."""
-        out, err = process.communicate(timeout=60)
+        out, err = process.communicate(timeout=300)
         return process.returncode, out, err
 
     def said(self, number, *words, **how):
@@ -55,7 +58,7 @@ class ClusterCase(unittest.TestCase):
         return self.ended(self.run_program(number, *words, **how))
 
     def wait_until_asking(self, process):
-        """Waits until the process has a handler for SIGTERM, and then until its request is surely sent."""
+        """Waits until the process has a handler for SIGTERM, and then a little, in which it normally asks."""
         with open(f"/proc/{process.pid}/status", encoding="ascii") as status:
             while not self.caught(status) >> (signal.SIGTERM - 1) & 1:
                 time.sleep(0.02)

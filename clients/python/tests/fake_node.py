@@ -78,3 +78,13 @@ def numbered(text, number):
 def waiting(*seconds):
     """Waits of so many seconds in place of the client's, the last one again and again."""
     return mock.patch.multiple(waits, WAITS=seconds, POLLS=seconds, SCATTER=(1.0, 1.0))
+
+
+def once():
+    """Each request is sent once: a row that comes late on a busy machine is not asked for again."""
+    return waiting(60.0)
+
+
+def polling(seconds):
+    """The same, but for a lock that is held the client asks again after so many seconds."""
+    return mock.patch.multiple(waits, WAITS=(60.0,), POLLS=(seconds,), SCATTER=(1.0, 1.0))

@@ -1,6 +1,8 @@
 """A lock table in memory, asked by a client at once or through a socket: for tests that make many calls."""
+import contextlib
 import socket
 import threading
+import time
 import unittest
 import warnings
 
@@ -91,11 +93,12 @@ class TableNode(threading.Thread):
     """A node that answers for a table in memory.
 
     takes: whether a request arrives. replies: whether the reply to it does. Both are given the first byte of the body.
+    heard: that byte of each request. done: the same, once the node is done with it.
     """
 
     def __init__(self):
         super().__init__(daemon=True)
-        self.table, self.heard = Table(), []
+        self.table, self.heard, self.done = Table(), [], []
         self.takes = self.replies = lambda body: True
         self.socket = socket.socket(socket.AF_INET, socket.SOCK_DGRAM)
         self.socket.bind(("127.0.0.1", 0))
@@ -113,6 +116,7 @@ class TableNode(threading.Thread):
                 reply = self.table.reply(data)
                 if self.replies(body):
                     self.socket.sendto(reply, sender)
+            self.done.append(body)
 
     def stop(self):
         with socket.socket(socket.AF_INET, socket.SOCK_DGRAM) as it:
@@ -140,3 +144,12 @@ class TableCase(unittest.TestCase):
     def holders(self, name):
         """Who holds a name."""
         return list(self.node.table.holders.get(name, ()))
+
+    @contextlib.contextmanager
+    def hearing(self, body):
+        """Waits at the end of the block until the node is done with one more such request."""
+        before, end = self.node.done.count(body), time.monotonic() + 30.0
+        yield
+        while self.node.done.count(body) == before:
+            self.assertLess(time.monotonic(), end, "the node has not heard it")
+            time.sleep(0.005)

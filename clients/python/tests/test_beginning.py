@@ -5,7 +5,7 @@ import tempfile
 import unittest
 
 from cluster_case import PROGRAM, ClusterCase
-from fake_node import ACQUIRE, FREE, GRANTED, PASSED, Node, numbered, plain
+from fake_node import ACQUIRE, FREE, GRANTED, PASSED, Node, numbered, once, plain
 from table_case import ASK, TableCase
 from locks_client import Client, Held, NoAnswer, OtherAnswer, Passed
 
@@ -13,7 +13,11 @@ ASK_FIRST = "4c4b0109 0000000000000005 00000000 0007 0000000000000001 00 07 0305
 
 
 class BeginningTest(TableCase):
-    def of_node(self, *rows, patience=3.0):
+    def setUp(self):
+        super().setUp()
+        self.enterContext(once())
+
+    def of_node(self, *rows, patience=30.0):
         """A scripted node, and a client of it that has not begun."""
         node = Node(*rows)
         client = Client(5, 7, [node.port], first=1, patience=patience)
@@ -56,11 +60,10 @@ class BeginningTest(TableCase):
     def test_what_was_not_sent_is_withdrawn_at_once(self):
         self.node.takes = lambda body: False
         client = self.client(patience=0.2)
-        with self.assertRaises(NoAnswer):
+        with self.hearing(ASK), self.assertRaises(NoAnswer):
             client.acquire("db")
-        heard = len(self.node.heard)
         self.assertFalse(client.withdraw("db"))
-        self.assertEqual((len(self.node.heard), client.is_open), (heard, False))
+        self.assertEqual((self.node.heard, client.is_open), ([ASK], False))
 
     def test_a_run_begins_again_after_skip_to(self):
         client = self.client()

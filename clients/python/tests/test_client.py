@@ -24,7 +24,9 @@ from fake_node import (
     Node,
     elsewhere,
     numbered,
+    once,
     plain,
+    polling,
     waiting,
 )
 from locks_client import (
@@ -39,7 +41,6 @@ from locks_client import (
     OtherAnswer,
     Passed,
     Unanswered,
-    waits,
 )
 
 
@@ -75,9 +76,12 @@ def in_child(call):
 
 
 class ClientTest(unittest.TestCase):
-    def client(self, *ports, first=1, patience=3.0):
+    def setUp(self):
+        self.enterContext(once())
+
+    def client(self, *ports, first=1, patience=30.0):
         client = Client(5, 7, ports, first=first, patience=patience)
-        client.cleanup = 10.0
+        client.cleanup = 30.0
         client.core.has_begun = True  # so that these tests need not script the first Ask
         self.addCleanup(client.close)
         self.addCleanup(client.core.grants.clear)  # before that, since some of these tests leave a lock held
@@ -98,7 +102,8 @@ class ClientTest(unittest.TestCase):
 
     def test_the_same_bytes_are_sent_again_and_other_replies_dropped(self):
         node = Node([], OTHERS, [GRANTED])
-        self.assertEqual(self.client(node.port).acquire("db"), 1)
+        with waiting(0.2, 0.2, 60.0):
+            self.assertEqual(self.client(node.port).acquire("db"), 1)
         self.assertEqual(node.heard, [plain(ACQUIRE)] * 3)
 
     def test_elsewhere_is_followed(self):
@@ -136,43 +141,28 @@ class ClientTest(unittest.TestCase):
             with self.assertRaises(OtherAnswer):
                 self.asks_once(numbered(reply, 1), ask)
 
-    def test_elsewheres_are_counted_anew_after_each_wait(self):
-        with waiting(0.1):
-            first, second = Node(), Node()
-            first.rows, second.rows = [[elsewhere(second.port)]] * 20, [[elsewhere(first.port)]] * 20
-            for it in (first, second):
-                it.begin()
-            with self.assertRaises(NoAnswer):
-                self.client(first.port, second.port, patience=0.25).acquire("db")
-        # three rounds, at 0, 0.1 and 0.2 s, of one datagram and the seven that follow it
-        self.assertEqual(len(first.heard) + len(second.heard), 3 * 8)
-
     def test_a_node_that_is_silent_is_left_for_the_next(self):
-        with waiting(0.1):
-            silent, node = Node([], []), Node([GRANTED], [numbered(RELEASED, 2)])
-            client = self.client(silent.port, node.port)
+        silent, node = Node([], []), Node([GRANTED], [numbered(RELEASED, 2)])
+        client = self.client(silent.port, node.port)
+        with waiting(0.5, 60.0):
             self.assertEqual(client.acquire("db"), 1)
-            client.release("db", 1)
+        client.release("db", 1)
         self.assertEqual((len(silent.heard), len(node.heard)), (1, 2))
 
-    def test_waits_grow_and_are_scattered(self):
-        for wait, most in zip(waits.waits(), [0.5, 1.0, 2.0, 4.0, 4.0, 4.0]):
-            self.assertTrue(0.75 * most <= wait <= 1.25 * most)
-
     def test_a_lock_is_asked_for_until_it_is_granted(self):
-        with waiting(0.05):
+        with polling(0.05):
             node = Node([BUSY], [numbered(BUSY, 2)], [numbered(GRANTED, 3)])
-            self.assertEqual(self.client(node.port).acquire("db", wait=3.0), 1)
+            self.assertEqual(self.client(node.port).acquire("db", wait=30.0), 1)
         self.assertEqual(len(node.heard), 3)
 
     def test_a_lock_is_asked_for_until_a_deadline(self):
-        with waiting(0.05):
-            node = Node([BUSY], *[[numbered(BUSY, number)] for number in range(2, 20)])
+        with polling(0.05):
+            node = Node([BUSY], *[[numbered(BUSY, number)] for number in range(2, 30)])
             start = time.monotonic()
             with self.assertRaises(Busy):
-                self.client(node.port).acquire("db", wait=0.22)
-            self.assertTrue(0.22 <= time.monotonic() - start < 1.0)
-        self.assertTrue(3 <= len(node.heard) <= 6)
+                self.client(node.port).acquire("db", wait=1.0)
+            self.assertTrue(1.0 <= time.monotonic() - start < 20.0)
+        self.assertTrue(2 <= len(node.heard) <= 22)
 
     def test_what_this_client_holds_itself_is_not_waited_for(self):
         node = Node([by(7, BUSY)])
@@ -197,16 +187,16 @@ class ClientTest(unittest.TestCase):
         client = self.client(node.port, patience=0.2)
         with self.assertRaises(NoAnswer):
             client.acquire("db")
-        client.patience = 10.0
+        client.patience = 30.0
         self.assertTrue(client.withdraw("db"))
         self.assertEqual(node.heard, [plain(ACQUIRE), plain(ACQUIRE), plain(RELEASE)])
 
     def test_a_share_without_an_answer_is_withdrawn(self):
         node = Node([FREE], [], [numbered(SHARED, 2)], [numbered(RELEASED, 3)])
-        client = self.client(node.port, patience=1.5)
-        with self.assertRaises(NoAnswer), waiting(9.0):
+        client = self.client(node.port, patience=2.0)
+        with self.assertRaises(NoAnswer):
             client.share("db")
-        client.patience = 10.0
+        client.patience = 30.0
         self.assertTrue(client.withdraw("db"))
         self.assertEqual(node.heard[3], numbered(RELEASE, 3))
 
@@ -215,7 +205,7 @@ class ClientTest(unittest.TestCase):
         client = self.client(node.port, patience=0.2)
         with self.assertRaises(NoAnswer):
             client.acquire("db")
-        client.patience = 10.0
+        client.patience = 30.0
         self.assertFalse(client.withdraw("db"))
         self.assertFalse(client.withdraw("db"))
         self.assertEqual(node.heard, [plain(ACQUIRE)] * 2)
@@ -230,17 +220,17 @@ class ClientTest(unittest.TestCase):
 
     def test_a_request_that_a_block_leaves_open_does_not_keep_the_lock(self):
         node = Node([GRANTED], [], [numbered(RELEASED, 3)])
-        client = self.client(node.port, patience=10.0)
+        client = self.client(node.port)
         with client.lock("db"):
             client.patience = 0.2
             with self.assertRaises(NoAnswer):
                 client.ask("db")
-            client.patience = 10.0
+            client.patience = 30.0
         self.assertEqual(node.heard[2], numbered(RELEASE, 3))
 
     def test_a_failing_release_does_not_hide_the_error_of_a_block(self):
         node = Node([GRANTED])
-        client = self.client(node.port, patience=10.0)
+        client = self.client(node.port)
         with self.assertRaises(KeyError) as raised, self.assertLogs("locks_client", "WARNING"), client.lock("db"):
             client.patience = 0.2
             raise KeyError("of the block")
@@ -287,9 +277,10 @@ class ClientTest(unittest.TestCase):
     def test_two_threads_at_once_are_refused(self):
         node = Node([], [GRANTED])
         client = self.client(node.port)
-        with ThreadPoolExecutor(1) as pool:
+        with waiting(2.0, 60.0), ThreadPoolExecutor(1) as pool:
             first = pool.submit(client.acquire, "db")
-            time.sleep(0.1)
+            while not node.heard:
+                time.sleep(0.01)
             with self.assertRaises(Unanswered):
                 client.ask("db")
             self.assertEqual(first.result(), 1)
@@ -299,7 +290,7 @@ class ClientTest(unittest.TestCase):
         start = time.monotonic()
         with self.assertRaises(NoAnswer):
             self.client(Node([]).port, patience=0.2).acquire("db", wait=0.6)
-        self.assertTrue(0.6 <= time.monotonic() - start < 3.0)
+        self.assertTrue(0.6 <= time.monotonic() - start < 20.0)
 
     def test_numbers_skip_after_passed(self):
         node = Node([PASSED], [numbered(FREE, 9)], [numbered(GRANTED, 10)])
@@ -319,7 +310,7 @@ class ClientTest(unittest.TestCase):
             client.acquire("db")
         with self.assertRaises(Unanswered):
             client.acquire("db")
-        client.core.turn, client.patience = iter([Node([GRANTED]).port]), 10.0
+        client.core.turn, client.patience = iter([Node([GRANTED]).port]), 30.0
         self.assertEqual(client.again(), 1)
 
 

@@ -41,7 +41,7 @@ class ClusterTest(ClusterCase):
     def test_each_node_may_be_asked(self):
         self.client(1).acquire("db")
         for number, port in enumerate(self.ports, 2):
-            with Client(5, number, [port], first=1) as client:
+            with Client(5, number, [port], first=1, patience=60.0) as client:
                 self.assertEqual(client.ask("db"), Held(1, 1))
 
     def test_a_number_that_was_used_is_noticed(self):
@@ -54,7 +54,7 @@ class ClusterTest(ClusterCase):
         self.assertEqual(passed.exception.last, 10)
 
     def test_the_death_of_each_node_is_survived(self):
-        client = self.client(1, patience=30.0)
+        client = self.client(1)
         for fence, node in enumerate(list(self.cluster.ports), 1):
             self.assertEqual(client.acquire("db"), fence)
             self.cluster.kill(node)
@@ -101,7 +101,7 @@ class ClusterTest(ClusterCase):
         """The fences of so many tasks, each with a client of its own, which want one lock at once."""
 
         async def fence(number):
-            async with self.cluster.client(AsyncClient, number, patience=30.0) as client, client.lock("db") as fence:
+            async with self.cluster.client(AsyncClient, number, patience=60.0) as client, client.lock("db") as fence:
                 await asyncio.sleep(0.1)
                 return fence
 

@@ -5,11 +5,11 @@ import unittest
 from unittest import mock
 
 from fake_node import ACQUIRE, BUSY, FREE, GRANTED, RELEASE, RELEASED, elsewhere, numbered, plain, waiting
-from locks_client import NoAnswer, StateError
+from locks_client import Busy, NoAnswer, StateError
 from locks_client.calls import Calls
 from locks_client.plans import Datagram, Listen, Send, Sleep
 from locks_client.numbers import BLOCK, SPARE, Numbers
-from locks_client.waits import POLLS, Polls
+from locks_client.waits import POLLS, Polls, waits
 
 
 class Clock:
@@ -72,6 +72,21 @@ class CoreTest(unittest.TestCase):
         self.carry_out(self.core.poll("acquire", "db", 0.0), elsewhere(7003), GRANTED)
         self.assertEqual([it[:2] for it in self.done], [(0.0, 7001), (0.0, 7003)])
 
+    def test_elsewheres_are_counted_anew_after_each_wait(self):
+        heard = [*[elsewhere(7003)] * 8, None] * 3
+        with self.assertRaises(NoAnswer):
+            self.carry_out(self.core.poll("acquire", "db", 0.0), *heard)
+        followed = [7003] * 7
+        self.assertEqual([it[1] for it in self.done], [7001, *followed, 7002, *followed, 7001, *followed])
+        self.assertEqual([it[0] for it in self.done[::8]], [0.0, 0.5, 1.0])
+
+    def test_a_lock_is_asked_for_until_a_deadline(self):
+        self.core.patience = 9.0
+        heard = [numbered(BUSY, number) for number in range(1, 9)]
+        with self.assertRaises(Busy):
+            self.carry_out(self.core.poll("acquire", "db", 1.2), *heard)
+        self.assertEqual([it[0] for it in self.done], [0.0, 0.5, 1.0, 1.2])
+
     def test_a_release_forgets_the_grant(self):
         self.carry_out(self.core.poll("acquire", "db", 0.0), GRANTED)
         self.carry_out(self.core.release("db", 1), RELEASED)
@@ -95,6 +110,12 @@ class CoreTest(unittest.TestCase):
             last = numbers.last + 1
             self.carry_out(self.core.release("db", 1), numbered(RELEASED, last))
         self.assertEqual(last, BLOCK - SPARE + 1)
+
+
+class WaitsTest(unittest.TestCase):
+    def test_waits_grow_and_are_scattered(self):
+        for wait, most in zip(waits(), [0.5, 1.0, 2.0, 4.0, 4.0, 4.0]):
+            self.assertTrue(0.75 * most <= wait <= 1.25 * most)
 
 
 class PollsTest(unittest.TestCase):

@@ -8,6 +8,7 @@ import tempfile
 import unittest
 
 from harness.cluster import Cluster
+from locks_client import Client
 
 FOLDER = os.path.join(os.path.dirname(os.path.abspath(__file__)), "..")
 PROGRAM = os.environ.get("LOCKS_PROGRAM")
@@ -20,7 +21,7 @@ def ran(*words, **how):
     known = {name: value for name, value in os.environ.items() if name != "PYTHONPATH"}
     known["PIP_CONFIG_FILE"] = os.devnull
     run = subprocess.run(
-        words, env=known, stdout=subprocess.PIPE, stderr=subprocess.STDOUT, text=True, timeout=100, **how
+        words, env=known, stdout=subprocess.PIPE, stderr=subprocess.STDOUT, text=True, timeout=300, **how
     )
     return run.returncode, run.stdout
 
@@ -39,6 +40,8 @@ class InstalledTest(unittest.TestCase):
     def setUp(self):
         self.room = self.enterContext(tempfile.TemporaryDirectory())
         self.cluster = self.enterContext(Cluster(PROGRAM, self.room))
+        with self.cluster.client(Client, 256, patience=60.0) as first:
+            first.ask("ready")
         with open(os.path.join(FOLDER, "README.md"), encoding="utf-8") as readme:
             self.readme = readme.read()
 

@@ -8,6 +8,7 @@ import unittest
 
 from cluster_case import PROGRAM, ClusterCase
 from fake_node import FREE, PASSED, Node, numbered
+from table_case import ACQUIRE, TableNode
 from locks_client import Client, Free, Held, milliseconds, program
 
 STATUS_7 = [sys.executable, "-c", "import os, sys; print(os.environ['LOCKS_FENCE']); sys.exit(7)"]
@@ -96,7 +97,7 @@ class ProgramTest(ClusterCase):
         client = self.client(3)
         client.acquire("db")
         busy = (121, "", "busy 3 1: client 3 holds db at fence 1\n")
-        self.assertEqual(self.said(1, "--wait", "0.1", "hold", "db", "--", "true"), busy)
+        self.assertEqual(self.said(1, "--wait", "1.5", "hold", "db", "--", "true"), busy)
         waiting = self.run_program(1, "hold", "db", "--", "true")
         time.sleep(0.3)
         client.release("db", 1)
@@ -107,13 +108,13 @@ class ProgramTest(ClusterCase):
         self.all_nodes(signal.SIGSTOP)
         start = time.monotonic()
         status, _, err = self.said(1, "--wait", "1", "hold", "db", "--", "true")
-        self.assertLess(time.monotonic() - start, 3.0)
+        self.assertLess(time.monotonic() - start, 30.0)
         self.all_nodes(signal.SIGCONT)
         self.assertEqual((status, err), (123, "no answer: the acquire of db was not sent\n"))
 
     def test_an_acquire_without_an_answer_says_how_to_free_the_lock(self):
         node = Node([FREE], *[[]] * 9)
-        status, _, err = self.said(7, "--wait", "0.3", "hold", "db", "--", "true", first=1, ports=[node.port])
+        status, _, err = self.said(7, "--wait", "1.5", "hold", "db", "--", "true", first=1, ports=[node.port])
         self.assertEqual(status, 123)
         self.assertIn("may still take effect; `ask db` tells whether client 7 holds it at a fence F", err)
         self.assertIn("`release db F`, as client 7, frees it", err)
@@ -148,30 +149,41 @@ class ProgramTest(ClusterCase):
         client.release("db", 1)
         self.assertEqual(client.ask("db"), Free(1))
 
-    def test_what_a_signal_stops_is_withdrawn(self):
-        self.stopped_while_asking(1)
-        self.assertIsInstance(self.client(4).ask("db"), Free)
+    def table(self):
+        """A node that has a table of its own, so that a test knows what it has executed."""
+        node = TableNode()
+        self.addCleanup(node.stop)
+        return node
 
-    def stopped_while_asking(self, number):
-        """A `hold` that a signal stops before its acquire is answered; its answer comes after that."""
-        self.client(3).ask("db")
-        self.all_nodes(signal.SIGSTOP)
-        process = self.run_program(number, "hold", "db", "--", "true")
-        self.wait_until_asking(process)
-        process.send_signal(signal.SIGTERM)
-        self.all_nodes(signal.SIGCONT)
-        self.assertEqual(self.ended(process), (128 + signal.SIGTERM, "", ""))
+    def stopped_while_asking(self, node, signals=1):
+        """What a `hold` says that signals stop after its acquire was executed; its answer comes after them."""
+        node.replies = lambda body: body != ACQUIRE
+        heard = node.done.count(ACQUIRE)
+        process = self.run_program(1, "hold", "db", "--", "true", ports=[node.port])
+        for sent in range(1, signals + 1):
+            while node.done.count(ACQUIRE) < heard + sent:
+                time.sleep(0.02)
+            process.send_signal(signal.SIGTERM)
+        node.replies = lambda body: True
+        return self.ended(process)
+
+    def test_what_a_signal_stops_is_withdrawn(self):
+        node = self.table()
+        self.assertEqual(self.stopped_while_asking(node), (128 + signal.SIGTERM, "", ""))
+        self.assertEqual((node.table.fences, node.table.holders), ({"db": 1}, {}))
 
     def test_a_second_run_that_is_stopped_does_not_free_the_lock_of_the_first(self):
-        process = self.holds(1, UP)
-        self.stopped_while_asking(1)
-        self.assertEqual(self.client(4).ask("db"), Held(1, 1))
+        node = self.table()
+        process = self.holds(1, UP, ports=[node.port])
+        self.assertEqual(self.stopped_while_asking(node), (128 + signal.SIGTERM, "", ""))
+        self.assertEqual(node.table.holders, {"db": (1,)})
         process.send_signal(signal.SIGTERM)
         self.ended(process)
 
     def test_a_second_signal_is_not_silent(self):
         node = Node([FREE], *[[]] * 9)
-        process = self.run_program(7, "hold", "db", "--", "true", first=1, ports=[node.port])
+        hold = ["--patience", "5", "hold", "db", "--", "true"]
+        process = self.run_program(7, *hold, first=1, ports=[node.port])
         while len(node.heard) < 2:
             time.sleep(0.02)
         for _ in range(2):
@@ -182,16 +194,11 @@ class ProgramTest(ClusterCase):
         self.assertIn(MAY_STAY_HELD, err)
 
     def test_what_two_signals_stop_is_withdrawn(self):
-        self.client(3).ask("db")
-        self.all_nodes(signal.SIGSTOP)
-        process = self.run_program(1, "hold", "db", "--", "true")
-        self.wait_until_asking(process)
-        for _ in range(2):
-            process.send_signal(signal.SIGTERM)
-            time.sleep(0.1)
-        self.all_nodes(signal.SIGCONT)
-        self.assertEqual(self.ended(process), (128 + signal.SIGTERM, "", ""))
-        self.assertIsInstance(self.client(4).ask("db"), Free)
+        node = self.table()
+        status, _, err = self.stopped_while_asking(node, signals=2)
+        self.assertEqual((status, node.table.fences), (128 + signal.SIGTERM, {"db": 1}))
+        if node.table.holders:  # the last try of a second was too short for a busy machine
+            self.assertIn(MAY_STAY_HELD, err)
 
     def test_a_command_dies_with_its_hold(self):
         process = self.holds(1, UP)
@@ -253,7 +260,7 @@ class ProgramTest(ClusterCase):
     def test_a_state_goes_on(self):
         state = ["--state", os.path.join(self.folder, "number")]
         self.assertEqual(self.said(1, *state, "hold", "db", "--", "true"), (0, "", ""))
-        with Client(5, 1, self.ports, state=state[1]) as client:
+        with Client(5, 1, self.ports, state=state[1], patience=60.0) as client:
             self.assertEqual(client.ask("db"), Free(1))
 
 

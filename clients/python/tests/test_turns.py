@@ -51,9 +51,9 @@ class TurnsTest(TableCase):
         beside = threading.Thread(target=lambda: self.assertRaises(Exception, client.ask, "other"))
         with self.assertRaises(KeyError), client.lock("db"):
             client.patience = 1.0
-            beside.start()
-            time.sleep(0.2)
-            client.patience = 5.0
+            with self.hearing(ASK):
+                beside.start()
+            client.patience = 30.0
             raise KeyError
         beside.join()
         self.assertEqual(self.holders("db"), [])
@@ -64,8 +64,8 @@ class TurnsTest(TableCase):
         self.node.takes = lambda body: body != ASK
         with self.assertRaises(Unanswered) as raised, self.assertLogs("locks_client", "WARNING"), client.lock("db"):
             beside = threading.Thread(target=lambda: self.assertRaises(Exception, client.ask, "other"))
-            beside.start()
-            time.sleep(0.3)
+            with self.hearing(ASK):
+                beside.start()
             client.patience = 0.2
         self.assertIn("db was not released at fence 1 by client 7", raised.exception.__notes__[0])
         beside.join()
@@ -94,8 +94,8 @@ class TurnsTest(TableCase):
         client.ask("db")
         self.node.takes = lambda body: False
         beside = threading.Thread(target=lambda: self.assertRaises(NoAnswer, client.ask, "other"))
-        beside.start()
-        time.sleep(0.3)
+        with self.hearing(ASK):
+            beside.start()
         reader, writer = os.pipe()
         if os.fork() == 0:
             try:

@@ -5,7 +5,7 @@ import warnings
 from unittest import mock
 
 from fake_node import FREE, PASSED, Node
-from table_case import ACQUIRE, ASK, RELEASE, TableCase
+from table_case import ACQUIRE, ASK, RELEASE, SHARE, TableCase
 from locks_client import Busy, Client, LocksError, NoAnswer, Passed, Unknown, core
 
 
@@ -14,9 +14,9 @@ class WithdrawalTest(TableCase):
         """An acquire that is granted and gets no answer."""
         self.node.replies = lambda body: body != ACQUIRE
         client.patience = 0.3
-        with self.assertRaises(NoAnswer):
+        with self.hearing(ACQUIRE), self.assertRaises(NoAnswer):
             client.acquire(name)
-        client.patience = 5.0
+        client.patience = 30.0
         self.node.replies = lambda body: True
 
     def test_an_acquire_that_was_passed_is_told_as_one_without_an_answer(self):
@@ -87,10 +87,9 @@ class WithdrawalTest(TableCase):
         with client.lock("db") as fence:
             self.assertEqual(fence, 2)
         self.node.replies = lambda body: body != RELEASE
-        client.patience = 0.3
-        with self.assertRaises(NoAnswer), client.lock("db"):
-            pass
-        self.node.replies, client.patience = lambda body: True, 5.0
+        with self.hearing(RELEASE), self.assertRaises(NoAnswer), client.lock("db"):
+            client.patience = 0.3
+        self.node.replies, client.patience = lambda body: True, 30.0
         with client.lock("db") as fence:
             self.assertEqual(fence, 4)
         self.assertEqual(self.holders("db"), [])
@@ -121,7 +120,6 @@ class WithdrawalTest(TableCase):
         with warnings.catch_warnings():
             warnings.simplefilter("error")
             client.close()
-
 
     def test_a_lock_that_is_known_to_be_lost_is_not_warned_of(self):
         client = self.client()
@@ -157,10 +155,10 @@ class SharesTest(TableCase):
         self.client(first=1).share("db")
         client = self.client(first=100)
         client.ask("db")
-        self.node.replies, client.patience = lambda body: body == ASK, 0.3
-        with self.assertRaises(NoAnswer):
+        self.node.replies, client.patience = lambda body: body == ASK, 1.0
+        with self.hearing(SHARE), self.assertRaises(NoAnswer):
             client.share("db")
-        self.node.replies, client.patience = lambda body: True, 5.0
+        self.node.replies, client.patience = lambda body: True, 30.0
         with self.assertRaises(Busy):
             client.withdraw("db")
         self.assertEqual(self.holders("db"), [7])

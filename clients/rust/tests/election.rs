@@ -13,6 +13,7 @@ use support::Cluster;
 
 const BEAT: Duration = Duration::from_millis(100);
 const DEAD: Duration = Duration::from_millis(600);
+const PATIENT: Duration = Duration::from_secs(4); // no beat is so late on a busy machine
 
 /// A raised cluster of one node.
 fn cluster() -> Cluster {
@@ -24,7 +25,7 @@ fn cluster() -> Cluster {
 /// The worked example: a candidate that leads, works with its fence as long as it leads, and resigns.
 fn candidate(client: &mut Client, is_over: &AtomicBool, tell: impl Fn(u64)) -> Result<(), Error> {
     let mut election = client.election("job")?;
-    election.set_times(BEAT, DEAD);
+    election.set_times(BEAT, PATIENT);
     while !is_over.load(Ordering::SeqCst) {
         let fence = match election.lead(Duration::from_millis(200)) {
             Ok(fence) => fence,
@@ -59,7 +60,7 @@ fn one_candidate_leads_and_another_one_follows_it() {
         let start = Instant::now();
         let second = heard.iter().find(|(number, _)| *number != first);
         assert_eq!(second, Some((3 - first, 2)));
-        assert!(start.elapsed() < Duration::from_secs(10));
+        assert!(start.elapsed() < Duration::from_secs(60));
         is_over[2 - usize::from(first)].store(true, Ordering::SeqCst);
     });
     assert!(cluster.client(3).ask("job").unwrap().fence() >= 2);
@@ -99,9 +100,8 @@ fn a_leader_that_beats_is_not_deposed() {
     thread::scope(|scope| {
         let waits = scope.spawn(|| {
             let mut candidate = two.election("job").unwrap();
-            let patient = Duration::from_secs(2); // no beat is so late on a busy machine
-            candidate.set_times(BEAT, patient);
-            candidate.lead(patient * 2).unwrap_err()
+            candidate.set_times(BEAT, PATIENT);
+            candidate.lead(PATIENT * 2).unwrap_err()
         });
         while !waits.is_finished() {
             assert!(leader.beat().unwrap());

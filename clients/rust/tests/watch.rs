@@ -16,6 +16,7 @@ const VALID: &str = "07";
 const STALE: &str = "08";
 const NOT_HELD: &str = "04";
 const EACH: Duration = Duration::from_millis(20);
+const HOUR: Duration = Duration::from_secs(3_600);
 
 fn node(fields: &[&str]) -> Node {
     let rows = (2..).zip(fields);
@@ -51,7 +52,7 @@ fn a_wait_for_a_loss_ends_with_it_or_in_time() {
     let mut client = client(&[node.port]);
     let mut lock = client.lock("db", Duration::ZERO).unwrap();
     let found = lock.watch_every(
-        Duration::from_secs(1),
+        Duration::from_secs(3),
         || (),
         |watch| {
             let soon = watch.wait_lost(Duration::from_millis(1));
@@ -66,8 +67,8 @@ fn a_watch_ends_with_its_work_at_once() {
     let node = node(&[GRANTED, RELEASED]);
     let mut client = client(&[node.port]);
     let mut lock = client.lock("db", Duration::ZERO).unwrap();
-    let (start, hour) = (Instant::now(), Duration::from_secs(3_600));
-    let lost = lock.watch_every(hour, || panic!("lost"), |watch| watch.is_lost());
+    let start = Instant::now();
+    let lost = lock.watch_every(HOUR, || panic!("lost"), |watch| watch.is_lost());
     assert!(!lost.unwrap());
     assert!(start.elapsed() < Duration::from_secs(60));
     lock.release().unwrap();
@@ -80,7 +81,7 @@ fn a_panic_of_the_work_ends_the_watch_and_releases() {
     let mut client = client(&[node.port]);
     let panic = catch_unwind(AssertUnwindSafe(|| {
         let mut lock = client.lock("db", Duration::ZERO).unwrap();
-        let _ = lock.watch(|| (), |_| panic!("the work's own"));
+        let _ = lock.watch_every(HOUR, || (), |_| panic!("the work's own"));
     }));
     assert_eq!(panic.unwrap_err().downcast_ref(), Some(&"the work's own"));
     assert_eq!(node.ops()[1], op(2, Some(1)));

@@ -1,7 +1,7 @@
 // Nodes that reply what a test says.
 
 use locks_client::{Client, ClientId, ClusterId, Numbers};
-use std::net::UdpSocket;
+use std::net::{SocketAddr, UdpSocket};
 use std::thread::{self, JoinHandle};
 use std::time::Duration;
 
@@ -78,19 +78,33 @@ impl Node {
     }
 }
 
+/// Replies to each datagram what its row says. One that is sent again, since its answer came late on a
+/// busy machine, takes no row of its own.
 fn serve(socket: &UdpSocket, rows: Vec<Vec<Vec<u8>>>) -> Vec<Vec<u8>> {
-    let mut heard = Vec::new();
+    let (mut heard, mut answered) = (Vec::new(), Vec::new());
     for row in rows {
-        let mut buffer = [0; 100];
-        let Ok((length, from)) = socket.recv_from(&mut buffer) else {
+        let Some((bytes, from)) = received(socket, &answered) else {
             break;
         };
-        heard.push(buffer[..length].to_vec());
-        for reply in row {
-            socket.send_to(&reply, from).unwrap();
+        for reply in &row {
+            socket.send_to(reply, from).unwrap();
         }
+        let is_answered = row.iter().any(|reply| reply.get(3) == Some(&10));
+        answered = if is_answered { bytes.clone() } else { Vec::new() };
+        heard.push(bytes);
     }
     heard
+}
+
+/// The next datagram that is another one than that.
+fn received(socket: &UdpSocket, answered: &[u8]) -> Option<(Vec<u8>, SocketAddr)> {
+    let mut buffer = [0; 100];
+    loop {
+        let (length, from) = socket.recv_from(&mut buffer).ok()?;
+        if buffer[..length] != *answered {
+            return Some((buffer[..length].to_vec(), from));
+        }
+    }
 }
 
 /// Client 7 of cluster 5, whose requests are numbered from 2: number 1 was the Ask with which its
