@@ -90,7 +90,11 @@ fn serve(socket: &UdpSocket, rows: Vec<Vec<Vec<u8>>>) -> Vec<Vec<u8>> {
             socket.send_to(reply, from).unwrap();
         }
         let is_answered = row.iter().any(|reply| reply.get(3) == Some(&10));
-        answered = if is_answered { bytes.clone() } else { Vec::new() };
+        answered = if is_answered {
+            bytes.clone()
+        } else {
+            Vec::new()
+        };
         heard.push(bytes);
     }
     heard
