@@ -66,6 +66,8 @@ func (e *Busy) Error() string {
 		text += ", this one: release its guard first"
 	case e.Holder == e.Client:
 		text += ", this one, since an earlier run: once nothing of that run works, Adopt or Release it"
+	default:
+		text += "; wait longer, or Break it at that fence"
 	}
 	if e.Cause != nil {
 		text += ": " + e.Cause.Error()
