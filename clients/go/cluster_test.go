@@ -266,7 +266,7 @@ func TestCancelsAtAnyMomentLeaveNothingHeld(t *testing.T) {
 	usual := time.Since(begun) // until a lock is granted
 	mustRelease(t, guard)
 	granted, cancelled := 0, 0
-	for at := 0; at < 300; at++ {
+	for at := 0; at < 300 && time.Since(begun) < 2*time.Minute; at++ { // fewer on a busy machine
 		ctx, cancel := context.WithTimeout(context.Background(), time.Duration(rand.Int63n(int64(usual))))
 		guard, err := client.Lock(ctx, "db")
 		if err == nil {

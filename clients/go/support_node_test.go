@@ -200,7 +200,7 @@ func clientOf(t *testing.T, change func(*Config), nodes ...*node) *Client {
 
 // within returns a context of the test that ends after a minute, which a loaded machine does not take.
 func within(t *testing.T) context.Context {
-	ctx, cancel := context.WithTimeout(context.Background(), time.Minute)
+	ctx, cancel := context.WithTimeout(context.Background(), 5*time.Minute)
 	t.Cleanup(cancel)
 	return ctx
 }

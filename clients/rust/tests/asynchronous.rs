@@ -186,11 +186,13 @@ fn a_lock_that_is_held_is_waited_for_by_a_future() {
 fn what_a_dropped_future_asked_is_resumed_and_given_back() {
     let node = Node::new(vec![
         vec![answer(1, FREE)],
+        vec![answer(2, FREE)],
         vec![], // the acquire is executed, and its answer is lost
-        vec![answer(2, GRANTED)],
-        vec![answer(3, RELEASED)],
+        vec![answer(3, GRANTED)],
+        vec![answer(4, RELEASED)],
     ]);
     let (mut session, socket) = session(node.port);
+    run(ask(&mut session, &socket, Op::Ask("db".to_owned()))).unwrap();
     let soon = Instant::now() + Duration::from_millis(100);
     assert!(run_until(soon, ask(&mut session, &socket, acquire())).is_none());
     assert!(session.is_waiting());
@@ -201,7 +203,7 @@ fn what_a_dropped_future_asked_is_resumed_and_given_back() {
     let released = run(ask(&mut session, &socket, release())).unwrap();
     assert_eq!(released, Answer::Released);
     assert_eq!(session.holds().count(), 0);
-    assert_eq!(node.heard().len(), 4);
+    assert_eq!(node.heard().len(), 5);
 }
 
 #[test]

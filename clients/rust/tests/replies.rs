@@ -156,12 +156,13 @@ fn withdrawn(is_shared: bool, fields: &str) -> (bool, Vec<Vec<u8>>) {
     }
     let node = Node::new(rows);
     let mut client = client(&[node.port]);
-    client.set_patience(Duration::from_millis(200));
+    client.set_patience(Duration::from_millis(300));
     let asked = match is_shared {
         true => client.share("db"),
         false => client.acquire("db"),
     };
     assert!(matches!(asked, Err(Error::NoAnswer { is_sent: true, .. })));
+    client.set_patience(Duration::from_secs(5));
     let was_granted = client.withdraw().unwrap();
     assert!(!client.is_waiting());
     (was_granted, node.ops()[1 + asks as usize..].to_vec())
@@ -193,6 +194,7 @@ fn a_grant_that_was_broken_meanwhile_is_withdrawn() {
     let mut client = client(&[node.port]);
     client.set_patience(Duration::from_millis(200));
     assert!(matches!(client.acquire("db"), Err(Error::NoAnswer { .. })));
+    client.set_patience(Duration::from_secs(5));
     assert!(client.withdraw().unwrap());
 }
 
@@ -205,9 +207,10 @@ fn a_withdraw_goes_on_where_its_release_has_no_answer() {
         vec![answer(3, RELEASED)],
     ]);
     let mut client = client(&[node.port]);
-    client.set_patience(Duration::from_millis(200));
+    client.set_patience(Duration::from_millis(300));
     assert!(matches!(client.acquire("db"), Err(Error::NoAnswer { .. })));
     assert!(matches!(client.withdraw(), Err(Error::NoAnswer { .. })));
+    client.set_patience(Duration::from_secs(5));
     assert!(client.withdraw().unwrap());
     assert_eq!(node.ops()[2..], [op(2, Some(1)), op(2, Some(1))]);
 }

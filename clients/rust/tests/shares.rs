@@ -101,11 +101,12 @@ fn a_share_of_an_earlier_run_is_not_withdrawn() {
         vec![answer(4, ONE_SHARES)],
     ]);
     let mut client = client(&[node.port]);
-    client.set_patience(Duration::from_millis(200));
+    client.set_patience(Duration::from_millis(300));
     assert!(matches!(
         client.share("db"),
         Err(Error::NoAnswer { is_sent: true, .. })
     ));
+    client.set_patience(Duration::from_secs(5));
     let refused = client.withdraw().unwrap_err();
     assert!(matches!(refused, Error::SharedBefore { fence: 4, .. }));
     assert_eq!(node.ops().len(), 4); // and no release
