@@ -81,12 +81,13 @@ def events(program, script):
 
 
 def calls(program, lines, line, output):
-    """How many appends, syncs and cuts a tick or a delivery makes, told up to 2: found by letting the first fail, and
-    then the second. A group makes 2 where it syncs, and 1 where it appends alone."""
+    """How many appends, syncs and cuts a tick, a nudge or a delivery makes, told up to 2: found by letting the first
+    fail, and then the second. A group makes 2 where it syncs, and 1 where it appends alone."""
     words = line.split()
     sent = {said.split()[1]: said.split()[3] for said in output if said.startswith("sent ")}
     named = "n" + words[1] if len(words) > 1 else ""
-    node = {"tick": named, "group": named, "deliver": sent.get(words[-1], "")}.get(words[0], "")
+    own = dict.fromkeys(("tick", "nudge", "group"), named)
+    node = {**own, "deliver": sent.get(words[-1], "")}.get(words[0], "")
     fell = lambda run: any(said.startswith(("fault ", "stopped ")) for said in run)
     plain = [said for said in printed(program, lines)[0] if not said.startswith("done ")]
     if node[:1] != "n" or fell(output[len(plain):]):

@@ -3,10 +3,10 @@
 
 `locks fuzz --groups --script` draws schedules of three nodes: datagrams that are lost, late and repeated, stops, failed
 and cut writes, groups, joins and leaves. After each of them every node is restarted, each member that never started is
-started, also one that joins meanwhile, and nothing is lost any more. A round is a tick of each node and then all
-deliveries, in order, until nothing is left; in each round a client asks another node. A new request has to be answered
-within 60 rounds. Then a minority of the members stops, and the request of another client has to be answered within 60
-rounds too.
+started, also one that joins meanwhile, and nothing is lost any more. A round is a tick of each node, each 31st a nudge,
+and then all deliveries, in order, until nothing is left; in each round a client asks another node. A new request has to
+be answered within 60 rounds. Then a minority of the members stops, and the request of another client has to be answered
+within 60 rounds too.
 
 This is a test and no theorem. The last line is `N passed, M failed`, of schedules, and the status is 1 if one failed.
 The line in front of it has the slowest rounds."""
@@ -18,6 +18,7 @@ import subprocess
 from scripting import with_program
 
 ROUNDS = 60
+TICKS_A_NUDGE = 31  # as `locks node` has it
 EVENTS = (40, 80, 160, 320)  # of a schedule, in turn
 CLIENTS = (201, 202)  # no schedule draws them
 AHEAD = 64  # numbers of datagrams that are tried before it is known whether they are sent
@@ -103,17 +104,17 @@ class Cluster:
                 return
             yield number
 
-    def rounds(self, client):
-        """In which round a new request of a client is answered."""
-        for turn in range(1, ROUNDS + 1):
+    def rounds(self, client, most=ROUNDS, each=TICKS_A_NUDGE):
+        """In which round a new request of a client is answered, if each so many ticks a nudge comes."""
+        for turn in range(1, most + 1):
             self.start_members()
             nodes = sorted(self.up)
             asked = f"client {nodes[turn % len(nodes)]} {client} 1 acquire healed"
-            self.lines += [asked, *(f"tick {node}" for node in nodes)]
+            self.lines += [asked, *(f"{'tick' if turn % each else 'nudge'} {node}" for node in nodes)]
             self.deliver()
             if re.search(rf"(?m)^answered \d+ {client} 1 ", self.printed):
                 return turn
-        raise Unhealed(f"the request of client {client} is not answered in {ROUNDS} rounds")
+        raise Unhealed(f"the request of client {client} is not answered in {most} rounds")
 
 
 def healed(program, number):

@@ -27,6 +27,8 @@ EVENTS = (
     (r"restart (\d+)", "Node {0} restarts on the disks that it left."),
     (r"tick (\d+)", "Some time passes at node {0}: one tick."),
     (r"tick (\d+) (\d+)", "Some time passes at node {0}: {1} ticks."),
+    (r"nudge (\d+)", "Node {0} is nudged: it asks the others for what they know better, or tells them how far it has "
+     "come."),
     (r"client (\d+) (\d+) (\d+) (.*)", "Client {1} asks node {0}: {3}. It is this client’s request {2}."),
     (r"inject (\d+) (.*)", "Node {0} is handed bytes that nobody has sent: {1}."),
     (r"stop (\d+) (\d+) (\d+)", "Node {0} stops. Its disks keep up to {1} and {2} of their unsynced bytes."),

@@ -54,7 +54,7 @@ def worker(line, bound):
     verb, *words = line.split()
     if verb == "deliver":
         return bound.get(words[0])
-    return words[0] if verb in ("tick", "inject", "restart", "compact", "group") else None
+    return words[0] if verb in ("tick", "nudge", "inject", "restart", "compact", "group") else None
 
 
 def receivers(output):

@@ -16,7 +16,7 @@ use Rattle.lk_agreement_laws.specs.Snapshots.{IsSlice}
 use Rattle.lk_agreement_laws.proofs.Histories.{prefix_slice, still_sent}
 use Rattle.lk_node_interface.specs.Letters.{LetterValue, batch_of, datagram_of}
 use Rattle.lk_node_interface.specs.declared.input.Input.{Input}
-use Rattle.lk_node_interface.specs.declared.input.Input.TheVariants.{Tick, Datagram as Heard}
+use Rattle.lk_node_interface.specs.declared.input.Input.TheVariants.{Tick, Nudge, Datagram as Heard}
 use Rattle.lk_node_interface.specs.declared.note.Note.{Note}
 use Rattle.lk_node.specs.Calls.{heard_by, InputFits, NodeFits, LeavesFit}
 use Rattle.lk_node.specs.Histories.{History, Genesis, Datagram, RequestValue, IsLawful, later, text}
@@ -47,6 +47,7 @@ use Rattle.lk_cluster_theorems.proofs.Mapped.{on_device}
 -- bytes that may be heard as what was given
 pub input_fits : (h : History) (i : Input) → MayHear h (heard_by i) → InputFits h i
 input_fits h Tick hears = tt
+input_fits h Nudge hears = tt
 input_fits h (Heard bytes) hears = hears
 
 -- each of these may come

@@ -99,8 +99,8 @@ abbrev pub locks_behave : Behaviour ReplicaValue
 locks_behave = record {
   memory = λ r. device_of r.store;
   with_trap = λ t r. record r { store = record r.store { meter = trapped t r.store.meter } };
-  Takes = λ old bytes new came. ComesTo table_meaning IsTableText old bytes new came;
-  TakesAll = λ old given new came. ComesToAll table_meaning IsTableText old given new came;
+  Takes = λ old i new came. ComesTo table_meaning IsTableText old i new came;
+  TakesAll = λ old inputs new came. ComesToAll table_meaning IsTableText old inputs new came;
   Revives = λ device whose came. RevivesTo table_meaning IsTableText device whose came;
   Compacts = λ old new came. CompactsTo table_meaning old new came;
 }
@@ -157,6 +157,7 @@ pub compacts : (e : Event) (w : Scene ReplicaValue)
 compacts (event.Start n) w k = tt
 compacts (event.Restart n) w k = tt
 compacts (event.Tick n) w k = tt
+compacts (event.Nudge n) w k = tt
 compacts (event.Compact n) w k = λ e. compacted w n (k e)
 compacts (event.Client n r) w k = tt
 compacts (event.Deliver i) w k = tt

@@ -13,6 +13,8 @@ use Rattle.lk_messages.specs.declared.message.Content.{Content}
 use Rattle.lk_messages.specs.declared.message.Content.TheVariants as content
 use Rattle.lk_messages.specs.declared.message.NodeMessage.TheVariants as message
 use Rattle.lk_agreement_laws.specs.declared.party.Party.TheVariants as party
+use Rattle.lk_node_interface.specs.declared.input.Input.{Input}
+use Rattle.lk_node_interface.specs.declared.input.Input.TheVariants as input
 use Rattle.lk_node_interface.specs.declared.note.Note.{Note}
 use Rattle.lk_node_interface.specs.declared.note.Note.TheVariants as note
 use Rattle.lk_node.specs.Histories.{Datagram, RequestValue}
@@ -114,9 +116,9 @@ module _ (b : Behaviour ReplicaValue) where
   compacted_adds : (old new : Scene ReplicaValue) (n : ℕ) → IsCompacted b old new n → Adds old new [] []
   compacted_adds old new n k = elim k.comes_to [ inl r ↦ r.adds | inr f ↦ f.adds ]
 
-  given_asks : (old new : Scene ReplicaValue) (n : ℕ) (o : Option (List ℕ)) (asked : List Note)
-      → IsGiven b old new n o asked → AsksThese old new asked
-  given_asks old new n o asked k = elim k.comes_to [
+  given_asks : (old new : Scene ReplicaValue) (n : ℕ) (x : Input) (asked : List Note)
+      → IsGiven b old new n x asked → AsksThese old new asked
+  given_asks old new n x asked k = elim k.comes_to [
     | inl r ↦ adds_ask old new asked r.notes r.told r.batch r.batch r.of_nodes r.tells r.adds
     | inr (inl r) ↦
         adds_ask old new asked r.notes r.told (take r.sends r.batch) (take r.sends r.batch) r.of_nodes r.tells r.adds
@@ -142,7 +144,7 @@ module _ (b : Behaviour ReplicaValue) where
   cut_own k [] own = tt
   cut_own k (x ∷ said) own = (own.0, cut_own (left_over k x.1) said own.1)
 
-  together_asks : (old new : Scene ReplicaValue) (n : ℕ) (given : List (Option (List ℕ)))
+  together_asks : (old new : Scene ReplicaValue) (n : ℕ) (given : List Input)
       → IsGivenTogether b old new n given → AsksThese old new []
   together_asks old new n given k = elim k.comes_to [
     | inl r ↦ steps_add old new r.said r.notes (sent_of r.said) r.of_nodes r.tells r.adds
@@ -178,6 +180,7 @@ module _ (b : Behaviour ReplicaValue) where
   brings_only old new (event.Restart n) may k =
       (n, refl, turned old.seats new.seats n k.seat k.next k.replaces k.number)
   brings_only old new (event.Tick n) may k = (n, refl, turned old.seats new.seats n k.seat k.next k.replaces k.number)
+  brings_only old new (event.Nudge n) may k = (n, refl, turned old.seats new.seats n k.seat k.next k.replaces k.number)
   brings_only old new (event.Compact n) may k =
       (n, refl, turned old.seats new.seats n k.seat k.next k.replaces k.number)
   brings_only old new (event.Client n r) may k = (n, refl, inl k.seats)
@@ -202,6 +205,7 @@ module _ (b : Behaviour ReplicaValue) where
   brings_sends old new (event.Start n) k = tt
   brings_sends old new (event.Restart n) k = tt
   brings_sends old new (event.Tick n) k = tt
+  brings_sends old new (event.Nudge n) k = tt
   brings_sends old new (event.Compact n) k = tt
   brings_sends old new (event.Client n r) k = (k.datagram, k.from, k.to, k.spelled, k.adds.sent, k.adds.trace, k.seats)
   brings_sends old new (event.Deliver i) k = tt
@@ -220,9 +224,9 @@ pub record Adding (old new : Scene ReplicaValue) : Type 0 where
   pub adds : Adds old new notes batch
 
 module _ (b : Behaviour ReplicaValue) where
-  given_adds : (old new : Scene ReplicaValue) (n : ℕ) (o : Option (List ℕ)) (asked : List Note)
-      → IsGiven b old new n o asked → Adding old new
-  given_adds old new n o asked k = elim k.comes_to [
+  given_adds : (old new : Scene ReplicaValue) (n : ℕ) (x : Input) (asked : List Note)
+      → IsGiven b old new n x asked → Adding old new
+  given_adds old new n x asked k = elim k.comes_to [
     | inl r ↦ record { notes = (asked ++ r.notes) ++ r.told; batch = r.batch; adds = r.adds }
     | inr (inl r) ↦ record { notes = (asked ++ r.notes) ++ r.told; batch = take r.sends r.batch; adds = r.adds }
     | inr (inr f) ↦ record { notes = asked; batch = []; adds = f.adds }
@@ -235,7 +239,7 @@ module _ (b : Behaviour ReplicaValue) where
     | inr f ↦ record { notes = []; batch = []; adds = f.adds }
   ]
 
-  together_adds : (old new : Scene ReplicaValue) (n : ℕ) (given : List (Option (List ℕ)))
+  together_adds : (old new : Scene ReplicaValue) (n : ℕ) (given : List Input)
       → IsGivenTogether b old new n given → Adding old new
   together_adds old new n given k = elim k.comes_to [
     | inl r ↦ record { notes = r.notes; batch = sent_of r.said; adds = r.adds }
@@ -246,14 +250,16 @@ module _ (b : Behaviour ReplicaValue) where
   brings_adds : (old new : Scene ReplicaValue) (e : Event) → HasEffect b old e new → Adding old new
   brings_adds old new (event.Start n) k = comes_add old new k.seat empty k.comes
   brings_adds old new (event.Restart n) k = comes_add old new k.next k.device k.comes
-  brings_adds old new (event.Tick n) k = given_adds old new n None [] k
+  brings_adds old new (event.Tick n) k = given_adds old new n input.Tick [] k
+  brings_adds old new (event.Nudge n) k = given_adds old new n input.Nudge [] k
   brings_adds old new (event.Compact n) k = record { notes = []; batch = []; adds = compacted_adds b old new n k }
   brings_adds old new (event.Client n r) k =
       record { notes = note.Asked r ∷ []; batch = k.datagram ∷ []; adds = k.adds }
-  brings_adds old new (event.Deliver i) k = given_adds old new k.node (Some k.datagram.bytes) [] k.given
+  brings_adds old new (event.Deliver i) k = given_adds old new k.node (input.Datagram k.datagram.bytes) [] k.given
   brings_adds old new (event.Group n group_inputs) k = together_adds old new n (map
       (given_by old.sent) group_inputs.items) k
-  brings_adds old new (event.Inject n bytes) k = given_adds old new n (Some bytes.items) (asked_note k.request) k.given
+  brings_adds old new (event.Inject n bytes) k =
+      given_adds old new n (input.Datagram bytes.items) (asked_note k.request) k.given
   brings_adds old new (event.Stop n x y) k = record { notes = []; batch = []; adds = k.adds }
   brings_adds old new (event.FailAt n count) k = record { notes = []; batch = []; adds = k.adds }
   brings_adds old new (event.Arm n count bytes) k = record { notes = []; batch = []; adds = k.adds }
@@ -270,17 +276,19 @@ module _ (b : Behaviour ReplicaValue) where
       → (rs : List RequestValue) × AreAskedBy e rs × (requests new.trace ≡ requests old.trace ++ rs)
   brings_asks old new (event.Start n) k = ([], refl, comes_ask b old new k.seat empty k.comes)
   brings_asks old new (event.Restart n) k = ([], refl, comes_ask b old new k.next k.device k.comes)
-  brings_asks old new (event.Tick n) k = ([], refl, given_asks b old new n None [] k)
+  brings_asks old new (event.Tick n) k = ([], refl, given_asks b old new n input.Tick [] k)
+  brings_asks old new (event.Nudge n) k = ([], refl, given_asks b old new n input.Nudge [] k)
   brings_asks old new (event.Compact n) k = ([], refl, adds_just old new [] [] (compacted_adds b old new n k))
   brings_asks old new (event.Client n r) k =
       (r ∷ [], refl, adds_just old new (note.Asked r ∷ []) (k.datagram ∷ []) k.adds)
-  brings_asks old new (event.Deliver i) k = ([], refl, given_asks b old new k.node (Some k.datagram.bytes) [] k.given)
+  brings_asks old new (event.Deliver i) k =
+      ([], refl, given_asks b old new k.node (input.Datagram k.datagram.bytes) [] k.given)
   brings_asks old new (event.Group n group_inputs) k =
       ([], refl, together_asks b old new n (map (given_by old.sent) group_inputs.items) k)
   brings_asks old new (event.Inject n bytes) k = (
     requests (asked_note k.request),
     asked_in bytes.items k.request k.asks,
-    given_asks b old new n (Some bytes.items) (asked_note k.request) k.given,
+    given_asks b old new n (input.Datagram bytes.items) (asked_note k.request) k.given,
   )
   brings_asks old new (event.Stop n x y) k = ([], refl, adds_just old new [] [] k.adds)
   brings_asks old new (event.FailAt n count) k = ([], refl, adds_just old new [] [] k.adds)
@@ -299,6 +307,7 @@ module _ (b : Behaviour ReplicaValue) where
   wants_add old new (event.Start n) k = same_adds old new k
   wants_add old new (event.Restart n) k = k.adds
   wants_add old new (event.Tick n) k = k.adds
+  wants_add old new (event.Nudge n) k = k.adds
   wants_add old new (event.Compact n) k = k.adds
   wants_add old new (event.Client n r) k = same_adds old new k
   wants_add old new (event.Deliver i) k = elim k [ inl same ↦ same_adds old new same | inr h ↦ h.4.adds ]
@@ -335,12 +344,17 @@ module _ (b : Behaviour ReplicaValue) where
   wants_falls old new (event.Start n) k = inl (same_seats old new k)
   wants_falls old new (event.Restart n) k =
       inr (n, refl, halted_falls (LeftByRevival b (header_of old.genesis n)) old new n k)
-  wants_falls old new (event.Tick n) k = inr (n, refl, halted_falls (LeftBy b None) old new n k)
+  wants_falls old new (event.Tick n) k = inr (n, refl, halted_falls (LeftBy b input.Tick) old new n k)
+  wants_falls old new (event.Nudge n) k = inr (n, refl, halted_falls (LeftBy b input.Nudge) old new n k)
   wants_falls old new (event.Compact n) k = inr (n, refl, halted_falls (LeftByCompacting b) old new n k)
   wants_falls old new (event.Client n r) k = inl (same_seats old new k)
   wants_falls old new (event.Deliver i) k = elim k [
     | inl same ↦ inl (same_seats old new same)
-    | inr h ↦ inr (h.0, bound old.sent i h.1 h.0 h.2 h.3, halted_falls (LeftBy b (Some h.1.bytes)) old new h.0 h.4)
+    | inr h ↦ inr (
+      h.0,
+      bound old.sent i h.1 h.0 h.2 h.3,
+      halted_falls (LeftBy b (input.Datagram h.1.bytes)) old new h.0 h.4,
+    )
   ]
   wants_falls old new (event.Group n group_inputs) k = elim k [
     | inl same ↦ inl (same_seats old new same.0)
@@ -348,7 +362,7 @@ module _ (b : Behaviour ReplicaValue) where
   ]
   wants_falls old new (event.Inject n bytes) k = elim k [
     | inl same ↦ inl (same_seats old new same.0)
-    | inr h ↦ inr (n, refl, halted_falls (LeftBy b (Some bytes.items)) old new n h)
+    | inr h ↦ inr (n, refl, halted_falls (LeftBy b (input.Datagram bytes.items)) old new n h)
   ]
   wants_falls old new (event.Stop n x y) k = absurd k
   wants_falls old new (event.FailAt n count) k = absurd k
@@ -376,9 +390,9 @@ module _ (b : Behaviour ReplicaValue) where
 module _ (b : Behaviour ReplicaValue) (memory_is : (r : ReplicaValue) → b.memory r ≡ device_of r.store)
     (traps : (t : Trap) (r : ReplicaValue)
     → b.with_trap t r ≡ record r { store = record r.store { meter = trapped t r.store.meter } })
-    (contract : (r : ReplicaValue) (o : Option (List ℕ)) (q : ReplicaValue)
-    (came : Result (List Note × List Datagram) ℕ) → b.Takes r o q came → ComesTo table_meaning IsTableText r o q came)
-    (contract_of_all : (r : ReplicaValue) (given : List (Option (List ℕ))) (q : ReplicaValue)
+    (contract : (r : ReplicaValue) (i : Input) (q : ReplicaValue)
+    (came : Result (List Note × List Datagram) ℕ) → b.Takes r i q came → ComesTo table_meaning IsTableText r i q came)
+    (contract_of_all : (r : ReplicaValue) (given : List Input) (q : ReplicaValue)
     (came : Result (List Said) ℕ) → b.TakesAll r given q came → ComesToAll table_meaning IsTableText r given q came)
     (contract_of_restart : (device : Memory) (whose : HeaderValue)
     (came : Result (ReplicaValue × List Note) (ℕ × Memory)) → b.Revives device whose came
@@ -407,6 +421,7 @@ module _ (b : Behaviour ReplicaValue) (memory_is : (r : ReplicaValue) → b.memo
   stops old new (event.Start n) k = tt
   stops old new (event.Restart n) k = tt
   stops old new (event.Tick n) k = tt
+  stops old new (event.Nudge n) k = tt
   stops old new (event.Compact n) k = tt
   stops old new (event.Client n r) k = tt
   stops old new (event.Deliver i) k = tt
@@ -423,6 +438,7 @@ module _ (b : Behaviour ReplicaValue) (memory_is : (r : ReplicaValue) → b.memo
   silent old new (event.Start n) k = tt
   silent old new (event.Restart n) k = tt
   silent old new (event.Tick n) k = tt
+  silent old new (event.Nudge n) k = tt
   silent old new (event.Compact n) k = adds_nothing old new (compacted_adds b old new n k)
   silent old new (event.Client n r) k = tt
   silent old new (event.Deliver i) k = tt

@@ -4,6 +4,8 @@ use Rattle.std.proofs.Common.{inl, inr, arith}
 use Rattle.std.proofs.lemmas.List.Elements.{Contains-append_right}
 use Rattle.lk_memory_disk.specs.Memory.{Memory}
 use Rattle.lk_disk.specs.Meters.{stopping}
+use Rattle.lk_node_interface.specs.declared.input.Input.{Input}
+use Rattle.lk_node_interface.specs.declared.input.Input.TheVariants as input
 use Rattle.lk_node_interface.specs.declared.note.Note.{Note}
 use Rattle.lk_replica.specs.Behaviours.{Behaviour}
 use Rattle.lk_replica.specs.ReplicaValue.{ReplicaValue}
@@ -73,9 +75,9 @@ module _ (old new : Scene ReplicaValue) where
       (subst IsEndByCalls f.ended f.told) for_it is_down
 
   module _ (b : Behaviour ReplicaValue) where
-    given_down : (e : Event) (n : ℕ) (o : Option (List ℕ)) (asked : List Note) → IsFor old.sent e n
-        → IsGiven b old new n o asked → Falls old e new
-    given_down e n o asked for_it k = elim k.comes_to [
+    given_down : (e : Event) (n : ℕ) (x : Input) (asked : List Note) → IsFor old.sent e n
+        → IsGiven b old new n x asked → Falls old e new
+    given_down e n x asked for_it k = elim k.comes_to [
       | inl r ↦ none_ended e r.ended
       | inr (inl r) ↦ told_of e n (Stopped k.next.number) (k.replaces.number ∙ k.number) r.ended tt for_it
           (sits k.seat k.next n _ k.replaces k.number r.down)
@@ -84,7 +86,7 @@ module _ (old new : Scene ReplicaValue) where
           (sits k.seat k.next n _ k.replaces k.number f.down)
     ]
 
-    together_down : (e : Event) (n : ℕ) (given : List (Option (List ℕ))) → IsFor old.sent e n
+    together_down : (e : Event) (n : ℕ) (given : List Input) → IsFor old.sent e n
         → IsGivenTogether b old new n given → Falls old e new
     together_down e n given for_it k = elim k.comes_to [
       | inl r ↦ none_ended e r.ended
@@ -112,7 +114,8 @@ module _ (old new : Scene ReplicaValue) where
       | inr f ↦ fell _ (event.Restart n) n k.next [] f (k.replaces.number ∙ k.number) refl
           (sits k.seat k.next n _ k.replaces k.number f.down)
     ]
-    falls (event.Tick n) k = given_down (event.Tick n) n None [] refl k
+    falls (event.Tick n) k = given_down (event.Tick n) n input.Tick [] refl k
+    falls (event.Nudge n) k = given_down (event.Nudge n) n input.Nudge [] refl k
     falls (event.Compact n) k = elim k.comes_to [
       | inl r ↦ none_ended (event.Compact n) r.ended
       | inr f ↦ fell _ (event.Compact n) n k.next [] f (k.replaces.number ∙ k.number) refl
@@ -120,12 +123,12 @@ module _ (old new : Scene ReplicaValue) where
     ]
     falls (event.Client n q) k = none_ended (event.Client n q) k.ended
     falls (event.Deliver i) k =
-        given_down (event.Deliver i) k.node (Some k.datagram.bytes) []
+        given_down (event.Deliver i) k.node (input.Datagram k.datagram.bytes) []
         (is_for old.sent i k.datagram k.node k.stands k.bound) k.given
     falls (event.Group n group_inputs) k =
         together_down (event.Group n group_inputs) n (map (given_by old.sent) group_inputs.items) refl k
     falls (event.Inject n bytes) k =
-        given_down (event.Inject n bytes) n (Some bytes.items) (asked_note k.request) refl k.given
+        given_down (event.Inject n bytes) n (input.Datagram bytes.items) (asked_note k.request) refl k.given
     falls (event.Stop n x y) k = none_ended (event.Stop n x y) k.ended
     falls (event.FailAt n count) k = none_ended (event.FailAt n count) k.ended
     falls (event.Arm n count bytes) k = none_ended (event.Arm n count bytes) k.ended
@@ -146,6 +149,7 @@ module _ (b : Behaviour ReplicaValue) where
   wants_end old new (event.Start n) k = same_end old new k
   wants_end old new (event.Restart n) k = k.ended
   wants_end old new (event.Tick n) k = k.ended
+  wants_end old new (event.Nudge n) k = k.ended
   wants_end old new (event.Compact n) k = k.ended
   wants_end old new (event.Client n q) k = same_end old new k
   wants_end old new (event.Deliver i) k = elim k [ inl same ↦ same_end old new same | inr h ↦ h.4.ended ]

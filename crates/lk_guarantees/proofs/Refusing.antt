@@ -11,6 +11,8 @@ use Rattle.lk_messages.specs.declared.message.Message.{Message}
 use Rattle.lk_agreement_laws.specs.declared.party.Party.{Party}
 use Rattle.lk_agreement_laws.specs.declared.party.Party.TheVariants as party
 use Rattle.lk_agreement_laws.proofs.Histories.{contains_more}
+use Rattle.lk_node_interface.specs.declared.input.Input.{Input}
+use Rattle.lk_node_interface.specs.declared.input.Input.TheVariants as input
 use Rattle.lk_node_interface.specs.declared.note.Note.{Note}
 use Rattle.lk_node.specs.Histories.{Datagram, RequestValue}
 use Rattle.lk_replica.specs.Behaviours.{Behaviour}
@@ -129,6 +131,15 @@ module _ (old : Scene ReplicaValue) where
   no_tick n WorldFull k = k.1
   no_tick n WorldMemory k = absurd k
 
+  no_nudge : (n : ℕ) (r : Refused) → NoStep old.seats old.sent n r → HasCause old (event.Nudge n) r
+  no_nudge n NoSuchNode k = (n, refl, none_started old.seats n k)
+  no_nudge n NotUp k = (n, refl, down old.seats n k)
+  no_nudge n AlreadyUp k = absurd k
+  no_nudge n NoSuchDatagram k = absurd k
+  no_nudge n Forged k = absurd k
+  no_nudge n WorldFull k = k.1
+  no_nudge n WorldMemory k = absurd k
+
   no_compact : (n : ℕ) (r : Refused) → NoneUp old.seats n r → HasCause old (event.Compact n) r
   no_compact n NoSuchNode k = (n, refl, none_started old.seats n k)
   no_compact n NotUp k = (n, refl, down old.seats n k)
@@ -224,6 +235,7 @@ module _ (old : Scene ReplicaValue) where
   may_not (event.Start n) r k = no_start n r k
   may_not (event.Restart n) r k = no_restart n r k
   may_not (event.Tick n) r k = no_tick n r k
+  may_not (event.Nudge n) r k = no_nudge n r k
   may_not (event.Compact n) r k = no_compact n r k
   may_not (event.Client n q) r k = no_client_event n q r k
   may_not (event.Deliver i) r k = no_delivery i (datagram_at old.sent i) r refl k
@@ -238,6 +250,7 @@ module _ (old : Scene ReplicaValue) where
     wanting (event.Start n) k = tt
     wanting (event.Restart n) k = tt
     wanting (event.Tick n) k = tt
+    wanting (event.Nudge n) k = tt
     wanting (event.Compact n) k = tt
     wanting (event.Client n q) k = tt
     wanting (event.Deliver i) k = tt
@@ -268,15 +281,15 @@ module _ (old : Scene ReplicaValue) where
           life,
         )
 
-    given_up : (n : ℕ) (o : Option (List ℕ)) (asked : List Note) → IsGiven b old new n o asked
+    given_up : (n : ℕ) (x : Input) (asked : List Note) → IsGiven b old new n x asked
         → new.ended ≡ None → IsUp new.seats n
-    given_up n o asked k none = elim k.comes_to [
+    given_up n x asked k none = elim k.comes_to [
       | inl r ↦ sits k.seat k.next n _ k.replaces k.number r.up
       | inr (inl r) ↦ absurd (not_ended _ r.ended none)
       | inr (inr f) ↦ absurd (not_ended _ f.ended none)
     ]
 
-    together_up : (n : ℕ) (given : List (Option (List ℕ))) → IsGivenTogether b old new n given
+    together_up : (n : ℕ) (given : List Input) → IsGivenTogether b old new n given
         → new.ended ≡ None → IsUp new.seats n
     together_up n given k none = elim k.comes_to [
       | inl r ↦ sits k.seat k.next n _ k.replaces k.number r.up
@@ -304,7 +317,8 @@ module _ (old : Scene ReplicaValue) where
       | inl r ↦ (n, refl, sits k.seat k.next n r.replica k.replaces k.number r.up)
       | inr f ↦ absurd (not_ended _ f.ended none)
     ]
-    leaves_up (event.Tick n) k = λ none. (n, refl, given_up n None [] k none)
+    leaves_up (event.Tick n) k = λ none. (n, refl, given_up n input.Tick [] k none)
+    leaves_up (event.Nudge n) k = λ none. (n, refl, given_up n input.Nudge [] k none)
     leaves_up (event.Compact n) k = λ none. elim k.comes_to [
       | inl r ↦ (n, refl, sits k.seat k.next n r.replica k.replaces k.number r.up)
       | inr f ↦ absurd (not_ended _ f.ended none)
@@ -314,7 +328,7 @@ module _ (old : Scene ReplicaValue) where
         λ none. (
           k.node,
           is_for old.sent i k.datagram k.node k.stands k.bound,
-          given_up k.node (Some k.datagram.bytes) [] k.given none,
+          given_up k.node (input.Datagram k.datagram.bytes) [] k.given none,
         )
     leaves_up (event.Group n group_inputs) k = λ none. (
       n,
@@ -323,7 +337,7 @@ module _ (old : Scene ReplicaValue) where
           (given_by old.sent) group_inputs.items) k none,
     )
     leaves_up (event.Inject n bytes) k =
-        λ none. (n, refl, given_up n (Some bytes.items) (asked_note k.request) k.given none)
+        λ none. (n, refl, given_up n (input.Datagram bytes.items) (asked_note k.request) k.given none)
     leaves_up (event.Stop n x y) k = tt
     leaves_up (event.FailAt n count) k = tt
     leaves_up (event.Arm n count bytes) k = tt

@@ -12,6 +12,8 @@ use Rattle.lk_locks.specs.Meaning.{table_meaning}
 use Rattle.lk_locks.specs.Packed.{IsTableText}
 use Rattle.lk_messages.specs.declared.message.Content.TheVariants as content
 use Rattle.lk_agreement_laws.specs.declared.party.Party.TheVariants as party
+use Rattle.lk_node_interface.specs.declared.input.Input.{Input}
+use Rattle.lk_node_interface.specs.declared.input.Input.TheVariants as input
 use Rattle.lk_node_interface.specs.declared.note.Note.{Note}
 use Rattle.lk_node_interface.specs.declared.note.Note.TheVariants as note
 use Rattle.lk_node.specs.Histories.{Datagram, RequestValue}
@@ -21,7 +23,7 @@ use Rattle.lk_replica.specs.Taking.{ComesTo}
 use Rattle.lk_replica.specs.Together.{Said, sent_of, ComesToAll}
 use Rattle.lk_sim.specs.Events.{ReplacesSeat, Adds, IsGiven, IsGivenTogether, HasEffect}
 use Rattle.lk_sim.specs.Groups as groups
-use Rattle.lk_sim.specs.Groups.{bytes_of, given_by}
+use Rattle.lk_sim.specs.Groups.{bringing, given_by}
 use Rattle.lk_sim.specs.Heard.{IsRequestIn}
 use Rattle.lk_sim.specs.Refusals.{datagram_at, AreFor, IsPermitted}
 use Rattle.lk_sim.specs.Scenes.{Scene}
@@ -84,7 +86,7 @@ brought sent n (group_input.Deliver (suc j) ∷ group_inputs) are = (
   are.0.1,
   (
     map (given_by sent) group_inputs,
-    ap (λ (o : Option Datagram). bytes_of o ∷ map (given_by sent) group_inputs) are.0.1,
+    ap (λ (o : Option Datagram). bringing o ∷ map (given_by sent) group_inputs) are.0.1,
     brought sent n group_inputs are.1,
   ),
 )
@@ -258,34 +260,34 @@ module _ (b : Behaviour ReplicaValue) (memory_is : (r : ReplicaValue) → b.memo
 
   -- ---- by events
 
-  module _ (contract : (r : ReplicaValue) (o : Option (List ℕ)) (q : ReplicaValue)
-      (came : Result (List Note × List Datagram) ℕ) → b.Takes r o q came → ComesTo table_meaning IsTableText r o q came)
-      (contract_of_all : (r : ReplicaValue) (given : List (Option (List ℕ))) (q : ReplicaValue)
+  module _ (contract : (r : ReplicaValue) (x : Input) (q : ReplicaValue)
+      (came : Result (List Note × List Datagram) ℕ) → b.Takes r x q came → ComesTo table_meaning IsTableText r x q came)
+      (contract_of_all : (r : ReplicaValue) (given : List Input) (q : ReplicaValue)
       (came : Result (List Said) ℕ) → b.TakesAll r given q came
       → ComesToAll table_meaning IsTableText r given q came) where
-    taken : (old new : Scene ReplicaValue) (n : ℕ) (o : Option (List ℕ)) (asked : List RequestValue)
-        → IsGiven b old new n o (notes_asking asked) → IsTaken old n (Takes o) asked new
-    taken old new n o asked k =
+    taken : (old new : Scene ReplicaValue) (n : ℕ) (x : Input) (asked : List RequestValue)
+        → IsGiven b old new n x (notes_asking asked) → IsTaken old n (Takes x) asked new
+    taken old new n x asked k =
         let told : List Note = notes_asking asked in
         elim k.comes_to [
-          | inl r ↦ inl (went_on old new n (Takes o) asked k.seat k.next k.number k.replica k.up k.replaces r.replica
+          | inl r ↦ inl (went_on old new n (Takes x) asked k.seat k.next k.number k.replica k.up k.replaces r.replica
               ((r.notes, r.batch) ∷ []) r.batch ((r.notes ++ r.told) ++ []) (sym (append-nil r.batch))
-              ((r.notes, r.batch), refl, contract k.replica o r.replica (Ok (r.notes, r.batch)) r.takes) r.up
+              ((r.notes, r.batch), refl, contract k.replica x r.replica (Ok (r.notes, r.batch)) r.takes) r.up
               (r.told, [], replies r.batch r.told r.tells, refl, refl)
               (subst (λ (l : List Note). Adds old new l r.batch) (one_step told r.notes r.told) r.adds) r.ended)
-          | inr (inl r) ↦ inr (inl (stopped_sending old new n (Takes o) asked k.seat k.next k.number k.replica k.up
+          | inr (inl r) ↦ inr (inl (stopped_sending old new n (Takes x) asked k.seat k.next k.number k.replica k.up
               k.replaces r.replica ((r.notes, r.batch) ∷ []) r.batch ((r.notes ++ r.told) ++ []) r.sends r.bytes
               (sym (append-nil r.batch))
-              ((r.notes, r.batch), refl, contract k.replica o r.replica (Ok (r.notes, r.batch)) r.takes) r.stop r.down
+              ((r.notes, r.batch), refl, contract k.replica x r.replica (Ok (r.notes, r.batch)) r.takes) r.stop r.down
               (r.told, [], replies (take r.sends r.batch) r.told r.tells, refl, refl)
               (subst (λ (l : List Note). Adds old new l (take r.sends r.batch)) (one_step told r.notes r.told) r.adds)
               r.ended))
-          | inr (inr f) ↦ inr (inr (broke old new n (Takes o) asked k.seat k.next k.number k.replica k.up k.replaces
-              f.ends.0 f.number f.left (contract k.replica o f.ends.0 (Err f.number) f.ends.1) f.ends.3
+          | inr (inr f) ↦ inr (inr (broke old new n (Takes x) asked k.seat k.next k.number k.replica k.up k.replaces
+              f.ends.0 f.number f.left (contract k.replica x f.ends.0 (Err f.number) f.ends.1) f.ends.3
               (f.no_want.memory, f.no_want.halted, f.no_want.letters) f.no_want.starved f.down f.ended f.adds))
         ]
 
-    taken_together : (old new : Scene ReplicaValue) (n : ℕ) (given : List (Option (List ℕ)))
+    taken_together : (old new : Scene ReplicaValue) (n : ℕ) (given : List Input)
         → IsGivenTogether b old new n given → IsTaken old n (TakesAll given) [] new
     taken_together old new n given k = elim k.comes_to [
       | inl r ↦ inl (went_on old new n (TakesAll given) [] k.seat k.next k.number k.replica k.up k.replaces r.replica
@@ -306,16 +308,18 @@ module _ (b : Behaviour ReplicaValue) (memory_is : (r : ReplicaValue) → b.memo
         → HasEffect b old e new → TakesAsStated old e new
     takes_as_told old new (event.Start n) may k = tt
     takes_as_told old new (event.Restart n) may k = tt
-    takes_as_told old new (event.Tick n) may k = taken old new n None [] k
+    takes_as_told old new (event.Tick n) may k = taken old new n input.Tick [] k
+    takes_as_told old new (event.Nudge n) may k = taken old new n input.Nudge [] k
     takes_as_told old new (event.Compact n) may k = tt
     takes_as_told old new (event.Client n q) may k = tt
     takes_as_told old new (event.Deliver i) may k =
         delivered i k.datagram k.node k.stands k.bound
-        (taken old new k.node (Some k.datagram.bytes) [] k.given)
+        (taken old new k.node (input.Datagram k.datagram.bytes) [] k.given)
       where
         delivered : (i : ℕ) (d : Datagram) (n : ℕ) → datagram_at old.sent i ≡ Some d → d.to ≡ party.Node n
-            → IsTaken old n (Takes (Some d.bytes)) [] new
-            → (n : ℕ) × (f : IsFor old.sent (event.Deliver i) n) × IsTaken old n (Takes (Some f.1.bytes)) [] new
+            → IsTaken old n (Takes (input.Datagram d.bytes)) [] new
+            → (n : ℕ) × (f : IsFor old.sent (event.Deliver i) n)
+            × IsTaken old n (Takes (input.Datagram f.1.bytes)) [] new
         delivered zero d n e to t = absurd cc
         delivered (suc j) d n e to t = (n, (j, d, omega arith, e, to), t)
     takes_as_told old new (event.Group n group_inputs) may k = (
@@ -327,8 +331,9 @@ module _ (b : Behaviour ReplicaValue) (memory_is : (r : ReplicaValue) → b.memo
         let asked : List RequestValue = requests (asked_note k.request) in (
           asked,
           asked_in bytes.items k.request k.asks,
-          taken old new n (Some bytes.items) asked
-              (subst (λ (l : List Note). IsGiven b old new n (Some bytes.items) l) (asked_notes k.request) k.given),
+          taken old new n (input.Datagram bytes.items) asked
+              (subst (λ (l : List Note). IsGiven b old new n (input.Datagram bytes.items) l) (asked_notes k.request)
+              k.given),
         )
     takes_as_told old new (event.Stop n x y) may k = tt
     takes_as_told old new (event.FailAt n count) may k = tt

@@ -16,6 +16,8 @@ use Rattle.lk_messages.specs.declared.message.Content.TheVariants as content
 use Rattle.lk_messages.specs.declared.message.NodeMessage.{NodeMessage}
 use Rattle.lk_agreement_laws.specs.Datagrams.{Datagram}
 use Rattle.lk_agreement_laws.specs.declared.party.Party.TheVariants as party
+use Rattle.lk_node_interface.specs.declared.input.Input.{Input}
+use Rattle.lk_node_interface.specs.declared.input.Input.TheVariants.{Tick, Nudge, Datagram as Heard}
 use Rattle.lk_node_interface.specs.declared.note.Note.{Note}
 use Rattle.lk_node_interface.specs.declared.note.Note.TheVariants as note
 use Rattle.lk_locks.specs.Meaning.{table_meaning}
@@ -80,6 +82,7 @@ abbrev pub IsFor : List Datagram → Event → ℕ → Type 0
 IsFor sent (event.Start n) number = number ≡ n
 IsFor sent (event.Restart n) number = number ≡ n
 IsFor sent (event.Tick n) number = number ≡ n
+IsFor sent (event.Nudge n) number = number ≡ n
 IsFor sent (event.Compact n) number = number ≡ n
 IsFor sent (event.Client n r) number = number ≡ n
 IsFor sent (event.Deliver k) number =
@@ -281,16 +284,15 @@ AreNotesOf (x ∷ said) notes =
 abbrev pub Call : Type 1
 Call = ReplicaValue → ReplicaValue → Result (List Step) ℕ → Type 0
 
--- it takes a tick, or these bytes, in one step. (The contracts, `ComesTo` and `ComesToAll`, are named here and not
--- restated)
-abbrev pub Takes : Option (List ℕ) → Call
-Takes given before after (Ok said) =
-    (x : Step) × (said ≡ x ∷ []) × ComesTo table_meaning IsTableText before given after (Ok x)
-Takes given before after (Err number) = ComesTo table_meaning IsTableText before given after (Err number)
+-- it takes this input in one step. (The contracts, `ComesTo` and `ComesToAll`, are named here and not restated)
+abbrev pub Takes : Input → Call
+Takes i before after (Ok said) =
+    (x : Step) × (said ≡ x ∷ []) × ComesTo table_meaning IsTableText before i after (Ok x)
+Takes i before after (Err number) = ComesTo table_meaning IsTableText before i after (Err number)
 
 -- it takes these together, each in a step of its own
-abbrev pub TakesAll : List (Option (List ℕ)) → Call
-TakesAll given before after came = ComesToAll table_meaning IsTableText before given after came
+abbrev pub TakesAll : List Input → Call
+TakesAll inputs before after came = ComesToAll table_meaning IsTableText before inputs after came
 
 -- the replica once it has sent this many datagrams: an armed trap of its device has counted them, and nothing else has
 -- changed
@@ -366,24 +368,25 @@ abbrev pub IsTaken : Scene ReplicaValue → ℕ → Call → List Asking → Sce
 IsTaken old n Calls asked new =
     GoesOn old n Calls asked new ⊎ StopsSending old n Calls asked new ⊎ Breaks old n Calls asked new
 
--- what the inputs of a group give: nothing but the time at a tick, and else the bytes of the datagram at that place
-abbrev pub AreGiven : List Datagram → List GroupInput → List (Option (List ℕ)) → Type 0
+-- what the inputs of a group give: a tick, or the bytes of the datagram at that place
+abbrev pub AreGiven : List Datagram → List GroupInput → List Input → Type 0
 AreGiven sent [] given = given ≡ []
 AreGiven sent (group_input.Tick ∷ group_inputs) given =
-    (rest : List (Option (List ℕ))) × (given ≡ None ∷ rest) × AreGiven sent group_inputs rest
+    (rest : List Input) × (given ≡ Tick ∷ rest) × AreGiven sent group_inputs rest
 AreGiven sent (group_input.Deliver k ∷ group_inputs) given =
     (j : ℕ) × (d : Datagram) × (k ≡ j + 1) × (slice_get sent j ≡ Some d)
-    × ((rest : List (Option (List ℕ))) × (given ≡ Some d.bytes ∷ rest) × AreGiven sent group_inputs rest)
+    × ((rest : List Input) × (given ≡ Heard d.bytes ∷ rest) × AreGiven sent group_inputs rest)
 
 -- the node took the input as the contract of a replica says
 abbrev pub TakesAsStated : Scene ReplicaValue → Event → Scene ReplicaValue → Type 0
-TakesAsStated old (event.Tick n) new = IsTaken old n (Takes None) [] new
+TakesAsStated old (event.Tick n) new = IsTaken old n (Takes Tick) [] new
+TakesAsStated old (event.Nudge n) new = IsTaken old n (Takes Nudge) [] new
 TakesAsStated old (event.Inject n bytes) new =
-    (asked : List Asking) × AreAskedIn bytes.items asked × IsTaken old n (Takes (Some bytes.items)) asked new
+    (asked : List Asking) × AreAskedIn bytes.items asked × IsTaken old n (Takes (Heard bytes.items)) asked new
 TakesAsStated old (event.Deliver k) new =
-    (n : ℕ) × (f : IsFor old.sent (event.Deliver k) n) × IsTaken old n (Takes (Some f.1.bytes)) [] new
+    (n : ℕ) × (f : IsFor old.sent (event.Deliver k) n) × IsTaken old n (Takes (Heard f.1.bytes)) [] new
 TakesAsStated old (event.Group n group_inputs) new =
-    (given : List (Option (List ℕ))) × AreGiven old.sent group_inputs.items given
+    (given : List Input) × AreGiven old.sent group_inputs.items given
     × IsTaken old n (TakesAll given) [] new
 TakesAsStated old _ new = Unit {0}
 

@@ -214,8 +214,8 @@ impl<M: Machine> Learner<M> {
         Want::of(first, self.gathered_bytes())
     }
 
-    // How many bytes of a snapshot are gathered, at most 49,152.
-    fn gathered_bytes(&self) -> u32
+    /// How many bytes of a snapshot are gathered, at most 49,152.
+    pub fn gathered_bytes(&self) -> u32
         ensures value { result ≡ gathered_bytes self.now.gathered }
         ensures room { result ≤ max_base }
     {

@@ -6,6 +6,7 @@ ghost use Rattle.lk_learner.specs.Learners.{WholeValue, GatheredValue, executed,
 ghost use Rattle.lk_learner.specs.Parts.{start_of, AreParts};
 ghost use Rattle.lk_learner.specs.Gathering.{is_usable};
 ghost use Rattle.lk_learner.specs.Installing.{hearing, HasWhole, MayInstall, pairs_above, installed, Installs};
+ghost use Rattle.lk_learner.specs.Installing.{with_gathered};
 
 use crate::gathering::add_part;
 use crate::learner::Learner;
@@ -56,6 +57,13 @@ impl<M: Machine> Learner<M> {
         let executed = self.whole.executed();
         add_part(self.alloc, executed, &mut self.gathered, part)?;
         Ok(())
+    }
+
+    /// Throws away what it has gathered of another node's snapshot.
+    pub fn forget_gathered(&mut self)
+        ensures { self.new ≡ with_gathered None self.old }
+    {
+        self.gathered = None;
     }
 
     // Whether all bytes of another node's snapshot are gathered.

@@ -27,6 +27,7 @@ use Rattle.lk_node.specs.DecidedPairs.{LearnsPairs, none_yet, one_more}
 use Rattle.lk_node.specs.Leading.{ProposesAll}
 use Rattle.lk_node.specs.Reminding.{OffersFirst, OffersAhead, OffersAgain, Ticks, none_offered, one_offered}
 use Rattle.lk_node.specs.NodeValue.{NodeValue}
+use Rattle.lk_node.specs.Nudging.{refreshed, AsksOthers, Nudges}
 use Rattle.lk_node.specs.Steps.{Steps, HandlesNode, Handles}
 use Rattle.lk_node.specs.Asking.{HandlesRequest, PointsTo, QueuesOrRedirects, RepliesAs, leader_in}
 use Rattle.lk_node.specs.Histories.{RequestValue}
@@ -227,12 +228,28 @@ ticked_few old new out t = elim t [
   ]
 ]
 
+-- ---- a nudge
+
+asked_same : (node : NodeValue) (out : OutboxValue) → AsksOthers node out → out.entries ≡ []
+asked_same node out (inl asks) = ap (λ (o : OutboxValue). o.entries) asks.1.2.1
+asked_same node out (inr last) = ap (λ (o : OutboxValue). o.entries) last.1
+
+pub nudged_same : (old new : NodeValue) (out : OutboxValue) → Nudges old new out → out.entries ≡ []
+nudged_same old new out (inl asks) =
+    let k = asks.2 in
+    proposed_same k.proposes.0 (refreshed old) new k.asked out k.proposes.1 ∙ asked_same (refreshed old) k.asked k.asks
+nudged_same old new out (inr tells) = elim tells.2 [
+  | inl silent ↦ ap (λ (o : OutboxValue). o.entries) silent.1.2.1
+  | inr hears ↦ ap (λ (o : OutboxValue). o.entries) hears.1
+]
+
 -- ---- a step
 
 -- a step writes at most 16 entries: that many decided commands, or one vote or promise
 pub few_entries : (m : Meaning) (IsText : List ℕ → Type 0) (old : NodeValue) (i : Input) (new : NodeValue)
     (out : OutboxValue) → Steps m IsText old i new out → length out.entries ≤ 16
 few_entries m IsText old input.Tick new out t = ticked_few old new out t
+few_entries m IsText old input.Nudge new out t = none_written out (nudged_same old new out t)
 few_entries m IsText old (input.Datagram bytes) new out t =
     let heard : length t.first.entries ≤ 16 = elim t.handles [
       | inl h ↦ by_content h.0.content h.1.0.1 h.3

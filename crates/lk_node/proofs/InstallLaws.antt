@@ -46,6 +46,11 @@ use Rattle.lk_node.proofs.SafeSteps.{rests_here, then_goes_on}
 pub hearing_near : (p : PartValue) (a : AcceptorValue) (l : LearnerValue) → AreNear a l → AreNear a (hearing p l)
 hearing_near p a l n = record { alpha_is = n.alpha_is; snapshot = n.snapshot; votes = n.votes }
 
+pub forgotten_near : (a : AcceptorValue) (l new : LearnerValue) → AreNear a l → new ≡ with_gathered None l
+    → AreNear a new
+forgotten_near a l new n is =
+    subst (AreNear a) (sym is) (record { alpha_is = n.alpha_is; snapshot = n.snapshot; votes = n.votes })
+
 pub gathered_near : (IsText : List ℕ → Type 0) (went : Bool) (p : PartValue) (a : AcceptorValue) (l new : LearnerValue)
     → AreNear a l → Installs IsText went (hearing p l) new → AreNear a new
 gathered_near IsText went p a l new n (inl went_on) =
@@ -103,7 +108,7 @@ hearing_goes_on m from p node out =
     (heard_front h.genesis h.sent (text m h.genesis) s.lawful.sound p (s.lawful.parts from p heard)
     (executed l) l.gathered (λ k is. s.fits.gathered k (s.held.gathered ∙ is))))
 
-throws_goes_on : (m : Meaning) (Heard : History → Type 0) (node : NodeValue) (out : OutboxValue)
+pub throws_goes_on : (m : Meaning) (Heard : History → Type 0) (node : NodeValue) (out : OutboxValue)
     → ActsSafely m Heard node (with_learner node (with_gathered None node.learner)) out out
 throws_goes_on m Heard node out =
     change_goes_on m Heard node

@@ -17,6 +17,7 @@ mod NearLaws
 mod InstallLaws
 mod TakingUp
 mod Reminders
+mod Nudges
 mod NothingLeft
 mod NoneOpen
 mod Waking

@@ -1,7 +1,7 @@
 -- A step leaves nothing to execute, where nothing was left before it: what it learns it executes, and else its learner
 -- stays.
 use Rattle.std.proofs.Common.{◌≡◌, ◌∙◌, ℕ, inl, inr, Bool, true, false, cond, List, [], ◌∷◌, Option, Some, None, refl}
-use Rattle.std.proofs.Common.{sym, ap, subst}
+use Rattle.std.proofs.Common.{sym, ap, eqb, subst}
 use Rattle.lk_types.specs.BallotValue.{BallotValue}
 use Rattle.lk_types.specs.declared.command.Request.{Request as RequestValue}
 use Rattle.lk_types.specs.declared.member.Member.{Member}
@@ -20,7 +20,7 @@ use Rattle.lk_acceptor.specs.AcceptorValue.{AcceptorValue}
 use Rattle.lk_acceptor.specs.declared.response.Response.{Response}
 use Rattle.lk_leader.specs.Terms.{TermValue}
 use Rattle.lk_learner.specs.Installing.{with_gathered, hearing, Installs}
-use Rattle.lk_learner.specs.Learners.{Command, LearnerValue, IsNext}
+use Rattle.lk_learner.specs.Learners.{Command, LearnerValue, IsNext, gathered_bytes}
 use Rattle.lk_node_interface.specs.Grants.{is_granted}
 use Rattle.lk_node_interface.specs.Outboxes.{OutboxValue}
 use Rattle.lk_node_interface.specs.declared.input.Input.{Input}
@@ -34,6 +34,7 @@ use Rattle.lk_node.specs.Executing.{NothingToRun}
 use Rattle.lk_node.specs.Installing.{HandlesPart}
 use Rattle.lk_node.specs.Leading.{HandlesPromise, having_proposed, ProposesAll}
 use Rattle.lk_node.specs.NodeValue.{NodeValue}
+use Rattle.lk_node.specs.Nudging.{remembering, without_gathered, refreshed, Nudges}
 use Rattle.lk_node.specs.Reminding.{Ticks}
 use Rattle.lk_node.specs.Steps.{HandlesNode, Handles, HandlesBytes, Steps}
 use Rattle.lk_node.specs.Waiting.{ticked, BeginsWhereDue}
@@ -182,9 +183,25 @@ tick_settles old new out (inl reminds) =
     stays old new (proposed_learner proposes.0 old new reminds.2.offered reminds.2.proposed proposes.1)
 tick_settles old new out (inr waits) = due_settles (ticked old) new out waits.1
 
+refreshed_settles : (node : NodeValue) → LeavesNothing node (refreshed node)
+refreshed_settles node = by_test (eqb (gathered_bytes node.learner.gathered) node.gathered_before)
+  where
+    by_test : (t : Bool) → LeavesNothing node (cond t (remembering (without_gathered node)) (remembering node))
+    by_test true = λ none. none
+    by_test false = λ none. none
+
+nudge_settles : (old new : NodeValue) (out : OutboxValue) → Nudges old new out → LeavesNothing old new
+nudge_settles old new out (inl asks) none =
+    let proposes = asks.2.proposes in
+    stays (refreshed old) new (proposed_learner proposes.0 (refreshed old) new asks.2.asked out proposes.1)
+    (refreshed_settles old none)
+nudge_settles old new out (inr tells) none =
+    stays_as (refreshed old) (refreshed old) new refl tells.1 (refreshed_settles old none)
+
 pub step_leaves_nothing : (m : Meaning) (IsText : List ℕ → Type 0) (old : NodeValue) (i : Input) (new : NodeValue)
     (out : OutboxValue) → Steps m IsText old i new out → NothingToRun old → NothingToRun new
 step_leaves_nothing m IsText old input.Tick new out k none = tick_settles old new out k none
+step_leaves_nothing m IsText old input.Nudge new out k none = nudge_settles old new out k none
 step_leaves_nothing m IsText old (input.Datagram bytes) new out k none =
     stays k.mid new (proposed_learner k.proposes.0 k.mid new k.first out k.proposes.1)
     (bytes_settle m IsText bytes old k.mid k.first k.handles none)

@@ -1,7 +1,7 @@
 -- A step tells of what its node learns, executes and votes for: its entries lie near, and with them a standing that
 -- told of the node before still does.
 use Rattle.std.proofs.Common.{◌≡◌, ℕ, ◌+◌, ◌≤◌, inl, inr, Bool, true, false, cond, List, [], ◌∷◌, ◌++◌}
-use Rattle.std.proofs.Common.{length, Contains, Option, Some, None, refl, sym, ap, ◌∙◌, subst, arith}
+use Rattle.std.proofs.Common.{length, Contains, Option, Some, None, refl, sym, ap, ◌∙◌, eqb, subst, arith}
 use Rattle.std.proofs.lemmas.Bool.{cases_lt}
 use Rattle.lk_types.specs.BallotValue.{BallotValue}
 use Rattle.lk_types.specs.declared.command.Request.{Request as RequestValue}
@@ -30,6 +30,7 @@ use Rattle.lk_acceptor.specs.declared.response.Response.{Response}
 use Rattle.lk_store_format.specs.Values.{HeaderValue}
 use Rattle.lk_leader.specs.Terms.{TermValue}
 use Rattle.lk_learner.specs.Learners.{Command, Pair, LearnerValue, IsNext, IsWanted, executed, keeping, advanced}
+use Rattle.lk_learner.specs.Learners.{gathered_bytes}
 use Rattle.lk_learner.specs.Installing.{hearing, Installs}
 use Rattle.lk_learner.proofs.Learnerships.{ran_moves, with_only, without_from}
 use Rattle.lk_node_interface.specs.Grants.{is_granted}
@@ -50,6 +51,7 @@ use Rattle.lk_node.specs.Installing.{EndsFirstWaits, none_ended, one_ended, Hand
 use Rattle.lk_node.specs.Leading.{HandlesPromise, having_proposed, ProposesAll}
 use Rattle.lk_node.specs.Learning.{Learns, with_learner}
 use Rattle.lk_node.specs.NodeValue.{NodeValue}
+use Rattle.lk_node.specs.Nudging.{remembering, without_gathered, refreshed, Nudges}
 use Rattle.lk_node.specs.Reaching.{IsDecidedAt, DecidesTo, EntryLiesNear, EntriesLieNear, RestoresNode}
 use Rattle.lk_node.specs.Reaching.{StillRestoresNode}
 use Rattle.lk_node.specs.Reminding.{Ticks}
@@ -57,7 +59,7 @@ use Rattle.lk_node.specs.Steps.{HandlesNode, Handles, HandlesBytes, Steps}
 use Rattle.lk_node.specs.Waiting.{ticked}
 use Rattle.lk_leader.specs.Terms.{is_term_below}
 use Rattle.lk_node.specs.Yielding.{without_term, yielded, with_round, seeing}
-use Rattle.lk_node.proofs.FewEntries.{ran_same, proposed_same, offered_same, fed_same, asked_few}
+use Rattle.lk_node.proofs.FewEntries.{ran_same, proposed_same, offered_same, fed_same, asked_few, nudged_same}
 use Rattle.lk_node.proofs.ReachLaws.{decided_here, tells_more, with_all_behind, near_behind}
 
 -- ---- what a standing tells of a node
@@ -474,12 +476,31 @@ tick_told old new out (inr k) = elim k.1 [
   | inr b ↦ none_told old new out.entries (ap (λ (o : OutboxValue). o.entries) b.2) (as_this (ticked old) new b.1)
 ]
 
+-- ---- a nudge
+
+refreshed_rests : (node : NodeValue) → Rests node (refreshed node)
+refreshed_rests node = by_test (eqb (gathered_bytes node.learner.gathered) node.gathered_before)
+  where
+    by_test : (t : Bool) → parts (cond t (remembering (without_gathered node)) (remembering node)) ≡ parts node
+    by_test true = refl
+    by_test false = refl
+
+nudge_told : (old new : NodeValue) (out : OutboxValue) → Nudges old new out → StillRestoresNode old new out.entries
+nudge_told old new out k = none_told old new out.entries (nudged_same old new out k) (by_term k)
+  where
+    by_term : Nudges old new out → Rests old new
+    by_term (inl asks) =
+        let proposes = asks.2.proposes in
+        proposed_rests proposes.0 (refreshed old) new asks.2.asked out proposes.1 ∙ refreshed_rests old
+    by_term (inr tells) = as_this (refreshed old) new tells.1 ∙ refreshed_rests old
+
 -- ---- a step
 
 -- A standing that told of the node still does with the entries of a step, which lie near, unless the step rebases.
 pub step_told : (m : Meaning) (IsText : List ℕ → Type 0) (old : NodeValue) (i : Input) (new : NodeValue)
     (out : OutboxValue) → Steps m IsText old i new out → out.rebase ≡ false → StillRestoresNode old new out.entries
 step_told m IsText old input.Tick new out t puts = tick_told old new out t
+step_told m IsText old input.Nudge new out k puts = nudge_told old new out k
 step_told m IsText old (input.Datagram bytes) new out k puts = λ ahead s t.
     let first : k.first.rebase ≡ false = sym (proposed_rebase k.proposes.0 k.mid new k.first out k.proposes.1) ∙ puts in
     told_as ahead s k.first.entries out.entries k.mid new

@@ -1,6 +1,6 @@
 -- A step that is done leaves a node as awake as it was: nothing but a refusal halts it.
 use Rattle.std.proofs.Common.{◌≡◌, ◌∙◌, ℕ, inl, inr, Bool, true, false, cond, List, [], ◌∷◌, Option, Some, None, refl}
-use Rattle.std.proofs.Common.{ap}
+use Rattle.std.proofs.Common.{ap, eqb}
 use Rattle.lk_types.specs.BallotValue.{BallotValue}
 use Rattle.lk_types.specs.declared.command.Request.{Request as RequestValue}
 use Rattle.lk_types.specs.declared.member.Member.{Member}
@@ -19,7 +19,7 @@ use Rattle.lk_state.specs.declared.whole.Seen.TheVariants as seen
 use Rattle.lk_acceptor.specs.AcceptorValue.{AcceptorValue}
 use Rattle.lk_acceptor.specs.declared.response.Response.{Response}
 use Rattle.lk_leader.specs.Terms.{TermValue}
-use Rattle.lk_learner.specs.Learners.{Command, Pair}
+use Rattle.lk_learner.specs.Learners.{Command, Pair, gathered_bytes}
 use Rattle.lk_node_interface.specs.Grants.{is_granted}
 use Rattle.lk_node_interface.specs.KeptReplies.{session_by}
 use Rattle.lk_node_interface.specs.Outboxes.{OutboxValue}
@@ -35,6 +35,7 @@ use Rattle.lk_node.specs.Installing.{EndsFirstWaits, none_ended, one_ended, Hand
 use Rattle.lk_node.specs.Leading.{HandlesPromise, having_proposed, ProposesAll}
 use Rattle.lk_node.specs.Learning.{Learns}
 use Rattle.lk_node.specs.NodeValue.{NodeValue}
+use Rattle.lk_node.specs.Nudging.{remembering, without_gathered, refreshed, Nudges}
 use Rattle.lk_node.specs.Reminding.{Ticks}
 use Rattle.lk_node.specs.Steps.{HandlesNode, Handles, HandlesBytes, Steps}
 use Rattle.lk_node.specs.Waiting.{ticked, BeginsWhereDue}
@@ -208,9 +209,23 @@ tick_wakes old new out (inl reminds) =
     proposed_wakes proposes.0 old new reminds.2.offered reminds.2.proposed proposes.1
 tick_wakes old new out (inr waits) = due_wakes (ticked old) new out waits.1
 
+refreshed_wakes : (node : NodeValue) → Wakes node (refreshed node)
+refreshed_wakes node = by_test (eqb (gathered_bytes node.learner.gathered) node.gathered_before)
+  where
+    by_test : (t : Bool) → (cond t (remembering (without_gathered node)) (remembering node)).halted ≡ node.halted
+    by_test true = refl
+    by_test false = refl
+
+nudge_wakes : (old new : NodeValue) (out : OutboxValue) → Nudges old new out → Wakes old new
+nudge_wakes old new out (inl asks) =
+    let proposes = asks.2.proposes in
+    proposed_wakes proposes.0 (refreshed old) new asks.2.asked out proposes.1 ∙ refreshed_wakes old
+nudge_wakes old new out (inr tells) = as_this (refreshed old) new tells.1 ∙ refreshed_wakes old
+
 pub step_wakes : (m : Meaning) (IsText : List ℕ → Type 0) (old : NodeValue) (i : Input) (new : NodeValue)
     (out : OutboxValue) → Steps m IsText old i new out → new.halted ≡ old.halted
 step_wakes m IsText old input.Tick new out k = tick_wakes old new out k
+step_wakes m IsText old input.Nudge new out k = nudge_wakes old new out k
 step_wakes m IsText old (input.Datagram bytes) new out k =
     proposed_wakes k.proposes.0 k.mid new k.first out k.proposes.1
     ∙ bytes_wake m IsText bytes old k.mid k.first k.handles

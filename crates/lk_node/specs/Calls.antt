@@ -10,20 +10,22 @@ use Rattle.lk_agreement_laws.specs.Datagrams.{said_by}
 use Rattle.lk_agreement_laws.specs.Nodes.{PaxosState, MaySend}
 use Rattle.lk_node_interface.specs.declared.note.Note.{Note}
 use Rattle.lk_node_interface.specs.declared.input.Input.{Input}
-use Rattle.lk_node_interface.specs.declared.input.Input.TheVariants.{Tick, Datagram as Heard}
+use Rattle.lk_node_interface.specs.declared.input.Input.TheVariants.{Tick, Nudge, Datagram as Heard}
 use Rattle.lk_node.specs.Histories.{History, Datagram, later, IsLawful, IsHeard}
 use Rattle.lk_node.specs.BorneOut.{IsOfNode, IsBorneOut, MessageIsBorneOut}
 use Rattle.lk_node.specs.Holdings.{Holding, HoldingFits}
 use Rattle.lk_node.specs.Leavings.{DisksFit}
 
--- the bytes of an input, none at a tick
+-- the bytes of an input, none at a tick or a nudge
 abbrev pub heard_by : Input → Option (List ℕ)
 heard_by Tick = None
+heard_by Nudge = None
 heard_by (Heard bytes) = Some bytes
 
 -- a permitted input
 abbrev pub InputFits : History → Input → Type 0
 InputFits h Tick = Unit {0}
+InputFits h Nudge = Unit {0}
 InputFits h (Heard bytes) = IsHeard h bytes
 
 -- the datagram is the node's, and spells a message that it may send in its present state, and that a chosen list bears

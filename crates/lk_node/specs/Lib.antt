@@ -13,6 +13,7 @@ pub mod Replying
 pub mod CatchingUp
 pub mod Asking
 pub mod Responding
+pub mod Nudging
 pub mod Steps
 pub mod Learning
 pub mod Executing

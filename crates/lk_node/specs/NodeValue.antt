@@ -6,8 +6,8 @@ use Rattle.lk_leader.specs.Terms.{LeaderValue}
 use Rattle.lk_learner.specs.Learners.{LearnerValue}
 
 -- its number and the genesis of its cluster, what its acceptor, its learner and its leader hold, how many ticks have
--- passed without a leader, the greatest round that it has seen of others, the node that it takes for the leader, and
--- whether it has halted
+-- passed without a leader, the greatest round that it has seen of others, the node that it takes for the leader, how
+-- many bytes of a snapshot were gathered at its last nudge, and whether it has halted
 pub record NodeValue : Type 0 where
   pub header : HeaderValue
   pub acceptor : AcceptorValue
@@ -16,4 +16,5 @@ pub record NodeValue : Type 0 where
   pub ticks : ℕ
   pub rounds : ℕ
   pub known : Option ℕ
+  pub gathered_before : ℕ
   pub halted : Bool

@@ -1,4 +1,4 @@
--- What a node does with a tick or a datagram.
+-- What a node does with a tick, a nudge or a datagram.
 use Rattle.std.specs.Prelude.{◌≡◌, ℕ, ◌⊎◌, List, length, Contains}
 use Rattle.lk_messages.specs.Grammar.{Spells}
 use Rattle.lk_messages.specs.declared.message.Content.{Content}
@@ -21,6 +21,7 @@ use Rattle.lk_node.specs.Deciding.{HandlesAccepted}
 use Rattle.lk_node.specs.DecidedPairs.{LearnsPairs}
 use Rattle.lk_node.specs.Installing.{HandlesPart}
 use Rattle.lk_node.specs.NodeValue.{NodeValue}
+use Rattle.lk_node.specs.Nudging.{Nudges}
 use Rattle.lk_node.specs.Yielding.{with_round}
 use Rattle.lk_node.specs.Reminding.{Ticks}
 
@@ -75,4 +76,5 @@ pub record HandlesDatagram (m : Meaning) (IsText : List ℕ → Type 0) (old : N
 -- what a step is
 abbrev pub Steps : Meaning → (List ℕ → Type 0) → NodeValue → Input → NodeValue → OutboxValue → Type 0
 Steps m IsText old input.Tick new out = Ticks old new out
+Steps m IsText old input.Nudge new out = Nudges old new out
 Steps m IsText old (input.Datagram bytes) new out = HandlesDatagram m IsText old bytes new out

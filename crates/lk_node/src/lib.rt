@@ -1,5 +1,5 @@
-//! A node of the cluster: what it holds in memory, and how it handles a tick or a datagram. It has no access to a
-//! disk, socket or clock.
+//! A node of the cluster: what it holds in memory, and how it handles a tick, a nudge or a datagram. It has no access
+//! to a disk, socket or clock.
 #![tactic(auto)]
 
 mod asking;
@@ -11,6 +11,7 @@ pub mod laws;
 mod leading;
 mod learning;
 mod node;
+mod nudging;
 mod rebasing;
 mod reminding;
 mod responding;

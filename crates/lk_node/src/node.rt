@@ -34,6 +34,8 @@ pub struct Node<M: Machine> {
     pub(crate) rounds: SeenRound,
     // The node that it takes for the leader: that of the last notice that it followed.
     pub(crate) known: Option<NodeNo>,
+    // How many bytes of a snapshot were gathered at the last nudge.
+    pub(crate) gathered_before: u32,
     // It has run out of memory in a step, which may have left it half changed.
     pub(crate) halted: bool,
 }
@@ -55,6 +57,7 @@ impl<M: Machine> Model for Node<M> {
       ticks = n.ticks;
       rounds = n.rounds;
       known = n.known;
+      gathered_before = n.gathered_before;
       halted = n.halted;
     } };
 }
@@ -71,6 +74,7 @@ impl<M: Machine> Node<M> {
           ticks = 0;
           rounds = 0;
           known = None;
+          gathered_before = 0;
           halted = false;
         } }
     {
@@ -83,6 +87,7 @@ impl<M: Machine> Node<M> {
             ticks: TickCount::new(),
             rounds: SeenRound::new(),
             known: None,
+            gathered_before: 0,
             halted: false,
         }
     }

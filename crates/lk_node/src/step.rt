@@ -1,5 +1,5 @@
-// How a node handles a tick or a datagram. A clause `exact` states what a function does, and `safe` that this is
-// safe in every history in which the message that it handles was sent.
+// How a node handles a tick, a nudge or a datagram. A clause `exact` states what a function does, and `safe` that this
+// is safe in every history in which the message that it handles was sent.
 ghost use Rattle.std.specs.Prelude.{◌≡◌, true, false, IfOk, OnOk, OnErr, IsErr};
 ghost use Rattle.lk_wire.specs.Shown.{shown_node, shown_content};
 ghost use Rattle.lk_agreement_laws.specs.Datagrams.{HasSent};
@@ -96,12 +96,13 @@ impl<M: Machine> Node<M> {
     {
         match input {
             Input::Tick => self.tick(),
+            Input::Nudge => self.nudge(),
             Input::Datagram(datagram) => self.handle_datagram(&datagram),
         }
     }
 
-    /// Handles a tick or a datagram, and returns what to write, note and send, in that order. Afterwards it has
-    /// proposed whatever it can. It has also executed every command that it can, provided that it had so before.
+    /// Handles a tick, a nudge or a datagram, and returns what to write, note and send, in that order. Afterwards it
+    /// has proposed whatever it can. It has also executed every command that it can, provided that it had so before.
     ///
     /// It fails with `Halted` if it runs out of memory, and may then be half changed; after that every call fails so,
     /// and changes nothing.

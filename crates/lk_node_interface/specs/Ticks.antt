@@ -10,6 +10,10 @@ ticks_a_member = 4
 abbrev pub max_ticks : ℕ
 max_ticks = 28
 
+-- no more ticks are counted
+abbrev pub is_full : ℕ → Bool
+is_full ticks = nat_le max_ticks ticks
+
 -- how many ticks are enough at this place
 abbrev pub is_enough : ℕ → Option ℕ → Bool
 is_enough ticks None = false

@@ -5,6 +5,9 @@ use lk_wire::Datagram;
 pub enum Input<'a> {
     /// Some time has passed.
     Tick,
+    /// More time has passed: the node is to ask the others for what they know better, or to tell them how far it has
+    /// come.
+    Nudge,
     /// A datagram has arrived. It may be any bytes.
     Datagram(Datagram<'a>),
 }

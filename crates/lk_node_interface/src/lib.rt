@@ -1,7 +1,7 @@
-//! The input and the output of a node's step: a tick or a datagram (`Input`); entries, notes and letters (`Outbox`);
-//! and the parts of a step that need no node: replies, recipients, serialised messages, and the counts of ticks and
-//! rounds. What a replica adds is here too: its errors (`ReplicaFault`, and `Halted` and `SendFault`, two of their
-//! causes), and the trait `Post`, which sends its letters.
+//! The input and the output of a node's step: a tick, a nudge or a datagram (`Input`); entries, notes and letters
+//! (`Outbox`); and the parts of a step that need no node: replies, recipients, serialised messages, and the counts of
+//! ticks and rounds. What a replica adds is here too: its errors (`ReplicaFault`, and `Halted` and `SendFault`, two of
+//! their causes), and the trait `Post`, which sends its letters.
 #![tactic(auto)]
 
 mod decision;

@@ -1,6 +1,6 @@
 // How many ticks have passed since a leader was heard.
 ghost use Rattle.std.specs.Prelude.{◌≡◌, ◌+◌, ◌≤◌, min};
-ghost use Rattle.lk_node_interface.specs.Ticks.{max_ticks, is_enough};
+ghost use Rattle.lk_node_interface.specs.Ticks.{max_ticks, is_enough, is_full};
 
 use std::marker::Model;
 
@@ -59,6 +59,13 @@ impl TickCount {
         ensures most { self.now ≤ max_ticks }
     {
         self.count
+    }
+
+    /// Whether 28 ticks are counted: no member waits longer for a leader.
+    pub fn is_full(&self) -> bool
+        ensures { result ≡ is_full self.now }
+    {
+        self.count >= MAX_TICKS
     }
 
     /// Whether a node at this index, from 0, among the members of the next position has waited long enough for a

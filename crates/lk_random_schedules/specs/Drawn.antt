@@ -29,9 +29,11 @@ abbrev pub IsPart : ℕ → GroupInput → Type 0
 IsPart sent group_input.Tick = ⊤
 IsPart sent (group_input.Deliver k) = k ≤ sent
 
--- an event that may be drawn after so many datagrams were sent: any but a Start, and a Group only if groups are drawn
+-- an event that may be drawn after so many datagrams were sent: any but a Start or a Nudge, and a Group only if groups
+-- are drawn
 abbrev pub IsDrawn : Bool → ℕ → Event → Type 0
 IsDrawn groups sent (event.Start n) = ⊥
+IsDrawn groups sent (event.Nudge n) = ⊥
 IsDrawn groups sent (event.Restart n) = IsNear n
 IsDrawn groups sent (event.Tick n) = IsNear n
 IsDrawn groups sent (event.Compact n) = IsNear n

@@ -114,6 +114,7 @@ module _ (IsText : List ℕ → Type 0) (whose : HeaderValue) (s : StandingValue
         ticks = 0;
         rounds = 0;
         known = None;
+        gathered_before = 0;
         halted = false;
       }
       → n ≡ whose.node → notes ≡ notes_of n w.roster.executed (run_from w.roster.executed pairs)
@@ -130,6 +131,7 @@ module _ (IsText : List ℕ → Type 0) (whose : HeaderValue) (s : StandingValue
       ticks = 0;
       rounds = 0;
       known = None;
+      gathered_before = 0;
       halted = false;
     });
     notes_are = noted ∙ (λ i. notes_of (at i) (may.unpacks.executed i) (run_from (may.unpacks.executed i) (are i)));

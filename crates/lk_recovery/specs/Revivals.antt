@@ -80,6 +80,7 @@ revived m whose s w = record {
   ticks = 0;
   rounds = 0;
   known = None;
+  gathered_before = 0;
   halted = false;
 }
 

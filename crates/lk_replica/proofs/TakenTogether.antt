@@ -1,6 +1,6 @@
 -- A group that a replica takes together, step by step.
 use Rattle.std.proofs.Common.{◌≡◌, ℕ, ◌+◌, ◌-◌, Bool, ◌⊎◌, false, inl, inr, List, [], ◌∷◌, ◌++◌, length, take, drop}
-use Rattle.std.proofs.Common.{map, Contains, refl, sym, ap, ◌∙◌, subst, arith, append_assoc, append-nil, length-append}
+use Rattle.std.proofs.Common.{Contains, refl, sym, ap, ◌∙◌, subst, arith, append_assoc, append-nil, length-append}
 use Rattle.std.proofs.Common.{zero, suc}
 use Rattle.std.specs.List.{AllByRecursion}
 use Rattle.std.specs.Prelude.{⊤}
@@ -23,7 +23,7 @@ use Rattle.lk_agreement_laws.specs.Datagrams.{NodeMessage, said_by}
 use Rattle.lk_node_interface.specs.Letters.{LetterValue, datagram_of, batch_of}
 use Rattle.lk_node_interface.specs.declared.input.Input.{Input}
 use Rattle.lk_node_interface.specs.declared.note.Note.{Note}
-use Rattle.lk_node.specs.Calls.{heard_by, InputFits, NodeFits, LeavesFit}
+use Rattle.lk_node.specs.Calls.{InputFits, NodeFits, LeavesFit}
 use Rattle.lk_node.specs.Histories.{History, Genesis, Datagram, later}
 use Rattle.lk_node.specs.Holdings.{Holding}
 use Rattle.lk_node.specs.Keeping.{ReplicaHolds}
@@ -408,10 +408,6 @@ goes_to_the_end m IsText begun_as all now q g steps rest s none is_synced room g
 
 -- ---- what a call leaves, where a part of it ended so
 
--- the inputs that were gathered are a beginning of what was given
-pub given_begins : (done rest all : List Input) → done ++ rest ≡ all → map heard_by (done ++ rest) ≡ map heard_by all
-given_begins done rest all parts = ap (map heard_by) parts
-
 -- the calls of the device so far, and of a part that was refused
 pub refused_further : (m : Meaning) (IsText : List ℕ → Type 0) (begun_as : ReplicaValue) (all : List Input)
     (now new : ReplicaValue) (g : GroupValue) (steps : List Step) (rest : List Input) (number : ℕ)
@@ -424,11 +420,11 @@ pub refused_in_all : (m : Meaning) (IsText : List ℕ → Type 0) (begun_as : Re
     (now new : ReplicaValue) (g : GroupValue) (steps : List Step) (rest : List Input) (number : ℕ)
     → TakenSoFar m IsText begun_as all now g steps rest
     → IsRefusedInGroup ⊤ ⊤ now new number ⊎ IsNotKept now new number ⊎ IsNotSent now g.needs_sync new number
-    → IsTogetherRefused m IsText begun_as (map heard_by all) new number
+    → IsTogetherRefused m IsText begun_as all new number
 refused_in_all m IsText begun_as all now new g steps rest number s why = record {
-  inputs = s.done;
+  done = s.done;
   rest = rest;
-  are = ap (map heard_by) s.parts;
+  are = s.parts;
   mid = now;
   needs_sync = g.needs_sync;
   steps = s.said;
@@ -442,20 +438,20 @@ pub taken_in_all : (m : Meaning) (IsText : List ℕ → Type 0) (begun_as : Repl
     → (s : TakenSoFar m IsText begun_as all now g steps rest) → rest ≡ []
     → IsGroupSynced ⊤ now g.needs_sync new → new.failed ≡ false → sent ≡ batch_of begun_as.node.header.node g.letters
     → (sent ≡ sent_of (parts_of steps sent))
-    × IsTakenTogether m IsText begun_as (map heard_by all) new (parts_of steps sent)
+    × IsTakenTogether m IsText begun_as all new (parts_of steps sent)
 taken_in_all m IsText begun_as all now new g steps rest sent s none is_synced alive batch =
     let n : ℕ = begun_as.node.header.node in
     let letters : sent ≡ batch_of n (letters_of s.said) = batch ∙ ap (batch_of n) (sym s.letters) in
     let parts : parts_of steps sent ≡ said_by_steps n s.said = ap (parts_of steps) letters
-    ∙ parts_are n steps s.said s.counted in (
+    ∙ parts_are n steps s.said s.counted in
+    let whole : s.done ≡ all = sym (append-nil s.done) ∙ ap (λ (l : List Input). s.done ++ l) (sym none) ∙ s.parts in (
       letters ∙ all_sent n s.said ∙ ap sent_of (sym parts),
       record {
-        inputs = s.done;
-        are = ap (map heard_by) (sym (append-nil s.done) ∙ ap (λ (l : List Input). s.done ++ l) (sym none) ∙ s.parts);
         mid = now;
         needs_sync = g.needs_sync;
         steps = s.said;
-        gathered = s.gathered;
+        gathered = subst (λ (l : List Input). IsGatheredFrom m IsText begun_as l now g.needs_sync s.said) whole
+            s.gathered;
         is_synced = is_synced;
         sends = parts;
         alive = alive;

@@ -16,7 +16,7 @@ use Rattle.lk_node_interface.specs.Letters.{LetterValue, batch_of}
 use Rattle.lk_node_interface.specs.Outboxes.{OutboxValue}
 use Rattle.lk_node_interface.specs.declared.input.Input.{Input}
 use Rattle.lk_node_interface.specs.declared.note.Note.{Note}
-use Rattle.lk_node.specs.Calls.{heard_by, InputFits, NodeFits, LeavesFit}
+use Rattle.lk_node.specs.Calls.{InputFits, NodeFits, LeavesFit}
 use Rattle.lk_node.specs.Executing.{NothingToRun}
 use Rattle.lk_node.specs.Histories.{Datagram, History, Genesis}
 use Rattle.lk_node.specs.Keeping.{ReplicaHolds}
@@ -165,16 +165,14 @@ abbrev pub IsOfLast : ReplicaValue → ℕ → Type 0
 IsOfLast old number = max_count ≤ old.store.generation → IsDue old.node old.store → WantsNoMemory number
 
 -- the replica took this input, and sent these datagrams of its node
-pub record IsTakenAs (m : Meaning) (IsText : List ℕ → Type 0) (old : ReplicaValue) (bytes : Option (List ℕ))
+pub record IsTakenAs (m : Meaning) (IsText : List ℕ → Type 0) (old : ReplicaValue) (i : Input)
     (new : ReplicaValue) (notes : List Note) (sent : List Datagram) : Type 0 where
-  pub input : Input
-  pub given : heard_by input ≡ bytes
   pub letters : List LetterValue
   pub batch : sent ≡ batch_of old.node.header.node letters
-  pub taken : IsTaken m IsText ⊤ old input new notes (λ ls. ls ≡ letters)
+  pub taken : IsTaken m IsText ⊤ old i new notes (λ ls. ls ≡ letters)
 
 -- the result of a call
-abbrev pub ComesTo : Meaning → (List ℕ → Type 0) → ReplicaValue → Option (List ℕ) → ReplicaValue
+abbrev pub ComesTo : Meaning → (List ℕ → Type 0) → ReplicaValue → Input → ReplicaValue
     → Result (List Note × List Datagram) ℕ → Type 0
-ComesTo m IsText old bytes new (Ok told) = IsTakenAs m IsText old bytes new told.0 told.1
-ComesTo m IsText old bytes new (Err number) = IsRefused ⊤ ⊤ old new number × IsOfLast old number
+ComesTo m IsText old i new (Ok told) = IsTakenAs m IsText old i new told.0 told.1
+ComesTo m IsText old i new (Err number) = IsRefused ⊤ ⊤ old new number × IsOfLast old number

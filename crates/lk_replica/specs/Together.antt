@@ -1,5 +1,5 @@
 -- The result of a call of `take_all`, which takes several inputs as one group: its notes and datagrams, step by step.
-use Rattle.std.specs.Prelude.{◌≡◌, ◌⊎◌, ℕ, Bool, true, false, List, [], ◌∷◌, ◌++◌, map, take, drop, Option, Result, Ok}
+use Rattle.std.specs.Prelude.{◌≡◌, ◌⊎◌, ℕ, Bool, true, false, List, [], ◌∷◌, ◌++◌, take, drop, Result, Ok}
 use Rattle.std.specs.Prelude.{Err, ⊤}
 use Rattle.lk_disk.specs.Disk.{Disk}
 use Rattle.lk_disk.specs.declared.device.Side.{Side}
@@ -9,7 +9,7 @@ use Rattle.lk_state.specs.Meanings.{Meaning}
 use Rattle.lk_node_interface.specs.Letters.{batch_of}
 use Rattle.lk_node_interface.specs.declared.input.Input.{Input}
 use Rattle.lk_node_interface.specs.declared.note.Note.{Note}
-use Rattle.lk_node.specs.Calls.{heard_by, InputFits, NodeFits, LeavesFit}
+use Rattle.lk_node.specs.Calls.{InputFits, NodeFits, LeavesFit}
 use Rattle.lk_node.specs.Histories.{History, Genesis, Datagram}
 use Rattle.lk_node.specs.Holdings.{Holding}
 use Rattle.lk_node.specs.NodeValue.{NodeValue}
@@ -82,10 +82,8 @@ pub record IsGatheredFrom (m : Meaning) (IsText : List ℕ → Type 0) (old : Re
   pub alive : (mid ≡ old) ⊎ (mid.failed ≡ false)
 
 -- it took all of these, synced once if something waited for that, and then sent the letters of the steps
-pub record IsTakenTogether (m : Meaning) (IsText : List ℕ → Type 0) (old : ReplicaValue)
-    (given : List (Option (List ℕ))) (new : ReplicaValue) (said : List Said) : Type 0 where
-  pub inputs : List Input
-  pub are : map heard_by inputs ≡ given
+pub record IsTakenTogether (m : Meaning) (IsText : List ℕ → Type 0) (old : ReplicaValue) (inputs : List Input)
+    (new : ReplicaValue) (said : List Said) : Type 0 where
   pub mid : ReplicaValue
   pub needs_sync : Bool
   pub steps : List StepSaid
@@ -105,19 +103,19 @@ pub record IsNotSent (mid : ReplicaValue) (needs_sync : Bool) (new : ReplicaValu
   pub is_synced : IsGroupSynced ⊤ mid needs_sync new
 
 -- it took the first of these, and then a call failed with this; nothing was sent
-pub record IsTogetherRefused (m : Meaning) (IsText : List ℕ → Type 0) (old : ReplicaValue)
-    (given : List (Option (List ℕ))) (new : ReplicaValue) (number : ℕ) : Type 0 where
-  pub inputs : List Input
+pub record IsTogetherRefused (m : Meaning) (IsText : List ℕ → Type 0) (old : ReplicaValue) (inputs : List Input)
+    (new : ReplicaValue) (number : ℕ) : Type 0 where
+  pub done : List Input
   pub rest : List Input
-  pub are : map heard_by (inputs ++ rest) ≡ given
+  pub are : done ++ rest ≡ inputs
   pub mid : ReplicaValue
   pub needs_sync : Bool
   pub steps : List StepSaid
-  pub gathered : IsGatheredFrom m IsText old inputs mid needs_sync steps
+  pub gathered : IsGatheredFrom m IsText old done mid needs_sync steps
   pub refused : IsRefusedInGroup ⊤ ⊤ mid new number ⊎ IsNotKept mid new number ⊎ IsNotSent mid needs_sync new number
 
 -- the result of a call
-abbrev pub ComesToAll : Meaning → (List ℕ → Type 0) → ReplicaValue → List (Option (List ℕ)) → ReplicaValue
+abbrev pub ComesToAll : Meaning → (List ℕ → Type 0) → ReplicaValue → List Input → ReplicaValue
     → Result (List (List Note × List Datagram)) ℕ → Type 0
-ComesToAll m IsText old given new (Ok said) = IsTakenTogether m IsText old given new said
-ComesToAll m IsText old given new (Err number) = IsTogetherRefused m IsText old given new number
+ComesToAll m IsText old inputs new (Ok said) = IsTakenTogether m IsText old inputs new said
+ComesToAll m IsText old inputs new (Err number) = IsTogetherRefused m IsText old inputs new number

@@ -332,8 +332,8 @@ fn step_in_group<M: Machine, D: LogDisk + Drop>(
 }
 
 impl<M: Machine, D: LogDisk + Drop> Replica<M, D> {
-    /// Takes a tick or a datagram into a group. Nothing is sent before `release`, and the step's entries are synced
-    /// only there, unless a Base is written: before the step if a rebase is due, after it for an installed snapshot.
+    /// Takes an input into a group. Nothing is sent before `release`, and the step's entries are synced only there,
+    /// unless a Base is written: before the step if a rebase is due, after it for an installed snapshot.
     ///
     /// It fails as `take` does, but never with `Send`, and after that every call fails with `Failed` (11): nothing of
     /// the group is sent.

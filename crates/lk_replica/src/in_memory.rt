@@ -46,8 +46,8 @@ impl<M: Machine> MemoryReplica for Replica<M, MemoryDisk> {
     ghost behaves = { record {
       memory = λ r. device_of r.store;
       with_trap = λ t r. record r { store = record r.store { meter = trapped t r.store.meter } };
-      Takes = λ old bytes new came. ComesTo M.meaning M.IsText old bytes new came;
-      TakesAll = λ old given new came. ComesToAll M.meaning M.IsText old given new came;
+      Takes = λ old i new came. ComesTo M.meaning M.IsText old i new came;
+      TakesAll = λ old inputs new came. ComesToAll M.meaning M.IsText old inputs new came;
       Revives = λ device whose came. RevivesTo M.meaning M.IsText device whose came;
       Compacts = λ old new came. CompactsTo M.meaning old new came;
     } };

@@ -1,5 +1,5 @@
 // The trait of a replica with disks in memory, from which a world of replicas is made.
-ghost use Rattle.std.specs.Prelude.{◌≡◌, ℕ, [], map, Contains, Ok, Err, IfOk, IfErr, OnOk, OnErr};
+ghost use Rattle.std.specs.Prelude.{◌≡◌, ℕ, [], Contains, Ok, Err, IfOk, IfErr, OnOk, OnErr};
 ghost use Rattle.std.specs.List.{AllByRecursion};
 ghost use Rattle.lk_types.specs.Limits.{max_base};
 ghost use Rattle.lk_memory_disk.specs.Memory.{disk_of};
@@ -14,7 +14,7 @@ ghost use Rattle.lk_agreement_laws.specs.Datagrams.{NodeMessage, Datagram as Dat
 ghost use Rattle.lk_node.specs.Histories.{History, Genesis, IsLawful};
 ghost use Rattle.lk_node.specs.Holdings.{Holding};
 ghost use Rattle.lk_node.specs.Leavings.{header_of, DisksFit, AllCover};
-ghost use Rattle.lk_node.specs.Calls.{heard_by, InputFits, NodeFits, LeavesFit};
+ghost use Rattle.lk_node.specs.Calls.{InputFits, NodeFits, LeavesFit};
 ghost use Rattle.lk_replica.specs.Behaviours.{Behaviour, TrapsAlone, disks_by};
 ghost use Rattle.lk_node_interface.specs.Faults.{IsStoreFault, fault_number, RefusedAfter, IsNumberOfCalls};
 ghost use Rattle.lk_node_interface.specs.Faults.{IsNumberOfRevival};
@@ -89,7 +89,7 @@ pub trait MemoryReplica: Sized + Drop {
         ensures refused { IfErr result
             (λ e. behaves.Revives device header.now (Err (fault_number e.fault, e.device))) };
 
-    /// Takes a tick or a datagram. Returns its notes and the datagrams that it sent. It fails as `Replica::take` does.
+    /// Takes an input. Returns its notes and the datagrams that it sent. It fails as `Replica::take` does.
     fn take(&mut self, input: Input) -> Result<Taken, ReplicaFault>
         ensures goes { (h : History) (n : ℕ)
             → NodeFits meaning h n (Shows self.old h.genesis n) (disks_by behaves self.old) → InputFits h input.entry
@@ -116,12 +116,12 @@ pub trait MemoryReplica: Sized + Drop {
             (λ e. RefusedAfter (fault_number e) (behaves.memory self.old).meter (behaves.memory self.new).meter) }
         ensures told { IfErr result (λ e. IsNumberOfCalls (fault_number e)) }
         ensures exact { IfOk result
-            (λ t. behaves.Takes self.old (heard_by input.entry) self.new (Ok (t.notes.items, t.sent.items))) }
+            (λ t. behaves.Takes self.old input.entry self.new (Ok (t.notes.items, t.sent.items))) }
         ensures refused { IfErr result
-            (λ e. behaves.Takes self.old (heard_by input.entry) self.new (Err (fault_number e))) };
+            (λ e. behaves.Takes self.old input.entry self.new (Err (fault_number e))) };
 
-    /// Takes ticks and datagrams as one group: each as `take` does, in order, but their entries are synced once, if
-    /// something waits for that, and nothing is sent before. After an error nothing is sent.
+    /// Takes inputs as one group: each as `take` does, in order, but their entries are synced once, if something waits
+    /// for that, and nothing is sent before. After an error nothing is sent.
     fn take_all(&mut self, inputs: Vec<Input<'_>>) -> Result<TakenAll, ReplicaFault>
         // At Ok it has gone on at each of them, in each history that contains what the steps before it have sent.
         ensures goes { (genesis : Genesis) (n : ℕ) (held : Holding) → Shows self.old genesis n held
@@ -148,10 +148,10 @@ pub trait MemoryReplica: Sized + Drop {
         // It sends the letters of the steps, in order.
         ensures exact { IfOk result
             (λ t. (t.sent.items ≡ sent_of (said_in t))
-            × behaves.TakesAll self.old (map heard_by inputs.entry.items) self.new (Ok (said_in t))) }
+            × behaves.TakesAll self.old inputs.entry.items self.new (Ok (said_in t))) }
         ensures refused { IfErr result
             (λ e. IsNumberOfCalls (fault_number e)
-            × behaves.TakesAll self.old (map heard_by inputs.entry.items) self.new (Err (fault_number e))) };
+            × behaves.TakesAll self.old inputs.entry.items self.new (Err (fault_number e))) };
 
     /// Writes a snapshot of everything executed, which replaces the commands and the votes up to there. It notes and
     /// sends nothing.

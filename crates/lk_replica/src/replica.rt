@@ -45,8 +45,8 @@ impl<M: Machine, D: LogDisk + Drop> Model for Replica<M, D> {
 }
 
 impl<M: Machine, D: LogDisk + Drop> Replica<M, D> {
-    /// Takes a tick or a datagram, as a group of one: the step's entries are written, and synced if a promise or a vote
-    /// is among them, before anything is sent.
+    /// Takes an input, as a group of one: the step's entries are written, and synced if a promise or a vote is among
+    /// them, before anything is sent.
     ///
     /// It fails with `Device` (7), `NoMemory` (8) and `Halted` (14), and with `Failed` (11) if it has to rebase at
     /// generation 2^48; after that every call fails with `Failed` (11). With `Send` (15) some datagrams are lost, and

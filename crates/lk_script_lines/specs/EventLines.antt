@@ -32,6 +32,7 @@ abbrev pub line_of : Event → List ℕ
 line_of (event.Start n) = codes "start" ++ then_numbers (n ∷ [])
 line_of (event.Restart n) = codes "restart" ++ then_numbers (n ∷ [])
 line_of (event.Tick n) = codes "tick" ++ then_numbers (n ∷ [])
+line_of (event.Nudge n) = codes "nudge" ++ then_numbers (n ∷ [])
 line_of (event.Compact n) = codes "compact" ++ then_numbers (n ∷ [])
 line_of (event.Client n r) = (codes "client" ++ then_numbers (n ∷ r.client ∷ r.number ∷ [])) ++ 32 ∷ op_words r.op
 line_of (event.Deliver k) = codes "deliver" ++ then_numbers (k ∷ [])

@@ -45,6 +45,10 @@ AsksForTicks words o = ((n : ℕ) × IsNodeWord n words × (o ≡ Ticks n 1))
     × IsWord 1 10000 times word × (o ≡ Ticks n times))
 
 -- `N`
+abbrev pub AsksToNudge : List ℕ → Instruction → Type 0
+AsksToNudge words o = (n : ℕ) × IsNodeWord n words × (o ≡ Once (event.Nudge n))
+
+-- `N`
 abbrev pub AsksToCompact : List ℕ → Instruction → Type 0
 AsksToCompact words o = (n : ℕ) × IsNodeWord n words × (o ≡ Once (event.Compact n))
 
@@ -118,6 +122,7 @@ abbrev pub word_of : EventVerb → List ℕ
 word_of verb.Start = codes "start"
 word_of verb.Restart = codes "restart"
 word_of verb.Tick = codes "tick"
+word_of verb.Nudge = codes "nudge"
 word_of verb.Compact = codes "compact"
 word_of verb.Deliver = codes "deliver"
 word_of verb.Group = codes "group"
@@ -131,6 +136,7 @@ abbrev pub SpellsAfterVerb : EventVerb → List ℕ → Instruction → Type 0
 SpellsAfterVerb verb.Start = AsksToStart
 SpellsAfterVerb verb.Restart = AsksToRestart
 SpellsAfterVerb verb.Tick = AsksForTicks
+SpellsAfterVerb verb.Nudge = AsksToNudge
 SpellsAfterVerb verb.Compact = AsksToCompact
 SpellsAfterVerb verb.Deliver = AsksToDeliver
 SpellsAfterVerb verb.Group = AsksForGroup

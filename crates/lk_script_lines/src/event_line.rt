@@ -114,6 +114,7 @@ fn add_event(alloc: Global, text: &mut Vec<u8>, event: &Event) -> Result<(), NoM
         Event::Start(node) => add_verb(alloc, text, "start", *node),
         Event::Restart(node) => add_verb(alloc, text, "restart", *node),
         Event::Tick(node) => add_verb(alloc, text, "tick", *node),
+        Event::Nudge(node) => add_verb(alloc, text, "nudge", *node),
         Event::Compact(node) => add_verb(alloc, text, "compact", *node),
         Event::Client(node, request) => add_client(alloc, text, u64::from(node.get()), request),
         Event::Deliver(k) => add_words(alloc, text, "deliver", &[*k as u64]),

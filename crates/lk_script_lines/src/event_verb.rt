@@ -9,6 +9,7 @@ pub enum EventVerb {
     Start,
     Restart,
     Tick,
+    Nudge,
     Compact,
     Deliver,
     Group,
@@ -20,10 +21,11 @@ pub enum EventVerb {
 }
 
 // All of them.
-const ALL: [EventVerb; 11] = [
+const ALL: [EventVerb; 12] = [
     EventVerb::Start,
     EventVerb::Restart,
     EventVerb::Tick,
+    EventVerb::Nudge,
     EventVerb::Compact,
     EventVerb::Deliver,
     EventVerb::Group,
@@ -43,6 +45,7 @@ impl EventVerb {
             EventVerb::Start => b"start",
             EventVerb::Restart => b"restart",
             EventVerb::Tick => b"tick",
+            EventVerb::Nudge => b"nudge",
             EventVerb::Compact => b"compact",
             EventVerb::Deliver => b"deliver",
             EventVerb::Group => b"group",

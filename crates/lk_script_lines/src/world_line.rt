@@ -8,7 +8,7 @@ ghost use Rattle.lk_script_lines.specs.declared.instruction.Instruction.TheVaria
 ghost use Rattle.lk_script_lines.specs.declared.instruction.Instruction.{Instruction as InstructionValue};
 ghost use Rattle.lk_script_lines.specs.WorldLines.{IsNodeWord, AsksToStart, AsksToRestart, AsksForTicks, AsksToCompact};
 ghost use Rattle.lk_script_lines.specs.WorldLines.{AsksToDeliver, AsksForGroup, SpellsRequest, AsksOfClient};
-ghost use Rattle.lk_script_lines.specs.WorldLines.{AsksToInject};
+ghost use Rattle.lk_script_lines.specs.WorldLines.{AsksToInject, AsksToNudge};
 ghost use Rattle.lk_script_lines.specs.WorldLines.{AsksToStop, AsksToFail, AsksToArm};
 ghost use Rattle.lk_script_lines.specs.WorldLines.{SpellsAfterVerb, SpellsInstruction};
 
@@ -84,6 +84,17 @@ fn read_tick(words: &[u8]) -> Option<Instruction>
     let (number, times) = ticks(words)?;
     let node = NodeNo::of(number as u32).unwrap();
     Some(Instruction::Ticks(node, times as u16))
+}
+
+// Reads the word of `nudge N`.
+fn read_nudge(words: &[u8]) -> Option<Instruction>
+    ensures some { IfSome result (AsksToNudge words.now) }
+    ensures none { IsNone result → (o : InstructionValue) → AsksToNudge words.now o → ⊥ }
+{
+    let Some(node) = node_of(words) else {
+        return None;
+    };
+    Some(Instruction::Once(Event::Nudge(node)))
 }
 
 // Reads the word of `compact N`.
@@ -229,6 +240,7 @@ fn instruction_of(alloc: Global, verb: EventVerb, words: &[u8]) -> Result<Instru
         EventVerb::Start => understood(read_start(words)),
         EventVerb::Restart => understood(read_restart(words)),
         EventVerb::Tick => understood(read_tick(words)),
+        EventVerb::Nudge => understood(read_nudge(words)),
         EventVerb::Compact => understood(read_compact(words)),
         EventVerb::Deliver => understood(read_deliver(words)),
         EventVerb::Group => read_group(alloc, words),

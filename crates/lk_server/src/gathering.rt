@@ -1,8 +1,8 @@
 //! How a server collects one group. It sends nothing until the group ends.
 //!
 //! `fill_group` takes what a turn brings: by `add_pending` the letters of the node to itself (`add_loopback`) or else
-//! what comes to the socket (`add_from_socket`), and by `add_tick` a tick where one is due. `add_datagram` counts a
-//! datagram, and `add_input` gives it to the replica.
+//! what comes to the socket (`add_from_socket`), and by `add_tick` a tick where one is due, or a nudge in its place.
+//! `add_datagram` counts a datagram, and `add_input` gives it to the replica.
 
 ghost use Rattle.std.specs.Prelude.{◌≡◌, ℕ, List, ◌∷◌, [], Some, None, true, false, OnOk, OnErr, IfOk, IfSome, IsNone};
 ghost use Rattle.std.specs.declared.net.socket_addr.SocketAddr.{SocketAddr as Address};
@@ -32,6 +32,9 @@ use std::time::{Clock, Duration};
 
 // A group has at most this many datagrams after its first.
 pub(crate) const FURTHER: u64 = 63;
+
+// Of so many ticks the last is a nudge. The number is prime, so that no duel of candidates keeps in step with it.
+const TICKS_A_NUDGE: u64 = 31;
 
 impl<R: ServerReplica, S: DatagramSocket + Drop> Server<R, S> {
     // Removes the first letter of the node to itself.
@@ -80,19 +83,22 @@ impl<R: ServerReplica, S: DatagramSocket + Drop> Server<R, S> {
         }
     }
 
-    // Adds a tick to the group, and counts it.
+    // Adds a tick to the group, each 31st time a nudge in its place, and counts it.
     pub(crate) fn add_tick<L: Log>(&mut self, group: &mut Group, log: &L) -> Result<(), GroupFault>
         ensures gathers { OnOk result
             (GathersMore R.Gathers (None ∷ []) group.old group.new self.old.replica self.new.replica) }
         ensures silent { OnErr result
             (SaysNoMore R.Says R.Gathers (None ∷ []) group.old self.old.replica self.new.replica) }
-        // However it ends, the tick is counted.
+        // However it ends, that is counted.
         ensures ticks { self.new.ticks ≡ one_more_tick self.old.ticks }
         ensures others { self.new
             ≡ record self.old { replica = self.new.replica; failed = self.new.failed; ticks = self.new.ticks } }
         ensures broken { OnErr result (self.new.failed ≡ true) }
     {
         self.ticks = self.ticks.saturating_add(1);
+        if self.ticks % TICKS_A_NUDGE == 0 {
+            return self.add_input(Input::Nudge, &Arrival::Tick, group, log);
+        }
         self.add_input(Input::Tick, &Arrival::Tick, group, log)
     }
 

@@ -7,6 +7,7 @@ use Rattle.lk_disk.specs.Meters.{stopping}
 use Rattle.lk_store_format.specs.Values.{HeaderValue}
 use Rattle.lk_state.specs.Meanings.{Meaning}
 use Rattle.lk_agreement_laws.specs.Nodes.{PaxosState}
+use Rattle.lk_node_interface.specs.declared.input.Input.{Input}
 use Rattle.lk_node_interface.specs.declared.note.Note.{Note}
 use Rattle.lk_node.specs.Histories.{History, Genesis, Datagram, RequestValue}
 use Rattle.lk_node.specs.Holdings.{Holding}
@@ -73,17 +74,17 @@ module _ {R : Type 0} (b : Behaviour R) (old new : Scene R) where
   }
 
   -- a node that went on, up to an armed stop at a send if there was one
-  went : (r : R) (t next : Seat R) (o : Option (List ℕ)) (asked mine told : List Note) (batch : List Datagram)
-      (how : Option End) (stop : Option ℕ) → (k : HasTaken b r o t mine batch how stop) → AreOfNodes mine
+  went : (r : R) (t next : Seat R) (x : Input) (asked mine told : List Note) (batch : List Datagram)
+      (how : Option End) (stop : Option ℕ) → (k : HasTaken b r x t mine batch how stop) → AreOfNodes mine
       → Adds old new ((asked ++ mine) ++ told) batch → NotesReplies batch told → new.ended ≡ how
       → next.number ≡ t.number
-      → StopsIfArmed b stop t next → Comes b old new r next o asked
-  went r t next o asked mine told batch how None k of_nodes adds tells ended number rests = inl (record {
+      → StopsIfArmed b stop t next → Comes b old new r next x asked
+  went r t next x asked mine told batch how None k of_nodes adds tells ended number rests = inl (record {
     replica = k.replica;
     notes = mine;
     told = told;
     batch = batch;
-    takes = subst (λ l. b.Takes r o k.replica (Ok (mine, l))) (sym k.sends.2) k.takes;
+    takes = subst (λ l. b.Takes r x k.replica (Ok (mine, l))) (sym k.sends.2) k.takes;
     calls = k.calls;
     calls_succeed = k.calls_succeed;
     no_stop = subst (λ l. stop_among (b.memory k.replica).meter.trap (length l) ≡ None) (sym k.sends.2) k.sends.0;
@@ -94,7 +95,7 @@ module _ {R : Type 0} (b : Behaviour R) (old new : Scene R) where
     adds = adds;
     ended = ended ∙ k.ended;
   })
-  went r t next o asked mine told batch how (Some bytes) k of_nodes adds tells ended number rests = inr (inl (record {
+  went r t next x asked mine told batch how (Some bytes) k of_nodes adds tells ended number rests = inr (inl (record {
     replica = k.replica;
     notes = mine;
     told = told;
@@ -114,14 +115,14 @@ module _ {R : Type 0} (b : Behaviour R) (old new : Scene R) where
 
   -- a node that was given something
   pub given : (Shows : R → Genesis → ℕ → Holding → Type 0) (m : Meaning) (i n : ℕ) (s t : Seat R) (r : R)
-      (o : Option (List ℕ)) (asked mine : List Note) (batch : List Datagram) (how : Option End) (stop : Option ℕ)
+      (x : Input) (asked mine : List Note) (batch : List Datagram) (how : Option End) (stop : Option ℕ)
       → At old.seats i s → s.number ≡ n → s.life ≡ Up r → t.number ≡ s.number
       → ((q : R) → t.life ≡ Up q → AreOfNodes mine)
       → HasConcluded Shows b m (record old { seats = set old.seats i t }) i new asked mine batch how stop
       → IsEndByCalls how
-      → HasTaken b r o t mine batch how stop ⊎ HasEndedByFault (Breaks b r o) t mine batch how stop
-      → IsGiven b old new n o asked
-  given Shows m i n s t r o asked mine batch how stop at is up number of_nodes k tellable cases = record {
+      → HasTaken b r x t mine batch how stop ⊎ HasEndedByFault (Breaks b r x) t mine batch how stop
+      → IsGiven b old new n x asked
+  given Shows m i n s t r x asked mine batch how stop at is up number of_nodes k tellable cases = record {
     seat = s;
     number = is;
     replica = r;
@@ -129,10 +130,10 @@ module _ {R : Type 0} (b : Behaviour R) (old new : Scene R) where
     next = k.next;
     replaces = record { index = i; at = at; number = on ∙ number; seats = k.seats ∙ set_twice old.seats i t k.next };
     comes_to = elim cases [
-      | inl q ↦ went r t k.next o asked mine k.told batch how stop q
+      | inl q ↦ went r t k.next x asked mine k.told batch how stop q
           (of_nodes q.after q.up) adds k.tells k.ended on rests
       | inr f ↦ inr (inr (falls
-          (Breaks b r o) t k.next asked mine k.told batch how stop adds k.tells k.ended on rests tellable f))
+          (Breaks b r x) t k.next asked mine k.told batch how stop adds k.tells k.ended on rests tellable f))
     ];
   }
     where
@@ -288,11 +289,11 @@ module _ {R : Type 0} (b : Behaviour R) (old new : Scene R) where
 -- one that the call left
 module _ {R : Type 0} (b : Behaviour R) where
   pub taken_left : TrapsAlone b
-      → (r : R) (o : Option (List ℕ)) (life : Life R) (t : Seat R) (mine : List Note) (batch : List Datagram)
+      → (r : R) (x : Input) (life : Life R) (t : Seat R) (mine : List Note) (batch : List Datagram)
       (how : Option End) (stop : Option ℕ) → (mine ≡ [] → batch ≡ [] → ⊥)
-      → life ≡ Up r → HasTaken b r o t mine batch how stop ⊎ HasEndedByFault (Breaks b r o) t mine batch how stop
-      → StopsOn b (LeftBy b o life) t.life
-  taken_left alone r o life t mine batch how stop some up cases = elim cases [
+      → life ≡ Up r → HasTaken b r x t mine batch how stop ⊎ HasEndedByFault (Breaks b r x) t mine batch how stop
+      → StopsOn b (LeftBy b x life) t.life
+  taken_left alone r x life t mine batch how stop some up cases = elim cases [
     | inl k ↦ (
       b.memory k.replica,
       (
@@ -355,11 +356,11 @@ pub record Ends {R : Type 0} (t : Seat R) (mine : List Note) (batch : List Datag
   pub no_notes : mine ≡ []
   pub no_batch : batch ≡ []
 
-pub taken_cases : {R : Type 0} (b : Behaviour R) (r : R) (o : Option (List ℕ)) (t : Seat R) (mine : List Note)
+pub taken_cases : {R : Type 0} (b : Behaviour R) (r : R) (x : Input) (t : Seat R) (mine : List Note)
     (batch : List Datagram) (how : Option End) (stop : Option ℕ)
-    → HasTaken b r o t mine batch how stop ⊎ HasEndedByFault (Breaks b r o) t mine batch how stop
+    → HasTaken b r x t mine batch how stop ⊎ HasEndedByFault (Breaks b r x) t mine batch how stop
     → ((q : R) × (t.life ≡ Up q)) ⊎ Ends t mine batch
-taken_cases b r o t mine batch how stop cases = elim cases [
+taken_cases b r x t mine batch how stop cases = elim cases [
   | inl k ↦ inl (k.after, k.up)
   | inr f ↦ inr (record { device = fallen_on f.left; down = f.down; no_notes = f.no_notes; no_batch = f.no_batch })
 ]

@@ -3,6 +3,8 @@ use Rattle.std.proofs.Common.{◌≡◌, ℕ, Option, Some, None, sym, subst, in
 use Rattle.std.specs.Prelude.{List, [], ◌∷◌, map, take}
 use Rattle.lk_memory_disk.specs.Memory.{Memory, empty}
 use Rattle.lk_replica.specs.Behaviours.{Behaviour}
+use Rattle.lk_node_interface.specs.declared.input.Input.{Input}
+use Rattle.lk_node_interface.specs.declared.input.Input.TheVariants as input
 use Rattle.lk_node_interface.specs.declared.note.Note.{Note}
 use Rattle.lk_sim_nodes.specs.Ends.{IsEndByCalls}
 use Rattle.lk_sim.specs.Events.{IsGiven, IsGivenTogether, ComesUp, HasEffect, IsExecuted, Wants, IsRefused}
@@ -24,9 +26,9 @@ module _ {R : Type 0} (b : Behaviour R) where
   come_told : (old new : Scene R) (t : Seat R) (d : Memory) → ComesUp b old new t d → IsEndByCalls new.ended
   come_told old new t d c = elim c [ inl r ↦ nothing_told new r.ended | inr f ↦ f.told ]
 
-  given_told : (old new : Scene R) (n : ℕ) (o : Option (List ℕ)) (asked : List Note)
-      → IsGiven b old new n o asked → IsEndByCalls new.ended
-  given_told old new n o asked k =
+  given_told : (old new : Scene R) (n : ℕ) (x : Input) (asked : List Note)
+      → IsGiven b old new n x asked → IsEndByCalls new.ended
+  given_told old new n x asked k =
       elim k.comes_to [
         | inl r ↦ nothing_told new r.ended
         | inr (inl r) ↦
@@ -34,7 +36,7 @@ module _ {R : Type 0} (b : Behaviour R) where
         | inr (inr f) ↦ f.told
       ]
 
-  together_told : (old new : Scene R) (n : ℕ) (given : List (Option (List ℕ)))
+  together_told : (old new : Scene R) (n : ℕ) (given : List Input)
       → IsGivenTogether b old new n given → IsEndByCalls new.ended
   together_told old new n given k =
       elim k.comes_to [
@@ -47,13 +49,15 @@ module _ {R : Type 0} (b : Behaviour R) where
   brings_told : (old new : Scene R) (e : Event) → HasEffect b old e new → IsEndByCalls new.ended
   brings_told old new (event.Start n) k = come_told old new k.seat empty k.comes
   brings_told old new (event.Restart n) k = come_told old new k.next k.device k.comes
-  brings_told old new (event.Tick n) k = given_told old new n None [] k
+  brings_told old new (event.Tick n) k = given_told old new n input.Tick [] k
+  brings_told old new (event.Nudge n) k = given_told old new n input.Nudge [] k
   brings_told old new (event.Compact n) k = elim k.comes_to [ inl p ↦ nothing_told new p.ended | inr f ↦ f.told ]
   brings_told old new (event.Client n r) k = nothing_told new k.ended
-  brings_told old new (event.Deliver i) k = given_told old new k.node (Some k.datagram.bytes) [] k.given
+  brings_told old new (event.Deliver i) k = given_told old new k.node (input.Datagram k.datagram.bytes) [] k.given
   brings_told old new (event.Group n group_inputs) k = together_told old new n (map
       (given_by old.sent) group_inputs.items) k
-  brings_told old new (event.Inject n bytes) k = given_told old new n (Some bytes.items) (asked_note k.request) k.given
+  brings_told old new (event.Inject n bytes) k =
+      given_told old new n (input.Datagram bytes.items) (asked_note k.request) k.given
   brings_told old new (event.Stop n x y) k = nothing_told new k.ended
   brings_told old new (event.FailAt n count) k = nothing_told new k.ended
   brings_told old new (event.Arm n count bytes) k = nothing_told new k.ended
@@ -68,6 +72,7 @@ module _ {R : Type 0} (b : Behaviour R) where
   wants_told old new (event.Start m) k told = same_told old new k told
   wants_told old new (event.Restart m) k told = told_as new.ended old.ended k.ended told
   wants_told old new (event.Tick m) k told = told_as new.ended old.ended k.ended told
+  wants_told old new (event.Nudge m) k told = told_as new.ended old.ended k.ended told
   wants_told old new (event.Compact m) k told = told_as new.ended old.ended k.ended told
   wants_told old new (event.Client m r) k told = same_told old new k told
   wants_told old new (event.Deliver i) k told =

@@ -10,9 +10,9 @@ use Rattle.lk_disk.specs.declared.device.Side.{Side}
 use Rattle.lk_disk.specs.declared.device.Side.TheVariants.{A, B}
 use Rattle.lk_state.specs.Meanings.{Meaning}
 use Rattle.lk_node_interface.specs.declared.input.Input.{Input}
-use Rattle.lk_node_interface.specs.declared.input.Input.TheVariants.{Tick, Datagram as Heard}
+use Rattle.lk_node_interface.specs.declared.input.Input.TheVariants.{Tick, Nudge, Datagram as Heard}
 use Rattle.lk_node_interface.specs.declared.note.Note.{Note}
-use Rattle.lk_node.specs.Calls.{heard_by, InputFits}
+use Rattle.lk_node.specs.Calls.{InputFits}
 use Rattle.lk_node.specs.Histories.{History, Genesis, Datagram}
 use Rattle.lk_node.specs.Holdings.{Holding}
 use Rattle.lk_node.specs.Leavings.{DisksFit}
@@ -22,7 +22,7 @@ use Rattle.lk_replica.specs.declared.taken.Step.{Step}
 use Rattle.lk_sim_nodes.specs.Ends.{BreaksTogether, IsEndByCalls, end_at}
 use Rattle.lk_sim_nodes.specs.Sends.{after_sends, stop_among}
 use Rattle.lk_sim.specs.Events.{Adds, AreAllOfNodes, EndsByFault, ComesTogether, IsGivenTogether, LeftByGroup}
-use Rattle.lk_sim.specs.Groups.{WasSentTo, WereSentTo, AreNotesOf, given_by}
+use Rattle.lk_sim.specs.Groups.{WasSentTo, WereSentTo, AreNotesOf, bringing, given_by}
 use Rattle.lk_sim_nodes.specs.Outcomes.{HasTakenTogether, HasFallenTogether, StopsIfArmed}
 use Rattle.lk_sim.specs.Concluded.{HasConcludedSteps, HasGivenUp}
 use Rattle.lk_sim.specs.Refusals.{AreFor, IsFor}
@@ -58,6 +58,8 @@ pub all_heard : {R : Type 0} (Shows : R → Genesis → ℕ → Holding → Type
 all_heard Shows disks m genesis seats sent trace w [] were = tt
 all_heard Shows disks m genesis seats sent trace w (Tick ∷ is) were =
     (tt, all_heard Shows disks m genesis seats sent trace w is were.1)
+all_heard Shows disks m genesis seats sent trace w (Nudge ∷ is) were =
+    (tt, all_heard Shows disks m genesis seats sent trace w is were.1)
 all_heard Shows disks m genesis seats sent trace w (Heard bytes ∷ is) were = (
   heard_sent Shows disks m genesis seats sent trace w were.0.0 were.0.1 bytes were.0.2,
   all_heard Shows disks m genesis seats sent trace w is were.1,
@@ -65,20 +67,17 @@ all_heard Shows disks m genesis seats sent trace w (Heard bytes ∷ is) were = (
 
 -- the inputs of a group bring what was sent
 was_brought : (sent : List Datagram) (n : ℕ) (t : GroupInput) (i : Input) → IsFor sent n t
-    → heard_by i ≡ given_by sent t → WasSentTo sent i
+    → i ≡ given_by sent t → WasSentTo sent i
 was_brought sent n t Tick is same = tt
+was_brought sent n t Nudge is same = tt
 was_brought sent n group_input.Tick (Heard bytes) is same = absurd cc
 was_brought sent n (group_input.Deliver k) (Heard bytes) is same =
-    let brought : Some bytes ≡ Some is.0.bytes = same ∙ ap (λ o. given_of o) is.1 in
+    let brought : Heard bytes ≡ Heard is.0.bytes = same ∙ ap bringing is.1 in
     (is.0, datagram_listed sent k is.0 is.1, cc brought)
-  where
-    given_of : Option Datagram → Option (List ℕ)
-    given_of None = None
-    given_of (Some d) = Some d.bytes
 
 pub were_brought : (sent : List Datagram) (n : ℕ) (group_inputs : List GroupInput) (is : List Input)
     → AreFor sent n group_inputs
-    → map heard_by is ≡ map (given_by sent) group_inputs → WereSentTo sent is
+    → is ≡ map (given_by sent) group_inputs → WereSentTo sent is
 were_brought sent n group_inputs [] for_it same = tt
 were_brought sent n [] (i ∷ is) for_it same = absurd cc
 were_brought sent n (t ∷ group_inputs) (i ∷ is) for_it same =
@@ -88,7 +87,7 @@ were_brought sent n (t ∷ group_inputs) (i ∷ is) for_it same =
 
 module _ {R : Type 0} (b : Behaviour R) (old new : Scene R) where
   -- a node that went on, up to an armed stop at a send if there was one
-  went_together : (r : R) (t next : Seat R) (given : List (Option (List ℕ))) (steps : List Step) (notes : List Note)
+  went_together : (r : R) (t next : Seat R) (given : List Input) (steps : List Step) (notes : List Note)
       (batch : List Datagram) (how : Option End) (stop : Option ℕ)
       → (k : HasTakenTogether b r given t steps batch how stop)
       → AreAllOfNodes (parts_of steps k.all) → AreNotesOf (parts_of steps batch) notes → Adds old new notes batch
@@ -150,7 +149,7 @@ module _ {R : Type 0} (b : Behaviour R) (old new : Scene R) where
 
   -- a node that was given a group
   pub given_together : (Shows : R → Genesis → ℕ → Holding → Type 0) (m : Meaning) (i n : ℕ) (s t : Seat R) (r : R)
-      (given : List (Option (List ℕ))) (steps : List Step) (batch : List Datagram) (how : Option End) (stop : Option ℕ)
+      (given : List Input) (steps : List Step) (batch : List Datagram) (how : Option End) (stop : Option ℕ)
       → At old.seats i s → s.number ≡ n → s.life ≡ Up r → t.number ≡ s.number
       → ((k : HasTakenTogether b r given t steps batch how stop) → AreAllOfNodes (parts_of steps k.all))
       → HasConcludedSteps Shows b m (record old { seats = set old.seats i t }) i new steps batch how stop
@@ -189,7 +188,7 @@ none_taken (s ∷ steps) sent e = absurd (cc e)
 
 -- whatever a group came to, a stop leaves of the node's device what it leaves of the one that the call left
 pub group_left : {R : Type 0} (b : Behaviour R) → TrapsAlone b
-    → (r : R) (given : List (Option (List ℕ))) (life : Life R) (t : Seat R) (steps : List Step) (batch : List Datagram)
+    → (r : R) (given : List Input) (life : Life R) (t : Seat R) (steps : List Step) (batch : List Datagram)
     (how : Option End) (stop : Option ℕ)
     → (steps ≡ [] → batch ≡ [] → ⊥) → life ≡ Up r
     → HasTakenTogether b r given t steps batch how stop
@@ -271,7 +270,7 @@ module _ {R : Type 0} (Shows : R → Genesis → ℕ → Holding → Type 0) (b 
         (now.states t.number) z) (sym same) f)))))
 
     -- what a group came to keeps all that holds
-    pub settled_steps_hold : (new : Scene R) (r : R) (is : List Input) (given : List (Option (List ℕ)))
+    pub settled_steps_hold : (new : Scene R) (r : R) (is : List Input) (given : List Input)
         (Ends : ℕ → Memory → Type 0) → s.life ≡ Up r → WereSentTo sent is
         → ((q : R) → t.life ≡ Up q → EachLeavesFit Shows (disks_by b) m s.number r is q (parts_of steps batch))
         → DisksFit m h t.number (disk_of (device_in b t.life)) → AreShort (disk_of (device_in b t.life))

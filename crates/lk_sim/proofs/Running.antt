@@ -5,6 +5,8 @@ use Rattle.lk_memory_disk.specs.Memory.{Memory, empty}
 use Rattle.lk_replica.specs.Behaviours.{Behaviour}
 use Rattle.std.specs.Prelude.{Option, Result, Ok, Err, Vec, OnOk, IfErr, IsErrAnd}
 use Rattle.std.specs.Global.{Global}
+use Rattle.lk_node_interface.specs.declared.input.Input.{Input}
+use Rattle.lk_node_interface.specs.declared.input.Input.TheVariants as input
 use Rattle.lk_node_interface.specs.declared.note.Note.{Note}
 use Rattle.lk_sim.specs.Events.{IsGiven, IsGivenTogether, ComesUp, HasEffect, IsExecuted, Wants, IsRefused}
 use Rattle.lk_sim.specs.Events.{IsNotInjected}
@@ -76,9 +78,9 @@ module _ {R : Type 0} (b : Behaviour R) where
   come_grows : (old new : Scene R) (t : Seat R) (d : Memory) → ComesUp b old new t d → Grows old new
   come_grows old new t d c = elim c [ inl r ↦ ([], r.adds.sent) | inr f ↦ ([], f.adds.sent) ]
 
-  given_grows : (old new : Scene R) (n : ℕ) (o : Option (List ℕ)) (asked : List Note)
-      → IsGiven b old new n o asked → Grows old new
-  given_grows old new n o asked k =
+  given_grows : (old new : Scene R) (n : ℕ) (x : Input) (asked : List Note)
+      → IsGiven b old new n x asked → Grows old new
+  given_grows old new n x asked k =
       elim k.comes_to [
         | inl r ↦ (r.batch, r.adds.sent)
         | inr (inl r) ↦
@@ -86,7 +88,7 @@ module _ {R : Type 0} (b : Behaviour R) where
         | inr (inr f) ↦ ([], f.adds.sent)
       ]
 
-  together_grows : (old new : Scene R) (n : ℕ) (given : List (Option (List ℕ)))
+  together_grows : (old new : Scene R) (n : ℕ) (given : List Input)
       → IsGivenTogether b old new n given → Grows old new
   together_grows old new n given k =
       elim k.comes_to [
@@ -99,14 +101,15 @@ module _ {R : Type 0} (b : Behaviour R) where
   brings_grows : (old new : Scene R) (e : Event) → HasEffect b old e new → Grows old new
   brings_grows old new (event.Start n) k = come_grows old new k.seat empty k.comes
   brings_grows old new (event.Restart n) k = come_grows old new k.next k.device k.comes
-  brings_grows old new (event.Tick n) k = given_grows old new n None [] k
+  brings_grows old new (event.Tick n) k = given_grows old new n input.Tick [] k
+  brings_grows old new (event.Nudge n) k = given_grows old new n input.Nudge [] k
   brings_grows old new (event.Compact n) k = elim k.comes_to [ inl p ↦ ([], p.adds.sent) | inr f ↦ ([], f.adds.sent) ]
   brings_grows old new (event.Client n r) k = (k.datagram ∷ [], k.adds.sent)
-  brings_grows old new (event.Deliver i) k = given_grows old new k.node (Some k.datagram.bytes) [] k.given
+  brings_grows old new (event.Deliver i) k = given_grows old new k.node (input.Datagram k.datagram.bytes) [] k.given
   brings_grows old new (event.Group n group_inputs) k = together_grows old new n (map
       (given_by old.sent) group_inputs.items) k
   brings_grows old new (event.Inject n bytes) k =
-      given_grows old new n (Some bytes.items) (asked_note k.request) k.given
+      given_grows old new n (input.Datagram bytes.items) (asked_note k.request) k.given
   brings_grows old new (event.Stop n x y) k = ([], k.adds.sent)
   brings_grows old new (event.FailAt n count) k = ([], k.adds.sent)
   brings_grows old new (event.Arm n count bytes) k = ([], k.adds.sent)
@@ -118,6 +121,7 @@ module _ {R : Type 0} (b : Behaviour R) where
   wants_grow old new (event.Start m) k = nothing_more old new k
   wants_grow old new (event.Restart m) k = ([], k.adds.sent)
   wants_grow old new (event.Tick m) k = ([], k.adds.sent)
+  wants_grow old new (event.Nudge m) k = ([], k.adds.sent)
   wants_grow old new (event.Compact m) k = ([], k.adds.sent)
   wants_grow old new (event.Client m r) k = nothing_more old new k
   wants_grow old new (event.Deliver i) k = elim k [ inl same ↦ nothing_more old new same | inr h ↦ ([], h.4.adds.sent) ]

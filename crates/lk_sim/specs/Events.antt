@@ -12,6 +12,8 @@ use Rattle.lk_log.specs.Causes.{rebase_calls}
 use Rattle.lk_messages.specs.Grammar.{Spells}
 use Rattle.lk_messages.specs.declared.message.Content.TheVariants as content
 use Rattle.lk_agreement_laws.specs.declared.party.Party.TheVariants as party
+use Rattle.lk_node_interface.specs.declared.input.Input.{Input}
+use Rattle.lk_node_interface.specs.declared.input.Input.TheVariants.{Tick, Nudge, Datagram as Heard}
 use Rattle.lk_node_interface.specs.declared.note.Note.{Note}
 use Rattle.lk_node_interface.specs.declared.note.Note.TheVariants as note
 use Rattle.lk_node.specs.Histories.{Datagram, Genesis, RequestValue}
@@ -74,13 +76,13 @@ pub record EndsByFault {R : Type 0} (Ends : ℕ → Memory → Type 0) (old new 
 
 -- it goes on: all calls of its device have succeeded, no armed stop happened at a send, what its replica noted and sent
 -- was added, after a request that was just asked, with its answers and passes noted as they were sent
-pub record GoesOn {R : Type 0} (b : Behaviour R) (old new : Scene R) (r : R) (t : Seat R) (o : Option (List ℕ))
+pub record GoesOn {R : Type 0} (b : Behaviour R) (old new : Scene R) (r : R) (t : Seat R) (x : Input)
     (asked : List Note) : Type 0 where
   pub replica : R
   pub notes : List Note
   pub told : List Note
   pub batch : List Datagram
-  pub takes : b.Takes r o replica (Ok (notes, batch))
+  pub takes : b.Takes r x replica (Ok (notes, batch))
   pub calls : ℕ
   pub calls_succeed : CallsSucceed (b.memory r).meter (b.memory replica).meter calls
   pub no_stop : stop_among (b.memory replica).meter.trap (length batch) ≡ None
@@ -91,13 +93,13 @@ pub record GoesOn {R : Type 0} (b : Behaviour R) (old new : Scene R) (r : R) (t 
   pub ended : new.ended ≡ None
 
 -- an armed stop ended it at a send: everything that its replica noted was added, and what it sent before that
-pub record StopsSending {R : Type 0} (b : Behaviour R) (old new : Scene R) (r : R) (t : Seat R) (o : Option (List ℕ))
+pub record StopsSending {R : Type 0} (b : Behaviour R) (old new : Scene R) (r : R) (t : Seat R) (x : Input)
     (asked : List Note) : Type 0 where
   pub replica : R
   pub notes : List Note
   pub told : List Note
   pub batch : List Datagram
-  pub takes : b.Takes r o replica (Ok (notes, batch))
+  pub takes : b.Takes r x replica (Ok (notes, batch))
   pub calls : ℕ
   pub calls_succeed : CallsSucceed (b.memory r).meter (b.memory replica).meter calls
   pub sends : ℕ
@@ -109,13 +111,13 @@ pub record StopsSending {R : Type 0} (b : Behaviour R) (old new : Scene R) (r : 
   pub adds : Adds old new ((asked ++ notes) ++ told) (take sends batch)
   pub ended : new.ended ≡ Some (Stopped t.number)
 
--- the result of a tick (`None`) or of these bytes: the node goes on, or stops at a send, or a fault ends it
-abbrev pub Comes : {R : Type 0} → Behaviour R → Scene R → Scene R → R → Seat R → Option (List ℕ) → List Note → Type 0
-Comes b old new r t o asked =
-    GoesOn b old new r t o asked ⊎ StopsSending b old new r t o asked ⊎ EndsByFault (Breaks b r o) old new t asked
+-- the result of this input: the node goes on, or stops at a send, or a fault ends it
+abbrev pub Comes : {R : Type 0} → Behaviour R → Scene R → Scene R → R → Seat R → Input → List Note → Type 0
+Comes b old new r t x asked =
+    GoesOn b old new r t x asked ⊎ StopsSending b old new r t x asked ⊎ EndsByFault (Breaks b r x) old new t asked
 
--- the node of this number took a tick or these bytes
-pub record IsGiven {R : Type 0} (b : Behaviour R) (old new : Scene R) (n : ℕ) (o : Option (List ℕ))
+-- the node of this number took this input
+pub record IsGiven {R : Type 0} (b : Behaviour R) (old new : Scene R) (n : ℕ) (x : Input)
     (asked : List Note) : Type 0 where
   pub seat : Seat R
   pub number : seat.number ≡ n
@@ -123,7 +125,7 @@ pub record IsGiven {R : Type 0} (b : Behaviour R) (old new : Scene R) (n : ℕ) 
   pub up : seat.life ≡ Up replica
   pub next : Seat R
   pub replaces : ReplacesSeat old.seats new.seats seat next
-  pub comes_to : Comes b old new replica next o asked
+  pub comes_to : Comes b old new replica next x asked
 
 -- the node to which the datagram is addressed took its bytes
 pub record IsDelivered {R : Type 0} (b : Behaviour R) (old new : Scene R) (k : ℕ) : Type 0 where
@@ -131,7 +133,7 @@ pub record IsDelivered {R : Type 0} (b : Behaviour R) (old new : Scene R) (k : �
   pub stands : datagram_at old.sent k ≡ Some datagram
   pub node : ℕ
   pub bound : datagram.to ≡ party.Node node
-  pub given : IsGiven b old new node (Some datagram.bytes) []
+  pub given : IsGiven b old new node (Heard datagram.bytes) []
 
 -- ---- a node takes a group
 
@@ -142,7 +144,7 @@ AreAllOfNodes said = AllByRecursion (λ (x : Said). AreOfNodes x.0) said
 -- it goes on: all calls of its device have succeeded, no armed stop happened at a send, and what the steps noted and
 -- sent was added, step by step, with the answers and passes noted as they were sent
 pub record GoesOnTogether {R : Type 0} (b : Behaviour R) (old new : Scene R) (r : R) (t : Seat R)
-    (given : List (Option (List ℕ))) : Type 0 where
+    (given : List Input) : Type 0 where
   pub replica : R
   pub said : List Said
   pub notes : List Note
@@ -158,7 +160,7 @@ pub record GoesOnTogether {R : Type 0} (b : Behaviour R) (old new : Scene R) (r 
 
 -- an armed stop ended it at a send: everything that the steps noted was added, and what they sent before that
 pub record StopsTogether {R : Type 0} (b : Behaviour R) (old new : Scene R) (r : R) (t : Seat R)
-    (given : List (Option (List ℕ))) : Type 0 where
+    (given : List Input) : Type 0 where
   pub replica : R
   pub said : List Said
   pub notes : List Note
@@ -176,14 +178,14 @@ pub record StopsTogether {R : Type 0} (b : Behaviour R) (old new : Scene R) (r :
 
 -- the result of the group; if a fault ended the node, or an armed stop at a call of its device, it noted and sent
 -- nothing
-abbrev pub ComesTogether : {R : Type 0} → Behaviour R → Scene R → Scene R → R → Seat R → List (Option (List ℕ)) → Type 0
+abbrev pub ComesTogether : {R : Type 0} → Behaviour R → Scene R → Scene R → R → Seat R → List Input → Type 0
 ComesTogether b old new r t given =
     GoesOnTogether b old new r t given ⊎ StopsTogether b old new r t given
     ⊎ EndsByFault (BreaksTogether b r given) old new t []
 
 -- the node of this number took these together
 pub record IsGivenTogether {R : Type 0} (b : Behaviour R) (old new : Scene R) (n : ℕ)
-    (given : List (Option (List ℕ))) : Type 0 where
+    (given : List Input) : Type 0 where
   pub seat : Seat R
   pub number : seat.number ≡ n
   pub replica : R
@@ -196,7 +198,7 @@ pub record IsGivenTogether {R : Type 0} (b : Behaviour R) (old new : Scene R) (n
 pub record IsInjected {R : Type 0} (b : Behaviour R) (old new : Scene R) (n : ℕ) (bytes : List ℕ) : Type 0 where
   pub request : Option RequestValue
   pub asks : IsRequestIn bytes request
-  pub given : IsGiven b old new n (Some bytes) (asked_note request)
+  pub given : IsGiven b old new n (Heard bytes) (asked_note request)
 
 -- the client's datagram was added, addressed to the node, and noted as asked
 pub record IsAsked {R : Type 0} (old new : Scene R) (n : ℕ) (r : RequestValue) : Type 0 where
@@ -296,7 +298,8 @@ pub record HasTrap {R : Type 0} (b : Behaviour R) (old new : Scene R) (n : ℕ) 
 abbrev pub HasEffect : {R : Type 0} → Behaviour R → Scene R → Event → Scene R → Type 0
 HasEffect b old (event.Start n) new = IsAdded b old new n
 HasEffect b old (event.Restart n) new = IsBack b old new n
-HasEffect b old (event.Tick n) new = IsGiven b old new n None []
+HasEffect b old (event.Tick n) new = IsGiven b old new n Tick []
+HasEffect b old (event.Nudge n) new = IsGiven b old new n Nudge []
 HasEffect b old (event.Compact n) new = IsCompacted b old new n
 HasEffect b old (event.Client n r) new = IsAsked old new n r
 HasEffect b old (event.Deliver k) new = IsDelivered b old new k
@@ -319,9 +322,9 @@ NeedsMemory (Ok told) left = told.0 ≡ [] → told.1 ≡ [] → ⊥
 NeedsMemory (Err number) left = IsOutOfMemory number left
 
 -- such a call of the replica left this device
-abbrev pub LeftBy : {R : Type 0} → Behaviour R → Option (List ℕ) → Life R → Memory → Type 0
-LeftBy {R = R} b o life left =
-    (r q : R) × (came : Result (List Note × List Datagram) ℕ) × (life ≡ Up r) × b.Takes r o q came
+abbrev pub LeftBy : {R : Type 0} → Behaviour R → Input → Life R → Memory → Type 0
+LeftBy {R = R} b x life left =
+    (r q : R) × (came : Result (List Note × List Datagram) ℕ) × (life ≡ Up r) × b.Takes r x q came
     × (left ≡ b.memory q) × NeedsMemory came left
 
 -- what a group came to takes memory: it was refused when out of memory, or there is what a step noted or sent
@@ -330,7 +333,7 @@ GroupNeedsMemory (Ok said) left = said ≡ [] → ⊥
 GroupNeedsMemory (Err number) left = IsOutOfMemory number left
 
 -- such a call for a group left this device
-abbrev pub LeftByGroup : {R : Type 0} → Behaviour R → List (Option (List ℕ)) → Life R → Memory → Type 0
+abbrev pub LeftByGroup : {R : Type 0} → Behaviour R → List Input → Life R → Memory → Type 0
 LeftByGroup {R = R} b given life left =
     (r q : R) × (came : Result (List Said) ℕ) × (life ≡ Up r) × b.TakesAll r given q came × (left ≡ b.memory q)
     × GroupNeedsMemory came left
@@ -374,7 +377,7 @@ pub record IsHalted {R : Type 0} (Left : Life R → Memory → Type 0) (old new 
 -- request in them; or the node has stopped in a call that takes memory
 abbrev pub WantsInjection : {R : Type 0} → Behaviour R → Scene R → ℕ → List ℕ → Scene R → Type 0
 WantsInjection b old n bytes new =
-    ((new ≡ old) × ((r : RequestValue) × IsRequestIn bytes (Some r))) ⊎ IsHalted (LeftBy b (Some bytes)) old new n
+    ((new ≡ old) × ((r : RequestValue) × IsRequestIn bytes (Some r))) ⊎ IsHalted (LeftBy b (Heard bytes)) old new n
 
 -- what running out of memory leaves of a group: nothing has changed, as there was no room for the inputs of a group
 -- that is not empty; or the node has stopped in a call that takes memory
@@ -390,12 +393,13 @@ WantsGroup b old n group_inputs new =
 abbrev pub Wants : {R : Type 0} → Behaviour R → Scene R → Event → Scene R → Type 0
 Wants b old (event.Start n) new = new ≡ old
 Wants b old (event.Restart n) new = IsHalted (LeftByRevival b (header_of old.genesis n)) old new n
-Wants b old (event.Tick n) new = IsHalted (LeftBy b None) old new n
+Wants b old (event.Tick n) new = IsHalted (LeftBy b Tick) old new n
+Wants b old (event.Nudge n) new = IsHalted (LeftBy b Nudge) old new n
 Wants b old (event.Compact n) new = IsHalted (LeftByCompacting b) old new n
 Wants b old (event.Client n r) new = new ≡ old
 Wants b old (event.Deliver k) new =
     (new ≡ old) ⊎ ((n : ℕ) × (d : Datagram) × (datagram_at old.sent k ≡ Some d) × (d.to ≡ party.Node n)
-    × IsHalted (LeftBy b (Some d.bytes)) old new n)
+    × IsHalted (LeftBy b (Heard d.bytes)) old new n)
 Wants b old (event.Group n group_inputs) new = WantsGroup b old n group_inputs.items new
 Wants b old (event.Inject n bytes) new = WantsInjection b old n bytes.items new
 Wants b old (event.Stop n x y) new = ⊥

@@ -2,7 +2,7 @@
 use Rattle.std.specs.Prelude.{◌≡◌, ℕ, ◌++◌, List, [], ◌∷◌, Option, Some, None, Contains, Vec}
 use Rattle.std.specs.Global.{Global}
 use Rattle.lk_node_interface.specs.declared.input.Input.{Input}
-use Rattle.lk_node_interface.specs.declared.input.Input.TheVariants.{Tick, Datagram as Heard}
+use Rattle.lk_node_interface.specs.declared.input.Input.TheVariants.{Tick, Nudge, Datagram as Heard}
 use Rattle.lk_node_interface.specs.declared.note.Note.{Note}
 use Rattle.lk_node.specs.Histories.{Datagram}
 use Rattle.lk_replica.specs.Together.{Said}
@@ -13,26 +13,28 @@ use Rattle.lk_sim.specs.declared.event.GroupInput.TheVariants as group_input
 
 -- ---- what a node takes
 
-abbrev pub bytes_of : Option Datagram → Option (List ℕ)
-bytes_of None = None
-bytes_of (Some d) = Some d.bytes
+-- the datagram's bytes, or a tick where there is none
+abbrev pub bringing : Option Datagram → Input
+bringing None = Tick
+bringing (Some d) = Heard d.bytes
 
--- what an input of a group gives: the datagram's bytes, none at a tick
-abbrev pub given_by : List Datagram → GroupInput → Option (List ℕ)
-given_by sent group_input.Tick = None
-given_by sent (group_input.Deliver k) = bytes_of (datagram_at sent k)
+-- what an input of a group gives: a tick, or the datagram's bytes
+abbrev pub given_by : List Datagram → GroupInput → Input
+given_by sent group_input.Tick = Tick
+given_by sent (group_input.Deliver k) = bringing (datagram_at sent k)
 
--- bytes, as they are copied
-abbrev pub copied : Option (Vec ℕ Global) → Option (List ℕ)
-copied None = None
-copied (Some bytes) = Some bytes.items
+-- these bytes, as they are copied, or a tick where there are none
+abbrev pub copied : Option (Vec ℕ Global) → Input
+copied None = Tick
+copied (Some bytes) = Heard bytes.items
 
--- a tick, or a datagram that was sent
+-- a tick, a nudge, or a datagram that was sent
 abbrev pub WasSentTo : List Datagram → Input → Type 0
 WasSentTo sent Tick = Unit {0}
+WasSentTo sent Nudge = Unit {0}
 WasSentTo sent (Heard bytes) = (d : Datagram) × Contains sent d × (bytes ≡ d.bytes)
 
--- each of these inputs is a tick, or a datagram that was sent
+-- each of these inputs is a tick, a nudge, or a datagram that was sent
 abbrev pub WereSentTo : List Datagram → List Input → Type 0
 WereSentTo sent [] = Unit {0}
 WereSentTo sent (i ∷ is) = WasSentTo sent i × WereSentTo sent is

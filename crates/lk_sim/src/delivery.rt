@@ -1,4 +1,4 @@
-// Events that give one input to a node: a tick, a datagram that was sent, or bytes that no node has sent.
+// Events that give one input to a node: a tick, a nudge, a datagram that was sent, or bytes that no node has sent.
 ghost use Rattle.std.specs.Prelude.{◌≡◌, ◌⊎◌, Some, IfOk, IfErr, OnOk, OnErr};
 ghost use Rattle.lk_agreement_laws.specs.Datagrams.{Datagram as DatagramValue};
 ghost use Rattle.lk_agreement_laws.specs.declared.party.Party.TheVariants as party;
@@ -46,6 +46,19 @@ pub fn tick<R: MemoryReplica>(parts: &mut WorldParts<R>, number: NodeNo) -> Resu
 {
     let i = find_ready(parts, number)?;
     give(parts, i, Input::Tick, None)?;
+    Ok(())
+}
+
+/// Nudges a node that is up.
+pub fn nudge<R: MemoryReplica>(parts: &mut WorldParts<R>, number: NodeNo) -> Result<(), Refused>
+    requires { PartsKeepInvariant R.Shows (disks_by R.behaves) R.meaning parts.old }
+    ensures holds { PartsKeepInvariant R.Shows (disks_by R.behaves) R.meaning parts.new }
+    ensures ok { OnOk result (IsExecuted R.behaves (scene_of parts.old) (event.Nudge number) (scene_of parts.new)) }
+    ensures err { IfErr result
+        (λ e. IsRefused R.behaves (scene_of parts.old) (event.Nudge number) e (scene_of parts.new)) }
+{
+    let i = find_ready(parts, number)?;
+    give(parts, i, Input::Nudge, None)?;
     Ok(())
 }
 

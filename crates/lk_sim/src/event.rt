@@ -18,6 +18,8 @@ pub enum Event {
     Restart(NodeNo),
     /// A node takes a tick.
     Tick(NodeNo),
+    /// A node is nudged: it asks the others for what they know better, or tells them how far it has come.
+    Nudge(NodeNo),
     /// A node that is up writes a snapshot of everything executed, which replaces the commands up to there.
     Compact(NodeNo),
     /// A client sends a request: its datagram is added to the list, addressed to the node.

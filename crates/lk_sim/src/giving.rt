@@ -1,7 +1,7 @@
 // Gives an input to a node or restarts it, and appends what it notes and sends to the world.
 ghost use Rattle.std.specs.Prelude.{◌≡◌, ℕ, ◌<◌, ◌++◌, List, [], true, false, length, set, IfOk, OnOk, OnErr};
 ghost use Rattle.lk_node_interface.specs.declared.note.Note.{Note as NoteValue};
-ghost use Rattle.lk_node.specs.Calls.{heard_by, InputFits};
+ghost use Rattle.lk_node.specs.Calls.{InputFits};
 ghost use Rattle.lk_node.specs.Leavings.{header_of};
 ghost use Rattle.lk_replica.specs.Behaviours.{disks_by};
 ghost use Rattle.lk_sim.specs.Events.{IsGiven, IsHalted, IsBack, LeftBy, LeftByRevival};
@@ -153,9 +153,9 @@ pub fn give<R: MemoryReplica>(
     ensures holds { PartsKeepInvariant R.Shows (disks_by R.behaves) R.meaning parts.new }
     ensures given { (n : ℕ) → IsUpAt parts.old.seats.items i n
         → OnOk result (IsGiven R.behaves (scene_of parts.old) (scene_of parts.new) n
-        (heard_by input.entry) (asked_note asked)) }
+        input.entry (asked_note asked)) }
     ensures halted { (n : ℕ) → IsUpAt parts.old.seats.items i n
-        → OnErr result (IsHalted (LeftBy R.behaves (heard_by input.entry)) (scene_of parts.old)
+        → OnErr result (IsHalted (LeftBy R.behaves input.entry) (scene_of parts.old)
         (scene_of parts.new) n) }
 {
     let outcome = step(parts.alloc, &mut parts.seats[i], input)?;

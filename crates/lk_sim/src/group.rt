@@ -1,6 +1,5 @@
 // Executes a group: one node takes several inputs together, syncs once for all of them, and only then sends.
 ghost use Rattle.std.specs.Prelude.{◌≡◌, ◌↔◌, ℕ, ◌<◌, [], true, false, length, map, IsTrue, IfOk, IfErr, OnOk, OnErr};
-ghost use Rattle.lk_node.specs.Calls.{heard_by};
 ghost use Rattle.lk_replica.specs.Behaviours.{disks_by};
 ghost use Rattle.lk_replica.specs.Together.{parts_of};
 ghost use Rattle.lk_sim_nodes.specs.Seats.{IsUpAt};
@@ -116,9 +115,9 @@ fn give_all<R: MemoryReplica>(
     ensures holds { PartsKeepInvariant R.Shows (disks_by R.behaves) R.meaning parts.new }
     ensures given { (n : ℕ) → IsUpAt parts.old.seats.items i n
         → OnOk result (IsGivenTogether R.behaves (scene_of parts.old) (scene_of parts.new) n
-        (map heard_by inputs.entry.items)) }
+        inputs.entry.items) }
     ensures halted { (n : ℕ) → IsUpAt parts.old.seats.items i n
-        → OnErr result (IsHalted (LeftByGroup R.behaves (map heard_by inputs.entry.items)) (scene_of parts.old)
+        → OnErr result (IsHalted (LeftByGroup R.behaves inputs.entry.items) (scene_of parts.old)
         (scene_of parts.new) n) }
 {
     let outcome = step_all(parts.alloc, &mut parts.seats[i], inputs)?;
@@ -181,7 +180,7 @@ fn bytes_for_all<R: MemoryReplica>(
 
 // Returns the node's inputs, one for each entry: a tick for `None`, or else these bytes as a datagram.
 fn inputs_of<'a>(alloc: Global, all: &'a [Option<Vec<u8>>]) -> Result<Vec<Input<'a>>, NoMemory>
-    ensures ok { IfOk result (λ l. map heard_by l.items ≡ map copied all.now) }
+    ensures ok { IfOk result (λ l. l.items ≡ map copied all.now) }
     ensures memory { OnErr result (0 < length all.now) }
 {
     let mut inputs = Vec::new(alloc);

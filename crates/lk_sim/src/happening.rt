@@ -7,7 +7,7 @@ ghost use Rattle.lk_sim.specs.Worlds.{PartsKeepInvariant, scene_of};
 
 use crate::client::client;
 use crate::compacting::compact;
-use crate::delivery::{deliver, inject, tick};
+use crate::delivery::{deliver, inject, nudge, tick};
 use crate::end::RunEnd;
 use crate::event::Event;
 use crate::group::group;
@@ -27,6 +27,7 @@ pub fn happen<R: MemoryReplica>(parts: &mut WorldParts<R>, event: &Event) -> Res
         Event::Start(number) => start(parts, *number),
         Event::Restart(number) => restart(parts, *number),
         Event::Tick(number) => tick(parts, *number),
+        Event::Nudge(number) => nudge(parts, *number),
         Event::Compact(number) => compact(parts, *number),
         Event::Client(number, request) => client(parts, *number, request),
         Event::Deliver(k) => deliver(parts, *k),

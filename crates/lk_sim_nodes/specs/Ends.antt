@@ -3,6 +3,7 @@ use Rattle.std.specs.Prelude.{◌≡◌, ℕ, ◌⊎◌, false, true, List, Opti
 use Rattle.lk_memory_disk.specs.Memory.{Memory}
 use Rattle.lk_store_format.specs.Values.{HeaderValue}
 use Rattle.lk_node_interface.specs.Faults.{RefusedAfter}
+use Rattle.lk_node_interface.specs.declared.input.Input.{Input}
 use Rattle.lk_replica.specs.Behaviours.{Behaviour}
 use Rattle.lk_sim_nodes.specs.declared.end.End.{End}
 use Rattle.lk_sim_nodes.specs.declared.end.End.TheVariants.{Fault, Stopped}
@@ -10,14 +11,14 @@ use Rattle.lk_sim_nodes.specs.declared.end.End.TheVariants.{Fault, Stopped}
 -- ---- a call that fails
 
 -- a call of the replica failed with the fault of this number, and left this device
-abbrev pub Breaks : {R : Type 0} → Behaviour R → R → Option (List ℕ) → ℕ → Memory → Type 0
-Breaks {R = R} b r o number left =
-    (q : R) × b.Takes r o q (Err number) × RefusedAfter number (b.memory r).meter left.meter × (left ≡ b.memory q)
+abbrev pub Breaks : {R : Type 0} → Behaviour R → R → Input → ℕ → Memory → Type 0
+Breaks {R = R} b r i number left =
+    (q : R) × b.Takes r i q (Err number) × RefusedAfter number (b.memory r).meter left.meter × (left ≡ b.memory q)
 
 -- a call of the replica for a group failed with the fault of this number, and left this device
-abbrev pub BreaksTogether : {R : Type 0} → Behaviour R → R → List (Option (List ℕ)) → ℕ → Memory → Type 0
-BreaksTogether {R = R} b r given number left =
-    (q : R) × b.TakesAll r given q (Err number)
+abbrev pub BreaksTogether : {R : Type 0} → Behaviour R → R → List Input → ℕ → Memory → Type 0
+BreaksTogether {R = R} b r inputs number left =
+    (q : R) × b.TakesAll r inputs q (Err number)
     × RefusedAfter number (b.memory r).meter left.meter × (left ≡ b.memory q)
 
 -- a restart failed with the fault of this number, and left this device

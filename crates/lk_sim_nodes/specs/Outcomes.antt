@@ -4,6 +4,7 @@ use Rattle.lk_memory_disk.specs.Memory.{Memory}
 use Rattle.lk_disk.specs.Meters.{CallsSucceed, stopping}
 use Rattle.lk_store_format.specs.Values.{HeaderValue}
 use Rattle.lk_log.specs.Causes.{rebase_calls}
+use Rattle.lk_node_interface.specs.declared.input.Input.{Input}
 use Rattle.lk_node_interface.specs.declared.note.Note.{Note}
 use Rattle.lk_node.specs.Histories.{Datagram}
 use Rattle.lk_replica.specs.Behaviours.{Behaviour}
@@ -48,12 +49,12 @@ abbrev pub StopsIfArmed : {R : Type 0} → Behaviour R → Option ℕ → Seat R
 StopsIfArmed b None s t = t ≡ s
 StopsIfArmed b (Some bytes) s t = t.life ≡ Down (stopped_on bytes bytes (device_in b s.life))
 
--- its replica took a tick or these bytes; it may have reached an armed stop at a send
-pub record HasTaken {R : Type 0} (b : Behaviour R) (r : R) (o : Option (List ℕ)) (s : Seat R) (mine : List Note)
+-- its replica took this input; it may have reached an armed stop at a send
+pub record HasTaken {R : Type 0} (b : Behaviour R) (r : R) (i : Input) (s : Seat R) (mine : List Note)
     (batch : List Datagram) (how : Option End) (stop : Option ℕ) : Type 0 where
   pub replica : R
   pub all : List Datagram
-  pub takes : b.Takes r o replica (Ok (mine, all))
+  pub takes : b.Takes r i replica (Ok (mine, all))
   pub calls : ℕ
   pub calls_succeed : CallsSucceed (b.memory r).meter (b.memory replica).meter calls
   pub after : R
@@ -62,11 +63,11 @@ pub record HasTaken {R : Type 0} (b : Behaviour R) (r : R) (o : Option (List ℕ
   pub ended : how ≡ end_at stop s.number
 
 -- its replica took these together, with these steps and datagrams; it may have reached an armed stop at a send
-pub record HasTakenTogether {R : Type 0} (b : Behaviour R) (r : R) (given : List (Option (List ℕ))) (s : Seat R)
+pub record HasTakenTogether {R : Type 0} (b : Behaviour R) (r : R) (inputs : List Input) (s : Seat R)
     (steps : List Step) (batch : List Datagram) (how : Option End) (stop : Option ℕ) : Type 0 where
   pub replica : R
   pub all : List Datagram
-  pub takes : b.TakesAll r given replica (Ok (parts_of steps all))
+  pub takes : b.TakesAll r inputs replica (Ok (parts_of steps all))
   pub whole : all ≡ sent_of (parts_of steps all)
   pub calls : ℕ
   pub calls_succeed : CallsSucceed (b.memory r).meter (b.memory replica).meter calls

@@ -2,7 +2,7 @@
 ghost use Rattle.std.specs.Prelude.{◌≡◌, ◌⊎◌, IfOk, OnErr};
 ghost use Rattle.lk_memory_disk.specs.Memory.{Memory};
 ghost use Rattle.lk_agreement_laws.specs.Nodes.{PaxosState};
-ghost use Rattle.lk_node.specs.Calls.{heard_by, InputFits};
+ghost use Rattle.lk_node.specs.Calls.{InputFits};
 ghost use Rattle.lk_node.specs.Histories.{History, IsLawful};
 ghost use Rattle.lk_node.specs.Leavings.{header_of};
 ghost use Rattle.lk_replica.specs.Behaviours.{disks_by};
@@ -38,12 +38,12 @@ pub fn step<R: MemoryReplica>(
         → (d : Memory) → seat.new.life ≡ Down d → SeatFits R.Shows (disks_by R.behaves) R.meaning h w seat.new }
     ensures exact { (r : R) → seat.old.life ≡ Up r
         → IfOk result (λ o. HasTaken R.behaves r
-        (heard_by input.entry) seat.new o.notes.items o.sent.items o.ended o.stop
+        input.entry seat.new o.notes.items o.sent.items o.ended o.stop
         ⊎ HasEndedByFault (Breaks R.behaves r
-        (heard_by input.entry)) seat.new o.notes.items o.sent.items o.ended o.stop) }
+        input.entry) seat.new o.notes.items o.sent.items o.ended o.stop) }
     ensures told { IfOk result (λ o. IsEndByCalls o.ended) }
     ensures wants { (r : R) → seat.old.life ≡ Up r
-        → OnErr result (HasStoppedOutOfMemory (Breaks R.behaves r (heard_by input.entry)) seat.new) }
+        → OnErr result (HasStoppedOutOfMemory (Breaks R.behaves r input.entry) seat.new) }
 {
     let node = seat.number;
     let Life::Up(replica) = &mut seat.life else {

@@ -1,9 +1,9 @@
 // Gives several inputs to a node as one group: it syncs once for all of them.
-ghost use Rattle.std.specs.Prelude.{◌≡◌, ◌⊎◌, [], map, IfOk, OnErr};
+ghost use Rattle.std.specs.Prelude.{◌≡◌, ◌⊎◌, [], IfOk, OnErr};
 ghost use Rattle.std.specs.List.{AllByRecursion};
 ghost use Rattle.lk_memory_disk.specs.Memory.{disk_of};
 ghost use Rattle.lk_agreement_laws.specs.Nodes.{PaxosState};
-ghost use Rattle.lk_node.specs.Calls.{heard_by, InputFits};
+ghost use Rattle.lk_node.specs.Calls.{InputFits};
 ghost use Rattle.lk_node.specs.Histories.{History, Genesis as GenesisValue, IsLawful};
 ghost use Rattle.lk_node.specs.Holdings.{Holding};
 ghost use Rattle.lk_node.specs.Leavings.{DisksFit};
@@ -69,12 +69,12 @@ pub fn step_all<R: MemoryReplica>(
         × AreShort (disk_of (device_in R.behaves seat.new.life)) }
     ensures exact { (r : R) → seat.old.life ≡ Up r
         → IfOk result (λ o. HasTakenTogether R.behaves r
-        (map heard_by inputs.entry.items) seat.new o.steps.items o.sent.items o.ended o.stop
-        ⊎ HasFallenTogether (BreaksTogether R.behaves r (map heard_by inputs.entry.items)) seat.new o.steps.items
+        inputs.entry.items seat.new o.steps.items o.sent.items o.ended o.stop
+        ⊎ HasFallenTogether (BreaksTogether R.behaves r inputs.entry.items) seat.new o.steps.items
         o.sent.items o.ended o.stop) }
     ensures told { IfOk result (λ o. IsEndByCalls o.ended) }
     ensures wants { (r : R) → seat.old.life ≡ Up r
-        → OnErr result (HasStoppedOutOfMemory (BreaksTogether R.behaves r (map heard_by inputs.entry.items)) seat.new) }
+        → OnErr result (HasStoppedOutOfMemory (BreaksTogether R.behaves r inputs.entry.items) seat.new) }
 {
     let node = seat.number;
     let Life::Up(replica) = &mut seat.life else {

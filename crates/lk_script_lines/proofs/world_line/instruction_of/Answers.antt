@@ -18,6 +18,11 @@ returns-in-Tick-clause-not_understood c =
     λ bad o asks. c.read_tick.ensures.none (c.understood-in-Tick.ensures.not_understood bad) o
     (subst (λ (v : EventVerb). SpellsAfterVerb v c.args.words.now o) c.in-Tick.is asks)
 
+pub returns-in-Nudge-clause-not_understood : goal.returns-in-Nudge-clause-not_understood
+returns-in-Nudge-clause-not_understood c =
+    λ bad o asks. c.read_nudge.ensures.none (c.understood-in-Nudge.ensures.not_understood bad) o
+    (subst (λ (v : EventVerb). SpellsAfterVerb v c.args.words.now o) c.in-Nudge.is asks)
+
 pub returns-in-Compact-clause-not_understood : goal.returns-in-Compact-clause-not_understood
 returns-in-Compact-clause-not_understood c =
     λ bad o asks. c.read_compact.ensures.none (c.understood-in-Compact.ensures.not_understood bad) o

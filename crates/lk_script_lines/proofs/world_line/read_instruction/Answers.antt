@@ -4,7 +4,7 @@ use Rattle.lk_word_parsers.proofs.Splits.{one_way}
 use Rattle.lk_script_lines.specs.WorldLines.{word_of}
 use Rattle.lk_script_lines.specs.declared.event_verb.EventVerb.{EventVerb}
 use Rattle.lk_script_lines.specs.declared.event_verb.EventVerb.TheVariants.{Start, Restart, Tick, Compact, Deliver}
-use Rattle.lk_script_lines.specs.declared.event_verb.EventVerb.TheVariants.{Group}
+use Rattle.lk_script_lines.specs.declared.event_verb.EventVerb.TheVariants.{Nudge, Group}
 use Rattle.lk_script_lines.specs.declared.event_verb.EventVerb.TheVariants.{Client, Inject, Stop, Fail, Arm}
 use Rattle.lk_script_lines.proofs.world_line.read_instruction.Goals as goal
 
@@ -12,6 +12,7 @@ one_verb : (v : EventVerb) → HasNoSpace (word_of v)
 one_verb Start = refl
 one_verb Restart = refl
 one_verb Tick = refl
+one_verb Nudge = refl
 one_verb Compact = refl
 one_verb Deliver = refl
 one_verb Group = refl

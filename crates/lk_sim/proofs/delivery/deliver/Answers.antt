@@ -1,6 +1,7 @@
 use Rattle.std.proofs.Common.{rules, ◌≡◌, ◌∙◌, Some, [], refl, inr, ap, subst}
 use Rattle.lk_agreement_laws.specs.Datagrams.{Datagram}
 use Rattle.lk_agreement_laws.specs.declared.party.Party.TheVariants as party
+use Rattle.lk_node_interface.specs.declared.input.Input.TheVariants.{Datagram as Heard}
 use Rattle.lk_sim.specs.Events.{IsGiven, IsHalted, IsRefused, LeftBy}
 use Rattle.lk_sim.specs.Refusals.{HasRoom, datagram_at}
 use Rattle.lk_sim_nodes.specs.Seats.{IsUpAt}
@@ -28,7 +29,7 @@ returns-in_err-give-clause-err g c =
     let same : c.deref.result.now ≡ c.in_ok-bytes.bytes.items = search rules in
     let bytes : c.of.result ≡ d.0.bytes = c.of.ensures ∙ same ∙ b.2
     ∙ ap (λ (z : Datagram). z.bytes) (one_datagram p.sent.items c.args.k b.0 d.0 b.1 d.1) in
-    let halted = subst (λ l. IsHalted (LeftBy g.R.MemoryReplica.behaves (Some l)) (scene_of p)
+    let halted = subst (λ l. IsHalted (LeftBy g.R.MemoryReplica.behaves (Heard l)) (scene_of p)
     (scene_of c.give.new.parts) n) bytes (c.in_err-give.ensures.halted n u.0) in
     let k : IsRefused g.R.MemoryReplica.behaves (scene_of p) (event.Deliver c.args.k) WorldMemory
     (scene_of c.give.new.parts) =
@@ -55,7 +56,7 @@ returns-clause-ok g c =
         stands = d.1;
         node = n;
         bound = d.2;
-        given = subst (λ l. IsGiven g.R.MemoryReplica.behaves (scene_of p) (scene_of c.give.new.parts) n (Some l) [])
+        given = subst (λ l. IsGiven g.R.MemoryReplica.behaves (scene_of p) (scene_of c.give.new.parts) n (Heard l) [])
             bytes (c.in_ok-give.ensures.given n u.0);
       },
     )

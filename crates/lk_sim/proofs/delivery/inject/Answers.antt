@@ -1,5 +1,6 @@
-use Rattle.std.proofs.Common.{◌≡◌, ℕ, rules, List, Some, refl, inl, inr, ap, subst}
+use Rattle.std.proofs.Common.{◌≡◌, ℕ, rules, List, refl, inl, inr, ap, subst}
 use Rattle.lk_sim.specs.Events.{IsGiven, IsHalted, IsNotInjected, LeftBy}
+use Rattle.lk_node_interface.specs.declared.input.Input.TheVariants.{Datagram as Heard}
 use Rattle.lk_node_interface.specs.declared.note.Note.{Note}
 use Rattle.lk_sim.specs.Heard.{IsRequestIn}
 use Rattle.lk_sim.specs.Refusals.{HasRoom}
@@ -54,10 +55,10 @@ returns-in_err-give-clause-err g c =
     let new : Scene g.row.R.Denot = scene_of c.give.new.parts in
     let a : IsRequestIn l c.in_ok-asked.asked =
     subst (λ (b : List ℕ). IsRequestIn b c.in_ok-asked.asked) c.of-viewed.ensures c.in_ok-asked.ensures.ok in
-    let of_it = subst (λ (b : List ℕ). IsHalted (LeftBy g.R.MemoryReplica.behaves (Some b))
+    let of_it = subst (λ (b : List ℕ). IsHalted (LeftBy g.R.MemoryReplica.behaves (Heard b))
     (record (scene_of p) { trace = c.reserve_notes.new.trace.items }) new n) c.of-viewed.ensures
     (c.in_err-give.ensures.halted n u) in
-    let halted = subst (λ (t : List Note). IsHalted (LeftBy g.R.MemoryReplica.behaves (Some l))
+    let halted = subst (λ (t : List Note). IsHalted (LeftBy g.R.MemoryReplica.behaves (Heard l))
     (record (scene_of p) { trace = t }) new n) c.reserve_notes.ensures.same of_it in
     err_as _ WorldMemory (λ e. IsNotInjected g.R.MemoryReplica.behaves (scene_of p) n l e new)
     c.from_residual-in_err-give.ensures.1
@@ -71,14 +72,14 @@ returns-clause-ok g c =
     let a : IsRequestIn c.args.bytes.now c.in_ok-asked.asked =
     subst (λ (b : List ℕ). IsRequestIn b c.in_ok-asked.asked) c.of-viewed.ensures c.in_ok-asked.ensures.ok in
     let of_it = subst (λ (b : List ℕ). IsGiven g.R.MemoryReplica.behaves
-    (record (scene_of p) { trace = c.reserve_notes.new.trace.items }) (scene_of c.give.new.parts) c.args.number (Some b)
-    (asked_note c.in_ok-asked.asked)) c.of-viewed.ensures (c.in_ok-give.ensures.given c.args.number u) in (
+    (record (scene_of p) { trace = c.reserve_notes.new.trace.items }) (scene_of c.give.new.parts) c.args.number
+    (Heard b) (asked_note c.in_ok-asked.asked)) c.of-viewed.ensures (c.in_ok-give.ensures.given c.args.number u) in (
       (((u.1, (c.in_ok-i.i, u.0, u.2, u.3, u.4)), room), asked_unforged c.args.bytes.now c.in_ok-asked.asked a),
       record {
         request = c.in_ok-asked.asked;
         asks = a;
         given = subst (λ (l : List Note). IsGiven g.R.MemoryReplica.behaves (record (scene_of p) { trace = l })
-            (scene_of c.give.new.parts) c.args.number (Some c.args.bytes.now) (asked_note c.in_ok-asked.asked))
+            (scene_of c.give.new.parts) c.args.number (Heard c.args.bytes.now) (asked_note c.in_ok-asked.asked))
             c.reserve_notes.ensures.same of_it;
       },
     )

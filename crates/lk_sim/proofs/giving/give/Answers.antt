@@ -1,5 +1,4 @@
 use Rattle.std.proofs.Common.{◌≡◌, rules, sym, Err}
-use Rattle.lk_node.specs.Calls.{heard_by}
 use Rattle.lk_sim_nodes.specs.Ends.{Breaks}
 use Rattle.lk_sim.specs.Events.{LeftBy}
 use Rattle.lk_sim_nodes.specs.Seats.{At}
@@ -31,8 +30,8 @@ returns-in_err-outcome-clause-halted g c n u =
     let at : At p.seats.items c.args.i s = (search rules, sym c.index_mut.ensures.value) in
     let up : s.life ≡ Up u.1 = rw (at_same _ _ _ _ at u.2) u.4 in
     let k = c.in_err-outcome.ensures.wants u.1 up in
-    let h = wanted (scene_of p) (LeftBy g.R.MemoryReplica.behaves (heard_by c.args.input))
-    (Breaks g.R.MemoryReplica.behaves u.1 (heard_by c.args.input)) c.args.i n s c.step.new.seat at
+    let h = wanted (scene_of p) (LeftBy g.R.MemoryReplica.behaves c.args.input)
+    (Breaks g.R.MemoryReplica.behaves u.1 c.args.input) c.args.i n s c.step.new.seat at
     (rw (at_same _ _ _ _ at u.2) u.3) c.step.ensures.number k
     (u.1, k.ends.0, Err k.number, up, k.ends.1, k.ends.3, k.want) in
     search rules
@@ -60,7 +59,7 @@ returns-in_err-finish_call-clause-halted g c n u =
     let at : At p.seats.items c.args.i s = (search rules, sym c.index_mut.ensures.value) in
     let up : s.life ≡ Up u.1 = rw (at_same _ _ _ _ at u.2) u.4 in
     let k = given_up g.R.MemoryReplica.behaves (scene_of p) (scene_of c.finish_call.new.parts)
-    (LeftBy g.R.MemoryReplica.behaves (heard_by c.args.input)) _ _ c.args.i n s c.step.new.seat at
+    (LeftBy g.R.MemoryReplica.behaves c.args.input) _ _ c.args.i n s c.step.new.seat at
     (rw (at_same _ _ _ _ at u.2) u.3) c.step.ensures.number
     (taken_left g.R.MemoryReplica.behaves g.met.R.MemoryReplica.traps_alone u.1
     _ _ _ _ _ _ _ c.in_err-finish_call.ensures.wants up (c.in_ok-outcome.ensures.exact u.1 up))

@@ -1,6 +1,5 @@
-use Rattle.std.proofs.Common.{◌≡◌, rules, sym, subst, Err, None, [], map}
+use Rattle.std.proofs.Common.{◌≡◌, rules, sym, subst, Err, None, []}
 use Rattle.lk_memory_disk.specs.Memory.{disk_of}
-use Rattle.lk_node.specs.Calls.{heard_by}
 use Rattle.lk_node.specs.Leavings.{DisksFit}
 use Rattle.lk_sim_nodes.specs.Ends.{BreaksTogether}
 use Rattle.lk_sim.specs.Events.{LeftByGroup}
@@ -39,7 +38,7 @@ returns-in_err-outcome-clause-halted g c n u =
     let s = c.index_mut.result.now in
     let at : At p.seats.items c.args.i s = (search rules, sym c.index_mut.ensures.value) in
     let up : s.life ≡ Up u.1 = rw (at_same _ _ _ _ at u.2) u.4 in
-    let given = map heard_by c.args.inputs.items in
+    let given = c.args.inputs.items in
     let k = c.in_err-outcome.ensures.wants u.1 up in
     let h = wanted (scene_of p) (LeftByGroup g.R.MemoryReplica.behaves given)
     (BreaksTogether g.R.MemoryReplica.behaves u.1 given) c.args.i n s c.step_all.new.seat at
@@ -67,7 +66,7 @@ returns-in_err-finish_group-clause-halted g c n u =
     let up : s.life ≡ Up u.1 = rw (at_same _ _ _ _ at u.2) u.4 in
     let b = g.R.MemoryReplica.behaves in
     let k = given_up b (scene_of p) (scene_of c.finish_group.new.parts)
-    (LeftByGroup b (map heard_by c.args.inputs.items)) _ _ c.args.i n s c.step_all.new.seat at
+    (LeftByGroup b c.args.inputs.items) _ _ c.args.i n s c.step_all.new.seat at
     (rw (at_same _ _ _ _ at u.2) u.3) c.step_all.ensures.number
     (group_left b g.met.R.MemoryReplica.traps_alone u.1 _ _ _ _ _ _ _ c.in_err-finish_group.ensures.wants up
     (c.in_ok-outcome.ensures.exact u.1 up)) c.in_err-finish_group.ensures.err in

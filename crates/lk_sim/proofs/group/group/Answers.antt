@@ -1,5 +1,5 @@
-use Rattle.std.proofs.Common.{rules, ◌≡◌, ◌∙◌, List, Option, map, refl, inr, ap, subst}
-use Rattle.lk_node.specs.Calls.{heard_by}
+use Rattle.std.proofs.Common.{rules, ◌≡◌, ◌∙◌, List, map, refl, inr, ap, subst}
+use Rattle.lk_node_interface.specs.declared.input.Input.{Input}
 use Rattle.lk_node.specs.Histories.{Datagram}
 use Rattle.lk_sim.specs.Events.{IsGivenTogether, IsHalted, IsNotGrouped, LeftByGroup}
 use Rattle.lk_sim.specs.Groups.{copied, given_by}
@@ -23,8 +23,7 @@ give_all-requires-clause-heard g c =
     let group_inputs = c.args.group_inputs.now in
     let for_it = subst (λ (l : List Datagram). AreFor l n group_inputs) c.deref-2.ensures.value
     (c.are_for.ensures.0 (cc c.if-not-are_for.false)) in
-    let same : map heard_by c.in_ok-inputs.inputs.items ≡ map
-    (given_by p.sent.items) group_inputs = c.in_ok-inputs.ensures.ok
+    let same : c.in_ok-inputs.inputs.items ≡ map (given_by p.sent.items) group_inputs = c.in_ok-inputs.ensures.ok
     ∙ ap (map copied) c.deref-4.ensures.value ∙ c.in_ok-bytes.ensures.ok in
     were_brought p.sent.items n group_inputs c.in_ok-inputs.inputs.items for_it same
 
@@ -39,10 +38,9 @@ returns-in_err-give_all-clause-err g c =
     (c.are_for.ensures.0 (cc c.if-not-are_for.false)) in
     let room = subst (λ (l : List Datagram). HasRoom l) c.deref-3.ensures.value
     (c.has_room.ensures.0 (cc c.if-not-has_room.false)) in
-    let same : map heard_by c.in_ok-inputs.inputs.items ≡ map
-    (given_by p.sent.items) group_inputs = c.in_ok-inputs.ensures.ok
+    let same : c.in_ok-inputs.inputs.items ≡ map (given_by p.sent.items) group_inputs = c.in_ok-inputs.ensures.ok
     ∙ ap (map copied) c.deref-4.ensures.value ∙ c.in_ok-bytes.ensures.ok in
-    let halted = subst (λ (l : List (Option (List _))). IsHalted (LeftByGroup b l) (scene_of p)
+    let halted = subst (λ (l : List Input). IsHalted (LeftByGroup b l) (scene_of p)
     (scene_of c.give_all.new.parts) n) same (c.in_err-give_all.ensures.halted n u) in
     err_as _ WorldMemory (λ e. IsNotGrouped b (scene_of p) n group_inputs e (scene_of c.give_all.new.parts))
     c.from_residual-in_err-give_all.ensures.1
@@ -59,10 +57,9 @@ returns-clause-ok g c =
     (c.are_for.ensures.0 (cc c.if-not-are_for.false)) in
     let room = subst (λ (l : List Datagram). HasRoom l) c.deref-3.ensures.value
     (c.has_room.ensures.0 (cc c.if-not-has_room.false)) in
-    let same : map heard_by c.in_ok-inputs.inputs.items ≡ map
-    (given_by p.sent.items) group_inputs = c.in_ok-inputs.ensures.ok
+    let same : c.in_ok-inputs.inputs.items ≡ map (given_by p.sent.items) group_inputs = c.in_ok-inputs.ensures.ok
     ∙ ap (map copied) c.deref-4.ensures.value ∙ c.in_ok-bytes.ensures.ok in (
       (((u.1, (c.in_ok-i.i, u.0, u.2, u.3, u.4)), room), for_it),
-      subst (λ (l : List (Option (List _))). IsGivenTogether b (scene_of p) (scene_of c.give_all.new.parts) n l) same
+      subst (λ (l : List Input). IsGivenTogether b (scene_of p) (scene_of c.give_all.new.parts) n l) same
           (c.in_ok-give_all.ensures.given n u),
     )

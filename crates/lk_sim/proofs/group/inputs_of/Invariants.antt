@@ -1,7 +1,6 @@
 use Rattle.std.proofs.Common.{◌≡◌, map, take}
-use Rattle.lk_node.specs.Calls.{heard_by}
 use Rattle.lk_sim.specs.Groups.{copied}
 use Rattle.lk_sim.proofs.group.inputs_of.Given as goal
 
 abbrev pub invariant-all : goal.invariant-all
-invariant-all l = map heard_by l.inputs.items ≡ map copied (take l.bytes-index l.all)
+invariant-all l = l.inputs.items ≡ map copied (take l.bytes-index l.all)

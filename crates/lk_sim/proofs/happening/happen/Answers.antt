@@ -52,5 +52,8 @@ returns-in-Group-clause-err g c =
 pub returns-in-Tick-clause-ok : goal.returns-in-Tick-clause-ok
 returns-in-Tick-clause-ok g c = search rules
 
+pub returns-in-Nudge-clause-ok : goal.returns-in-Nudge-clause-ok
+returns-in-Nudge-clause-ok g c = search rules
+
 pub returns-in-Compact-clause-ok : goal.returns-in-Compact-clause-ok
 returns-in-Compact-clause-ok g c = search rules

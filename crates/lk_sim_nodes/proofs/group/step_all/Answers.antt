@@ -1,6 +1,5 @@
-use Rattle.std.proofs.Common.{rules, ◌≡◌, map, sym, subst}
+use Rattle.std.proofs.Common.{rules, ◌≡◌, sym, subst}
 use Rattle.lk_memory_disk.specs.Memory.{Memory, disk_of}
-use Rattle.lk_node.specs.Calls.{heard_by}
 use Rattle.lk_node.specs.Leavings.{DisksFit}
 use Rattle.lk_replica.specs.Behaviours.{disks_by}
 use Rattle.lk_replica.specs.Together.{EachLeavesFit, parts_of}
@@ -87,7 +86,7 @@ returns-in_ok-outcome-in-Err-clause-leaves g c h w lawful f heard =
 pub returns-in_err-outcome-in-Err-clause-wants : goal.returns-in_err-outcome-in-Err-clause-wants
 returns-in_err-outcome-in-Err-clause-wants g c r up =
     let b = g.R.MemoryReplica.behaves in
-    let given = map heard_by c.args.inputs.items in
+    let given = c.args.inputs.items in
     let is : c.args.seat.now.life ≡ Up c.in-Up.replica = search rules in
     let own : c.in-Up.replica ≡ r = cc (is, up) in
     let e = c.in_err-outcome-in-Err.ensures in

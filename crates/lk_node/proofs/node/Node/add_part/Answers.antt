@@ -35,6 +35,7 @@ returns g c =
       ticks = c.self.inside.ticks;
       rounds = c.self.inside.rounds;
       known = c.self.inside.known;
+      gathered_before = c.self.inside.gathered_before;
       halted = c.self.inside.halted;
     } in
     subst (λ (k : NodeValue). GathersPart g.M.Machine.IsText c.in_ok-went.went c.args.part.now k

@@ -17,6 +17,7 @@ returns-then-not-chosen g c =
       ticks = c.self.inside.ticks;
       rounds = c.self.inside.rounds;
       known = c.self.inside.known;
+      gathered_before = c.self.inside.gathered_before;
       halted = c.self.inside.halted;
     } in
     let same : c.roster-roster.result.now ≡ was.learner.whole.roster = c.roster-roster.ensures
@@ -39,6 +40,7 @@ returns g c =
       ticks = c.self.inside.ticks;
       rounds = c.self.inside.rounds;
       known = c.self.inside.known;
+      gathered_before = c.self.inside.gathered_before;
       halted = c.self.inside.halted;
     } in
     let same : c.roster-roster.result.now ≡ was.learner.whole.roster = c.roster-roster.ensures
@@ -64,6 +66,7 @@ invariant_of-self g c =
       ticks = c.self.inside.ticks;
       rounds = c.self.inside.rounds;
       known = c.self.inside.known;
+      gathered_before = c.self.inside.gathered_before;
       halted = c.self.inside.halted;
     } in
     let same : c.roster-roster.result.now ≡ was.learner.whole.roster = c.roster-roster.ensures
@@ -86,6 +89,7 @@ invariant_of-self-2 g c =
       ticks = c.self.inside.ticks;
       rounds = c.self.inside.rounds;
       known = c.self.inside.known;
+      gathered_before = c.self.inside.gathered_before;
       halted = c.self.inside.halted;
     } in
     let same : c.roster-roster.result.now ≡ was.learner.whole.roster = c.roster-roster.ensures

@@ -24,6 +24,7 @@ returns g c =
       ticks = c.self.inside.ticks;
       rounds = c.self.inside.rounds;
       known = c.self.inside.known;
+      gathered_before = c.self.inside.gathered_before;
       halted = c.self.inside.halted;
     } in
     subst (λ (k : NodeValue). Responds k c.args.from

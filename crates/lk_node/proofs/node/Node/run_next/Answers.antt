@@ -18,6 +18,7 @@ returns-in_default g c =
       ticks = c.self.inside.ticks;
       rounds = c.self.inside.rounds;
       known = c.self.inside.known;
+      gathered_before = c.self.inside.gathered_before;
       halted = c.self.inside.halted;
     } in
     subst (λ (k : NodeValue). RunsNext m k (with_learner was c.execute_next.new.self) None) c.self.view_is
@@ -35,6 +36,7 @@ returns-in_default-executed_at g c =
       ticks = c.self.inside.ticks;
       rounds = c.self.inside.rounds;
       known = c.self.inside.known;
+      gathered_before = c.self.inside.gathered_before;
       halted = c.self.inside.halted;
     } in
     absurd (c.in_default-executed_at.ensures.some
@@ -53,6 +55,7 @@ returns g c =
       ticks = c.self.inside.ticks;
       rounds = c.self.inside.rounds;
       known = c.self.inside.known;
+      gathered_before = c.self.inside.gathered_before;
       halted = c.self.inside.halted;
     } in
     subst (λ (k : NodeValue). RunsNext m k (with_learner was c.execute_next.new.self)
@@ -73,6 +76,7 @@ invariant_of-self-in_default g c =
       ticks = c.self.inside.ticks;
       rounds = c.self.inside.rounds;
       known = c.self.inside.known;
+      gathered_before = c.self.inside.gathered_before;
       halted = c.self.inside.halted;
     } in (
       c.self.invariant.0,
@@ -92,6 +96,7 @@ invariant_of-self-in_default-executed_at g c =
       ticks = c.self.inside.ticks;
       rounds = c.self.inside.rounds;
       known = c.self.inside.known;
+      gathered_before = c.self.inside.gathered_before;
       halted = c.self.inside.halted;
     } in
     absurd (c.in_default-executed_at.ensures.some
@@ -110,6 +115,7 @@ invariant_of-self-2 g c =
       ticks = c.self.inside.ticks;
       rounds = c.self.inside.rounds;
       known = c.self.inside.known;
+      gathered_before = c.self.inside.gathered_before;
       halted = c.self.inside.halted;
     } in (
       c.self.invariant.0,

@@ -16,6 +16,7 @@ returns-clause-may g c =
       ticks = c.self.inside.ticks;
       rounds = c.self.inside.rounds;
       known = c.self.inside.known;
+      gathered_before = c.self.inside.gathered_before;
       halted = c.self.inside.halted;
     } in
     let held : StandingValue =

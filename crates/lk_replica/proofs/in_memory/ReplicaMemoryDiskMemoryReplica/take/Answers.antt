@@ -60,8 +60,6 @@ returns-in-Ok-clause-exact g c =
     let letters : c.take.new.post.letters ≡ taken.out.letters = taken.sent.1 tt
     ∙ ap (λ (p : MemoryPostValue). p.letters ++ taken.out.letters) c.empty_post-post.ensures in
     record {
-      input = c.args.input;
-      given = refl;
       letters = taken.out.letters;
       batch = c.in-Ok.ensures.ok ∙ (λ i. batch_of (c.number-node.ensures i) (letters i));
       taken = record {

@@ -1,4 +1,4 @@
-use Rattle.std.proofs.Common.{◌≡◌, ℕ, Bool, ◌+◌, ◌-◌, length, ◌∙◌, ◌∷◌, List, [], map, refl, ap, sym, subst, inl, inr}
+use Rattle.std.proofs.Common.{◌≡◌, ℕ, Bool, ◌+◌, ◌-◌, length, ◌∙◌, ◌∷◌, List, [], refl, ap, sym, subst, inl, inr}
 use Rattle.std.proofs.Common.{rules}
 use Rattle.std.specs.Prelude.{⊤}
 use Rattle.std.proofs.lemmas.List.{nil_from_length}
@@ -12,7 +12,7 @@ use Rattle.lk_disk.proofs.Devices.{passes_on}
 use Rattle.lk_disk.specs.declared.meter.Meter.{Meter}
 use Rattle.lk_node_interface.specs.Letters.{batch_of, LetterValue}
 use Rattle.lk_node_interface.specs.declared.input.Input.{Input}
-use Rattle.lk_node.specs.Calls.{heard_by, InputFits, NodeFits}
+use Rattle.lk_node.specs.Calls.{InputFits, NodeFits}
 use Rattle.lk_node.specs.Keeping.{ReplicaHolds}
 use Rattle.lk_node.specs.Leavings.{DisksFit, AllCover}
 use Rattle.lk_node_interface.specs.Faults.{fault_number, RefusedAfter, IsNumberOfCalls}
@@ -106,7 +106,7 @@ returns-in_err-gather-clause-refused g c =
     let new = c.gather.new.self in
     let all = c.args.inputs.items in
     err_as (λ e. IsNumberOfCalls (fault_number e)
-    × IsTogetherRefused g.M.Machine.meaning g.M.Machine.IsText c.args.self.now (map heard_by all) new (fault_number e))
+    × IsTogetherRefused g.M.Machine.meaning g.M.Machine.IsText c.args.self.now all new (fault_number e))
     _ _ c.from_residual.ensures.1 (
       c.in_err-gather.ensures.refused.told,
       refused_in_all g.M.Machine.meaning g.M.Machine.IsText c.args.self.now all c.inputs.self new
@@ -182,7 +182,7 @@ returns-in_err-keep-clause-refused g c =
     ∙ ap (λ (l : List LetterValue). length c.gather.new.group.letters - length l) c.letters-before.ensures)
     (e.keeps tt) (c.gather.ensures.disks tt) e.alive.0 in
     err_as (λ e. IsNumberOfCalls (fault_number e)
-    × IsTogetherRefused m t own (map heard_by all) c.keep.new.self (fault_number e))
+    × IsTogetherRefused m t own all c.keep.new.self (fault_number e))
     _ _ c.from_residual-in_err-keep.ensures.1 (
       inr (inl c.in_err-keep.ensures.refused.no_memory),
       refused_in_all m t own all c.gather.new.self c.keep.new.self _ _ _ _ one
@@ -236,7 +236,7 @@ returns-in_err-sync_group-clause-refused g c =
     let new = c.sync_group.new.self in
     let all = c.args.inputs.items in
     err_as (λ e. IsNumberOfCalls (fault_number e)
-    × IsTogetherRefused g.M.Machine.meaning g.M.Machine.IsText c.args.self.now (map heard_by all) new (fault_number e))
+    × IsTogetherRefused g.M.Machine.meaning g.M.Machine.IsText c.args.self.now all new (fault_number e))
     _ _ c.from_residual-in_err-sync_group.ensures.1 (
       c.in_err-sync_group.ensures.refused.told,
       refused_in_all g.M.Machine.meaning g.M.Machine.IsText c.args.self.now all c.inputs.self new

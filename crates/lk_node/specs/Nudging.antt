@@ -1,0 +1,78 @@
+-- What a node does at a nudge: it asks the other nodes for what they know better, or tells them how far it has come.
+-- So nodes that wait for each other go on, as where nobody may begin a ballot.
+use Rattle.std.specs.Prelude.{◌≡◌, ◌⊎◌, ◌<◌, ℕ, true, false, List, None, if◌then◌else◌, nat_eq}
+use Rattle.lk_types.specs.BallotValue.{BallotValue}
+use Rattle.lk_types.specs.Ballots.{zero_ballot}
+use Rattle.lk_types.specs.Limits.{max_count}
+use Rattle.lk_messages.specs.declared.message.Nack.{Nack}
+use Rattle.lk_messages.specs.declared.message.NodeMessage.TheVariants as kinds
+use Rattle.lk_learner.specs.Installing.{with_gathered}
+use Rattle.lk_learner.specs.Learners.{executed, gathered_bytes, wanted}
+use Rattle.lk_node_interface.specs.Outboxes.{OutboxValue, nothing}
+use Rattle.lk_node_interface.specs.Ticks.{is_full}
+use Rattle.lk_node.specs.Leading.{ProposesOpen}
+use Rattle.lk_node.specs.Learning.{with_learner}
+use Rattle.lk_node.specs.NodeValue.{NodeValue}
+use Rattle.lk_node.specs.Reminding.{IsTermOf, TellsThese}
+use Rattle.lk_node.specs.Telling.{AreOthers}
+
+-- ---- what is gathered
+
+-- it remembers how many bytes of a snapshot are gathered
+abbrev pub remembering : NodeValue → NodeValue
+remembering node = record node { gathered_before = gathered_bytes node.learner.gathered }
+
+-- what is gathered is thrown away
+abbrev pub without_gathered : NodeValue → NodeValue
+without_gathered node = with_learner node (with_gathered None node.learner)
+
+-- what is gathered is thrown away if nothing was added to it since the last nudge: whoever sent it may be gone
+abbrev pub refreshed : NodeValue → NodeValue
+refreshed node =
+    if nat_eq (gathered_bytes node.learner.gathered) node.gathered_before then remembering (without_gathered node)
+    else remembering node
+
+-- ---- what is sent
+
+-- the other nodes of the window are asked for what follows the executed positions, unless these are all 2^48
+abbrev pub AsksOthers : NodeValue → OutboxValue → Type 0
+AsksOthers node out =
+    ((executed node.learner < max_count)
+    × ((nodes : List ℕ) × AreOthers node nodes × TellsThese node nodes (kinds.Want (wanted node.learner)) nothing out))
+    ⊎ ((executed node.learner ≡ max_count) × (out ≡ nothing))
+
+-- no ballot of a term is below it
+abbrev pub least_ballot : BallotValue
+least_ballot = record { round = 1; node = 1 }
+
+-- how many positions the node has executed, as a rejection that ends no term
+abbrev pub progress : NodeValue → Nack
+progress node = record { ballot = least_ballot; promised = zero_ballot; executed = executed node.learner }
+
+-- the other nodes of the window are told that: who has executed fewer asks for the rest, and who has executed more
+-- sends it
+abbrev pub TellsProgress : NodeValue → OutboxValue → Type 0
+TellsProgress node out =
+    (nodes : List ℕ) × AreOthers node nodes × TellsThese node nodes (kinds.Nack (progress node)) nothing out
+
+-- ---- a nudge
+
+-- with a term the node asks the others, and proposes what it can
+pub record AsksInTerm (old new : NodeValue) (out : OutboxValue) : Type 0 where
+  pub asked : OutboxValue
+  pub asks : AsksOthers old asked
+  pub proposes : ProposesOpen old new asked out
+
+-- without one it tells them its progress if it has heard of no leader for 28 ticks
+abbrev pub TellsIfSilent : NodeValue → OutboxValue → Type 0
+TellsIfSilent node out =
+    ((is_full node.ticks ≡ true) × TellsProgress node out) ⊎ ((is_full node.ticks ≡ false) × (out ≡ nothing))
+
+abbrev pub Seeks : NodeValue → NodeValue → OutboxValue → Type 0
+Seeks old new out =
+    ((b : BallotValue) × IsTermOf b old.leader × AsksInTerm old new out)
+    ⊎ ((old.leader.term ≡ None) × (new ≡ old) × TellsIfSilent old out)
+
+-- the result of a nudge
+abbrev pub Nudges : NodeValue → NodeValue → OutboxValue → Type 0
+Nudges old new out = Seeks (refreshed old) new out

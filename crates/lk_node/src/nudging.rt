@@ -1,0 +1,122 @@
+// How a node handles a nudge: it asks the others for what they know better, or tells them how far it has come.
+ghost use Rattle.std.specs.Prelude.{◌≡◌, Some, IfOk, OnOk};
+ghost use Rattle.lk_node_interface.specs.Outboxes.{nothing};
+ghost use Rattle.lk_node.specs.Nudging.{least_ballot, refreshed, AsksOthers, TellsProgress, AsksInTerm, TellsIfSilent};
+ghost use Rattle.lk_node.specs.Nudging.{without_gathered, remembering, Seeks, Nudges};
+ghost use Rattle.lk_node.specs.SafeSteps.{ActsSafely};
+
+use crate::node::Node;
+use lk_node_interface::Outbox;
+use lk_state::Machine;
+use lk_types::{Ballot, NoMemory, RealBallot};
+use lk_wire::{Nack, NodeMessage};
+
+// Returns the least ballot, which no term's ballot is below; never `None`.
+fn least_ballot() -> Option<RealBallot>
+    ensures { result ≡ Some least_ballot }
+{
+    RealBallot::of(Ballot::of(1, 1)?)
+}
+
+impl<M: Machine> Node<M> {
+    // Throws away what is gathered of a snapshot.
+    fn forget_gathered(&mut self)
+        ensures { self.new ≡ without_gathered self.old }
+    {
+        self.learner.forget_gathered();
+    }
+
+    // Records how much of a snapshot is gathered.
+    fn remember_gathered(&mut self)
+        ensures { self.new ≡ remembering self.old }
+    {
+        self.gathered_before = self.learner.gathered_bytes();
+    }
+
+    // Throws away what is gathered if nothing was added to it since the last nudge, and records how much is gathered.
+    fn refresh(&mut self)
+        ensures { self.new ≡ refreshed self.old }
+    {
+        if self.learner.gathered_bytes() == self.gathered_before {
+            self.forget_gathered();
+        }
+        self.remember_gathered();
+    }
+
+    // Sends the other nodes of the window a Want for what follows the executed positions; nothing after the last one,
+    // 2^48.
+    fn ask_others(&self) -> Result<Outbox, NoMemory>
+        ensures exact { IfOk result (λ o. AsksOthers self.now o) }
+        ensures safe { IfOk result (λ o. ActsSafely M.meaning (λ h. Unit {0}) self.now self.now nothing o) }
+    {
+        let mut out = Outbox::new(self.alloc);
+        let Some(want) = self.learner.want() else {
+            return Ok(out);
+        };
+        let nodes = self.others()?;
+        self.send_to_all(&nodes, NodeMessage::Want(want), &mut out)?;
+        Ok(out)
+    }
+
+    // Tells the other nodes of the window how many positions are executed, by a Nack that ends no term.
+    fn tell_progress(&self) -> Result<Outbox, NoMemory>
+        ensures exact { IfOk result (λ o. TellsProgress self.now o) }
+        ensures safe { IfOk result (λ o. ActsSafely M.meaning (λ h. Unit {0}) self.now self.now nothing o) }
+    {
+        let mut out = Outbox::new(self.alloc);
+        let Some(ballot) = least_ballot() else {
+            return Ok(out);
+        };
+        let nack = Nack {
+            ballot,
+            promised: Ballot::ZERO,
+            executed: self.learner.whole().executed(),
+        };
+        let nodes = self.others()?;
+        self.send_to_all(&nodes, NodeMessage::Nack(nack), &mut out)?;
+        Ok(out)
+    }
+
+    // Handles a nudge in a term: asks the others, and proposes what it can.
+    fn ask_in_term(&mut self) -> Result<Outbox, NoMemory>
+        ensures exact { IfOk result (λ o. AsksInTerm self.old self.new o) }
+        ensures safe { IfOk result (λ o. ActsSafely M.meaning (λ h. Unit {0}) self.old self.new nothing o) }
+    {
+        let mut out = self.ask_others()?;
+        self.propose(&mut out)?;
+        Ok(out)
+    }
+
+    #[tactic(auto, using(crate::proofs::SafeSteps::rests_here))]
+    // Handles a nudge without a term: tells its progress if 28 ticks have passed without a leader.
+    fn tell_if_silent(&self) -> Result<Outbox, NoMemory>
+        ensures exact { IfOk result (λ o. TellsIfSilent self.now o) }
+        ensures safe { IfOk result (λ o. ActsSafely M.meaning (λ h. Unit {0}) self.now self.now nothing o) }
+    {
+        if !self.ticks.is_full() {
+            return Ok(Outbox::new(self.alloc));
+        }
+        self.tell_progress()
+    }
+
+    // Asks in a term, and tells without one.
+    fn seek(&mut self) -> Result<Outbox, NoMemory>
+        ensures exact { IfOk result (λ o. Seeks self.old self.new o) }
+        ensures safe { IfOk result (λ o. ActsSafely M.meaning (λ h. Unit {0}) self.old self.new nothing o) }
+    {
+        match self.leader.ballot() {
+            Some(_) => self.ask_in_term(),
+            None => self.tell_if_silent(),
+        }
+    }
+
+    #[tactic(auto, using(crate::proofs::Nudges::refreshed_goes_on))]
+    // Handles a nudge.
+    pub(crate) fn nudge(&mut self) -> Result<Outbox, NoMemory>
+        ensures exact { IfOk result (λ o. Nudges self.old self.new o) }
+        ensures safe { IfOk result (λ o. ActsSafely M.meaning (λ h. Unit {0}) self.old self.new nothing o) }
+    {
+        self.refresh();
+        self.seek()
+    }
+}
