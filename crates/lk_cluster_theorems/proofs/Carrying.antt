@@ -185,8 +185,8 @@ module _ (observable : Type 0) (shown : observable) where
   handled_posts letters asked told old new none h =
       posts_both letters old.sent h.replied.sent new.sent
       (reply_posts letters asked old h.replied none h.replies)
-      (question_posts letters (question_by h.learned.seals old.node) h.asks.address (send_state_at h.replied.loopback h.replied)
-      (send_state_at new.loopback new) h.asks.sends)
+      (question_posts letters (question_by h.learned.seals old.node) h.asks.address
+      (send_state_at h.replied.loopback h.replied) (send_state_at new.loopback new) h.asks.sends)
 
   -- ---- a turn
 

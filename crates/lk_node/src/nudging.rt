@@ -87,8 +87,8 @@ impl<M: Machine> Node<M> {
         Ok(out)
     }
 
-    #[tactic(auto, using(crate::proofs::SafeSteps::rests_here))]
     // Handles a nudge without a term: tells its progress if 28 ticks have passed without a leader.
+    #[tactic(auto, using(crate::proofs::SafeSteps::rests_here))]
     fn tell_if_silent(&self) -> Result<Outbox, NoMemory>
         ensures exact { IfOk result (λ o. TellsIfSilent self.now o) }
         ensures safe { IfOk result (λ o. ActsSafely M.meaning (λ h. Unit {0}) self.now self.now nothing o) }
@@ -110,8 +110,8 @@ impl<M: Machine> Node<M> {
         }
     }
 
-    #[tactic(auto, using(crate::proofs::Nudges::refreshed_goes_on))]
     // Handles a nudge.
+    #[tactic(auto, using(crate::proofs::Nudges::refreshed_goes_on))]
     pub(crate) fn nudge(&mut self) -> Result<Outbox, NoMemory>
         ensures exact { IfOk result (λ o. Nudges self.old self.new o) }
         ensures safe { IfOk result (λ o. ActsSafely M.meaning (λ h. Unit {0}) self.old self.new nothing o) }

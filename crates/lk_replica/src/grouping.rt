@@ -310,11 +310,12 @@ fn step_in_group<M: Machine, D: LogDisk + Drop>(
     ensures keeps { D.is_honest
         → OnOk result (KeepsGroup M.meaning
         (λ h. InputFits h input.entry) node.old store.old group.old node.new store.new group.new) }
-    ensures runs { NothingToRun node.old → OnOk result (NothingToRun node.new) }
     ensures exact { D.is_honest
         → OnOk result (IsGathered M.meaning M.IsText D.is_metered node.old store.old group.old input.entry
         node.new store.new group.new) }
-    ensures alive { OnOk result ((store.new.failed ≡ false) × (node.new.halted ≡ false)) }
+    // It goes on, and has executed what it could if it had before.
+    ensures alive { OnOk result ((store.new.failed ≡ false) × (node.new.halted ≡ false)
+        × (NothingToRun node.old → NothingToRun node.new)) }
     // A group that begins fails as a call of `take` does.
     ensures refused { IfErr result
         (IsCutShort D.is_honest D.is_metered 2 node.old store.old node.new store.new

@@ -80,9 +80,6 @@ returns-clause-keeps g c honest =
           was;
     }
 
-pub returns-clause-runs : goal.returns-clause-runs
-returns-clause-runs g c none = c.in_ok-outbox.ensures.runs (c.in_ok-needs_sync.ensures.alive.runs none)
-
 -- ---- at every exit
 
 pub returns-in_err-needs_sync-clause-disks : goal.returns-in_err-needs_sync-clause-disks
@@ -190,7 +187,11 @@ returns-clause-exact g c honest = record {
 }
 
 pub returns-clause-alive : goal.returns-clause-alive
-returns-clause-alive g c = c.in_ok-outbox.ensures.alive
+returns-clause-alive g c = (
+  c.in_ok-outbox.ensures.alive.0,
+  c.in_ok-outbox.ensures.alive.1,
+  λ none. c.in_ok-outbox.ensures.runs (c.in_ok-needs_sync.ensures.alive.runs none),
+)
 
 -- ---- what a refusal leaves
 

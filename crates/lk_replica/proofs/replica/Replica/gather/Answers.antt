@@ -81,7 +81,8 @@ returns-clause-grows g c honest =
 
 pub invariant_of-self-2 : goal.invariant_of-self-2
 invariant_of-self-2 g c =
-    (λ lives. c.in_ok-step_in_group.ensures.runs (c.self.invariant.0 c.if-self.false), c.step_in_group.ensures.format)
+    let runs = c.in_ok-step_in_group.ensures.alive.2 in
+    (λ lives. runs (c.self.invariant.0 c.if-self.false), c.step_in_group.ensures.format)
 
 -- ---- what it has done
 
@@ -181,7 +182,7 @@ returns-clause-first g c fresh =
     (record { node = c.step_in_group.new.node; store = c.step_in_group.new.store; failed = false }) (Ok tt))
     c.self.view_is
     (record {
-      runs = c.in_ok-step_in_group.ensures.runs (c.self.invariant.0 c.if-self.false);
+      runs = c.in_ok-step_in_group.ensures.alive.2 (c.self.invariant.0 c.if-self.false);
       refused = tt;
       last = λ honest most due. c.in_ok-step_in_group.ensures.last honest most due;
     })
