@@ -11,6 +11,7 @@ import (
 	"strconv"
 	"strings"
 	"sync"
+	"syscall"
 	"testing"
 	"time"
 )
@@ -128,7 +129,7 @@ func TestAStateFileThatWasCopiedBackGivesNoLock(t *testing.T) {
 	withState := func(c *Config) { c.State = path }
 	first := nodes.client(7, withState)
 	mustRelease(t, mustLock(t, first, "clean"))
-	first.Close()
+	closeAlone(first)
 	kept, err := os.ReadFile(path)
 	if err != nil {
 		t.Fatal(err)
@@ -139,7 +140,7 @@ func TestAStateFileThatWasCopiedBackGivesNoLock(t *testing.T) {
 	if err != nil {
 		t.Fatal(err)
 	}
-	second.Close()
+	closeAlone(second)
 	// Each number that the second run used is tried: the file is restored to just below it.
 	for back := number; back <= number+2; back++ {
 		if err := os.WriteFile(path, []byte(fmt.Sprintf("%d\n", back)), 0o600); err != nil {
@@ -156,9 +157,17 @@ func TestAStateFileThatWasCopiedBackGivesNoLock(t *testing.T) {
 		} else if errors.As(err, &busy) || errors.Is(err, ErrMayHold) {
 			t.Errorf("from %d: got %v", back, err)
 		}
-		third.Close()
+		closeAlone(third)
 	}
 	wantState(t, nodes.client(8), "ra", State{Holders: 1, Holder: 7, Fence: 1})
+}
+
+// closeAlone closes a client while no other test starts a process: until it executes its program, a process that was
+// forked shares the lock of the state file.
+func closeAlone(client *Client) {
+	syscall.ForkLock.RLock()
+	defer syscall.ForkLock.RUnlock()
+	client.Close()
 }
 
 func TestTheDeathOfEachNodeIsSurvived(t *testing.T) {

@@ -74,6 +74,7 @@ fn a_lock_is_released_though_a_request_has_no_answer() {
         lock.client().ask("db"),
         Err(Error::NoAnswer { .. })
     ));
+    lock.client().set_patience(Duration::from_secs(30));
     lock.release().unwrap();
     assert_eq!(node.ops()[2], op(2, Some(1)));
 }
@@ -96,6 +97,7 @@ fn a_request_that_a_release_gives_up_is_told() {
     let mut lock = client.lock("db", Duration::ZERO).unwrap();
     lock.client().set_patience(Duration::from_millis(100));
     assert!(lock.client().acquire("other").is_err());
+    lock.client().set_patience(Duration::from_secs(30));
     lock.release().unwrap();
     let expected = "request 3 for other was given up without an answer";
     assert_eq!(*told.lock().unwrap(), [expected]);

@@ -60,13 +60,13 @@ impl Node {
     }
 
     pub fn on(socket: UdpSocket, port: u16, rows: Vec<Vec<Vec<u8>>>) -> Node {
-        let patience = Some(Duration::from_secs(5));
+        let patience = Some(Duration::from_secs(20));
         socket.set_read_timeout(patience).unwrap();
         let heard = thread::spawn(move || serve(&socket, rows));
         Node { port, heard }
     }
 
-    /// What it heard, once each row was used or nothing has come for five seconds.
+    /// What it heard, once each row was used or nothing has come for twenty seconds.
     pub fn heard(self) -> Vec<Vec<u8>> {
         self.heard.join().unwrap()
     }
