@@ -35,19 +35,44 @@ def tell(text: str) -> None:
         print(text, file=sys.stderr, flush=True)
 
 
-@contextlib.contextmanager
-def stopping() -> Iterator[None]:
-    """In the block of this `with` a signal that would end the process raises Stopped."""
+class Signals:
+    """What a signal does that would end the process: in a block of `raising` it raises Stopped, once, and elsewhere it
+    waits for the next such block. So none comes between what is tried and what is done about it."""
 
-    def stop(number: int, _: object) -> None:
+    def __init__(self) -> None:
+        self.is_raising, self.waiting = False, 0
+
+    def stop(self, number: int, _: object) -> None:
+        """Handles a signal."""
+        if not self.is_raising:
+            self.waiting = number
+            return
+        self.is_raising = False
         raise Stopped(number)
 
+    @contextlib.contextmanager
+    def raising(self) -> Iterator[None]:
+        """In the block of this `with` a signal raises Stopped, also one that has waited for it."""
+        self.is_raising = True
+        try:
+            if self.waiting:
+                number, self.waiting = self.waiting, 0
+                self.stop(number, None)
+            yield
+        finally:
+            self.is_raising = False
+
+
+@contextlib.contextmanager
+def stopping() -> Iterator[Signals]:
+    """In the block of this `with` no signal ends the process, but by Stopped in a block of `raising`."""
+    signals = Signals()
     before = {number: signal.getsignal(number) for number in FORWARDED}
     for number, handler in before.items():
         if handler != signal.SIG_IGN:
-            signal.signal(number, stop)
+            signal.signal(number, signals.stop)
     try:
-        yield
+        yield signals
     finally:
         for number, handler in before.items():
             signal.signal(number, handler)
@@ -105,33 +130,35 @@ def tried(plan: Callable[[], object]) -> str:
 
 def tried_last(client: Client, plan: Callable[[], object]) -> str:
     """The same for a second at most, after a signal has ended an earlier try. Further signals wait."""
-
-    def bounded() -> None:
-        signal.pthread_sigmask(signal.SIG_BLOCK, AWAITED)
-        client.patience = LAST_TRY
-        plan()
-
-    return tried(bounded)
+    signal.pthread_sigmask(signal.SIG_BLOCK, AWAITED)
+    client.patience = LAST_TRY
+    return tried(plan)
 
 
-def withdrawn(client: Client, name: str) -> None:
+def withdrawn(client: Client, name: str, signals: Signals) -> None:
     """Gives up an acquire that a signal has ended. A failure is told, also after a second signal."""
-    problem = tried(lambda: client.withdraw(name))
+
+    def withdraw() -> None:
+        with signals.raising():
+            client.withdraw(name)
+
+    problem = tried(withdraw)
     if problem:
         problem = tried_last(client, lambda: client.withdraw(name))
     if problem:
         tell(f"{name} may stay held, or may still be granted: {problem}; {remedy(client, name)}")
 
 
-def granted(client: Client, name: str, wait: float) -> int:
+def granted(client: Client, name: str, wait: float, signals: Signals) -> int:
     """Takes the lock, and gives its fence. Signals wait from then on. One that comes earlier gives the lock up."""
     client.patience = min(client.patience, wait + ANSWER_TIME)
     try:
-        fence = client.acquire(name, wait)
-        signal.pthread_sigmask(signal.SIG_BLOCK, AWAITED)
+        with signals.raising():
+            fence = client.acquire(name, wait)
+            signal.pthread_sigmask(signal.SIG_BLOCK, AWAITED)
         return fence
     except Stopped:
-        withdrawn(client, name)
+        withdrawn(client, name, signals)
         raise
 
 
@@ -179,24 +206,25 @@ def released(client: Client, name: str, fence: int, seconds: float) -> str:
     """Gives the lock back, and asks for so many seconds. Why it is not known to be released; empty if it is."""
     take_pending()
     client.patience = seconds
-    try:
-        with stopping():
-            signal.pthread_sigmask(signal.SIG_UNBLOCK, AWAITED)
-            client.release(name, fence)
-        return ""
-    except LocksError as error:
-        return error.brief
-    except Stopped as stopped:
-        problem = tried_last(client, lambda: client.run(client.core.give_back(name, fence)))
-        return problem and f"{stopped}, then {problem}"
+    with stopping() as signals:
+        try:
+            with signals.raising():
+                signal.pthread_sigmask(signal.SIG_UNBLOCK, AWAITED)
+                client.release(name, fence)
+            return ""
+        except LocksError as error:
+            return error.brief
+        except Stopped as stopped:
+            problem = tried_last(client, lambda: client.run(client.core.give_back(name, fence)))
+            return problem and f"{stopped}, then {problem}"
 
 
 def hold(client: Client, name: str, command: list[str], wait: float, release_wait: float) -> int:
     """Runs a command while it holds a lock. The status, as `statuses.TABLE` has it."""
     signal.signal(signal.SIGCHLD, signal.SIG_DFL)  # a parent that ignores it would hide the command's end
     try:
-        with stopping():
-            fence = granted(client, name, wait)
+        with stopping() as signals:
+            fence = granted(client, name, wait, signals)
     except Stopped as stopped:
         return SIGNAL + stopped.number
     except LocksError as error:

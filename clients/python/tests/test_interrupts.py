@@ -1,10 +1,13 @@
 """An interrupt at each bytecode of a hold: nothing stays held untold, and nothing is freed that another call holds."""
+import dis
 import logging
+import signal
 import sys
 import unittest
+from unittest import mock
 
 from table_case import Table, TableClient
-from locks_client import LocksError
+from locks_client import LocksError, hold
 
 
 class Interrupter:
@@ -93,6 +96,87 @@ class InterruptTest(unittest.TestCase):
                 pass
 
         self.assertGreater(self.sweep(hold, 37), 1000)
+
+
+class Stopped(TableClient):
+    """A client to whose process a signal comes once its acquire, or its release, has been answered."""
+
+    def __init__(self, table, call):
+        super().__init__(table)
+        self.call, self.second = call, None
+
+    def acquire(self, name, wait=0.0, blocking=None):
+        fence = super().acquire(name, wait, blocking)
+        self.stop("acquire")
+        return fence
+
+    def release(self, name, fence):
+        self.stop("release")
+        super().release(name, fence)
+
+    def stop(self, call):
+        if call == self.call:
+            sys.settrace(self.second)
+            sys._getframe().f_back.f_back.f_trace = self.second
+            signal.raise_signal(signal.SIGTERM)
+
+
+class Second(Interrupter):
+    """Sends SIGTERM at one bytecode of the package, of those at which Python handles signals."""
+
+    def __call__(self, frame, event, arg):
+        code = frame.f_code.co_code[frame.f_lasti]
+        if event == "opcode" and dis.opname[code] not in ("RESUME", "CALL", "CALL_FUNCTION_EX", "JUMP_BACKWARD"):
+            return self
+        try:
+            return super().__call__(frame, event, arg)
+        except KeyboardInterrupt:
+            signal.raise_signal(signal.SIGTERM)
+            return None
+
+
+class SignalTest(unittest.TestCase):
+    """A second signal at each bytecode after a first one."""
+
+    def setUp(self):
+        self.enterContext(mock.patch.object(hold, "run_with", return_value=0))
+        self.tell = self.enterContext(mock.patch.object(hold, "tell"))
+        self.addCleanup(sys.settrace, sys.gettrace())
+        self.addCleanup(signal.signal, signal.SIGTERM, signal.signal(signal.SIGTERM, lambda *_: None))
+        self.addCleanup(signal.pthread_sigmask, signal.SIG_SETMASK, signal.pthread_sigmask(signal.SIG_BLOCK, ()))
+
+    def stopped(self, call, at):
+        """The status of a hold that is stopped there, and whether the second signal came."""
+        table, before = Table(), signal.pthread_sigmask(signal.SIG_BLOCK, ())
+        client, second = Stopped(table, call), Second(at)
+        client.second = second
+        self.tell.reset_mock()
+        try:
+            status = hold.hold(client, "db", ["true"], 0.0, 1.0)
+        finally:
+            sys.settrace(None)
+            hold.take_pending()
+            signal.pthread_sigmask(signal.SIG_SETMASK, before)
+        if table.holders:
+            self.assertIn(" stay held, or may still be granted", str(self.tell.call_args_list))
+        client.core.grants.clear()
+        client.close()
+        return status, second.left <= 0
+
+    def sweep(self, call, wanted):
+        at, came = 0, True
+        while came:
+            at += 1
+            with self.subTest(at=at):
+                status, came = self.stopped(call, at)
+                self.assertEqual(status, wanted)
+        return at
+
+    def test_a_second_signal_ends_no_withdrawal_untold(self):
+        self.assertGreater(self.sweep("acquire", 128 + signal.SIGTERM), 100)
+
+    def test_a_second_signal_ends_no_release_untold(self):
+        self.assertGreater(self.sweep("release", 0), 100)
 
 
 if __name__ == "__main__":
