@@ -61,7 +61,8 @@ type Config struct {
 	// Grace is how long a release or the withdrawal of a lock is tried after its context has ended. 0 stands for 2
 	// seconds.
 	Grace time.Duration
-	// Log is called for each event, from the goroutine in which it happens. It must not call the client.
+	// Log is called for each event, possibly by several goroutines at a time. It may call the client: no request is held
+	// up meanwhile.
 	Log func(Event)
 }
 
@@ -83,6 +84,7 @@ type Client struct {
 	numbers *numbers.Numbers
 	socket  *socket
 	before  wire.Answer // who held the name before the open Share was sent
+	events  []Event     // are told once the turn has ended
 
 	lock  sync.Mutex // of what follows
 	holds map[string]*hold
@@ -141,25 +143,27 @@ func (c *Client) ID() uint16 { return c.id }
 
 // Close ends the client, and each call that is under way. It returns *StillHeld if locks stay held.
 func (c *Client) Close() error {
-	err := ErrClosed
-	c.once.Do(func() { err = c.close() })
+	err, kept := ErrClosed, error(nil)
+	c.once.Do(func() { err, kept = c.close() })
+	if kept != nil {
+		c.tell(Event{Kind: EventNotKept, Err: kept})
+	}
 	return err
 }
 
-func (c *Client) close() error {
+// close returns *StillHeld if locks stay held, and why the state file did not take numbers back, if it did not.
+func (c *Client) close() (held, kept error) {
 	close(c.closing)
 	c.turn <- struct{}{} // stays taken: no call follows
 	c.socket.close()
-	if err := c.numbers.Close(); err != nil {
-		c.tell(Event{Kind: EventNotKept, Err: err})
-	}
+	kept = c.numbers.Close()
 	if op, isOpen, isSent := c.machine.Open(); isOpen && isSent && op.IsGranting() {
 		c.setMaybe(op.Name)
 	}
 	if holds := c.Holds(); len(holds) > 0 {
-		return &StillHeld{Client: c.id, Holds: holds}
+		held = &StillHeld{Client: c.id, Holds: holds}
 	}
-	return nil
+	return held, kept
 }
 
 // Holds returns the locks that this run was granted and has not given back, as far as it knows, by name. One of fence 0
@@ -244,8 +248,19 @@ func (c *Client) enter(ctx context.Context) error {
 	}
 }
 
+// leave lets another goroutine send a request. Then it tells what happened: Log may wait for a turn of its own.
 func (c *Client) leave() {
+	events := c.events
+	c.events = nil
 	<-c.turn
+	for _, event := range events {
+		c.tell(event)
+	}
+}
+
+// tellLater tells an event once the turn has ended.
+func (c *Client) tellLater(event Event) {
+	c.events = append(c.events, event)
 }
 
 func (c *Client) tell(event Event) {

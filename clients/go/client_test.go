@@ -349,9 +349,13 @@ func TestAnUnreachableClusterIsToldOfAndOfWhatCame(t *testing.T) {
 		_, err := client.Lock(ctx, "db")
 		ended <- err
 	}()
-	event := <-told
-	if event.Kind != EventUnreachable || event.Name != "db" || event.Wait < 4*time.Second {
-		t.Errorf("told %v", event)
+	select {
+	case event := <-told:
+		if event.Kind != EventUnreachable || event.Name != "db" || event.Wait < 4*time.Second {
+			t.Errorf("told %v", event)
+		}
+	case <-time.After(time.Minute):
+		t.Error("not told")
 	}
 	cancel()
 	if err := <-ended; !errors.Is(err, context.Canceled) || errors.Is(err, ErrMayHold) {

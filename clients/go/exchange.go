@@ -101,7 +101,8 @@ func sooner(one, other time.Time) time.Time {
 
 func (c *Client) warn(waited time.Duration) {
 	op, _, _ := c.machine.Open()
-	c.tell(Event{Kind: EventUnreachable, Asked: op.String(), Name: op.Name, Fence: op.Fence, Wait: waited})
+	// The request goes on meanwhile, and Log may wait for its end.
+	go c.tell(Event{Kind: EventUnreachable, Asked: op.String(), Name: op.Name, Fence: op.Fence, Wait: waited})
 }
 
 // unsent is the error of a request that was not sent.
@@ -148,7 +149,7 @@ func (c *Client) settle(ctx context.Context) error {
 		if _, isOpen, _ := c.machine.Open(); isOpen {
 			return err
 		}
-		c.tell(Event{Kind: EventSettled, Asked: op.String(), Name: op.Name, Fence: answer.Fence, Err: err})
+		c.tellLater(Event{Kind: EventSettled, Asked: op.String(), Name: op.Name, Fence: answer.Fence, Err: err})
 		if err != nil || !isSent || !op.IsGranting() {
 			continue
 		}
@@ -162,7 +163,7 @@ func (c *Client) settle(ctx context.Context) error {
 func (c *Client) disclaim(ctx context.Context, op wire.Op, before wire.Answer, fence uint64) error {
 	if op.Word == wire.Share {
 		if earlier := c.earlier(ctx, op.Name, before, fence); earlier != nil {
-			c.tell(Event{Kind: EventSettled, Asked: op.String(), Name: op.Name, Fence: fence, Err: earlier})
+			c.tellLater(Event{Kind: EventSettled, Asked: op.String(), Name: op.Name, Fence: fence, Err: earlier})
 			return nil
 		}
 	}

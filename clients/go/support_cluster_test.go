@@ -2,7 +2,6 @@ package locks
 
 import (
 	"fmt"
-	"math/rand"
 	"net"
 	"os"
 	"os/exec"
@@ -44,23 +43,35 @@ func startCluster(t *testing.T, options ...string) *cluster {
 	return made
 }
 
-// given are the ports that a test has. Several tests run at a time.
-var given sync.Map
+// notGiven are the free ports of this process that no test has yet. Several tests run at a time. All are tried before
+// the first node starts: until it runs its program, a process that is being started has a copy of each open socket, so
+// that a port would stay bound.
+var notGiven struct {
+	once  sync.Once
+	mutex sync.Mutex
+	ports []uint16
+}
 
-// freePorts returns ports of 127.0.0.1 that nothing is bound to now, below those that the system gives to clients.
-func freePorts(count int) []uint16 {
-	var ports []uint16
-	for len(ports) < count {
-		port := 10_000 + rand.Intn(22_000)
-		held, err := net.ListenUDP("udp4", &net.UDPAddr{IP: net.IPv4(127, 0, 0, 1), Port: port})
-		if err != nil {
-			continue
-		}
-		held.Close()
-		if _, isGiven := given.LoadOrStore(port, true); !isGiven {
-			ports = append(ports, uint16(port))
+// tryPorts finds the ports of 127.0.0.1 that nothing is bound to, below those that the system gives to clients.
+func tryPorts() {
+	first := 10_000 + 600*(os.Getpid()%36)
+	for port := first; port < first+600; port++ {
+		tried, err := net.ListenUDP("udp4", &net.UDPAddr{IP: net.IPv4(127, 0, 0, 1), Port: port})
+		if err == nil {
+			tried.Close()
+			notGiven.ports = append(notGiven.ports, uint16(port))
 		}
 	}
+}
+
+// freePorts returns ports that no other test gets.
+func freePorts(count int) []uint16 {
+	notGiven.once.Do(tryPorts)
+	notGiven.mutex.Lock()
+	defer notGiven.mutex.Unlock()
+	rest := len(notGiven.ports) - count
+	ports := append([]uint16(nil), notGiven.ports[rest:]...)
+	notGiven.ports = notGiven.ports[:rest]
 	return ports
 }
 

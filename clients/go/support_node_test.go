@@ -198,7 +198,7 @@ func clientOf(t *testing.T, change func(*Config), nodes ...*node) *Client {
 	return client
 }
 
-// within returns a context of the test that ends after a minute, which a loaded machine does not take.
+// within returns a context that ends after five minutes: a call that takes longer hangs.
 func within(t *testing.T) context.Context {
 	ctx, cancel := context.WithTimeout(context.Background(), 5*time.Minute)
 	t.Cleanup(cancel)

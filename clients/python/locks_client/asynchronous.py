@@ -65,7 +65,7 @@ class AsyncClient(Base):
         self.socket.close()
 
     def close(self) -> None:
-        """Closes the socket and the state file. A ResourceWarning names each lock that is still held."""
+        """Closes the socket and the state file. A ResourceWarning names each lock that is held, or may be."""
         self.tell_held()
         self.close_socket()
         self.numbers.close()
@@ -79,12 +79,12 @@ class AsyncClient(Base):
         self.close()
 
     async def acquire(self, name: str, wait: float = 0.0, blocking: bool | None = None) -> int:
-        """Takes the lock, and gives its fence, as `Client.acquire` does."""
-        return await self.run(self.core.poll("acquire", name, wait_of(wait, blocking)))
+        """Takes the lock, and gives its fence, as `Client.acquire` does. A cancelled task withdraws it."""
+        return await self.taken(name, self.core.poll("acquire", name, wait_of(wait, blocking)))
 
     async def share(self, name: str, wait: float = 0.0, blocking: bool | None = None, adopt: bool = False) -> int:
-        """The same for a shared hold in a raised table, as `Client.share` does."""
-        return await self.run(self.core.share(name, wait_of(wait, blocking), adopt))
+        """The same for a shared hold in a raised table, as `Client.share` does. A cancelled task withdraws it."""
+        return await self.taken(name, self.core.share(name, wait_of(wait, blocking), adopt))
 
     @contextlib.asynccontextmanager
     async def lock(
@@ -138,6 +138,17 @@ class AsyncClient(Base):
             undoing = self.undoing(name, fence, mark, error)
             if undoing:
                 await self.undo(undoing, name, fence, error)
+            raise
+
+    async def taken(self, name: str, plan: Plan[int]) -> int:
+        """Carries out what takes a lock. A cancellation withdraws it."""
+        mark = Mark()
+        try:
+            return await self.run(self.core.marked(plan, mark))
+        except BaseException as error:
+            undoing = self.undoing(name, None, mark, error)
+            if undoing:
+                await self.undo(undoing, name, None, error)
             raise
 
     async def undo(self, plan: Plan[bool], name: str, fence: int | None, error: BaseException) -> None:

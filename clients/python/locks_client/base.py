@@ -114,14 +114,21 @@ class Base:
             self.socket = self.bound(own)
 
     def tell_held(self) -> None:
-        """Warns at `close` of each lock that this run holds. A forked child holds none."""
+        """Warns at `close` of each lock that this run holds or may hold. A forked child holds none."""
         if self.numbers.is_closed or os.getpid() != self.numbers.process:
             return
-        for name, grant in self.core.grants.items():
-            how = f"it stays held until a client {self.client} releases it at that fence"
-            text = f"client {self.client} is closed while it holds {name} at fence {grant.fence}: {how}"
-            warnings.warn(text, ResourceWarning, stacklevel=4)
-            log.warning("%s", text)
+        who = f"client {self.client}"
+        texts = [
+            f"holds {name} at fence {grant.fence}: it stays held until a {who} releases it at that fence"
+            for name, grant in self.core.grants.items()
+        ]
+        texts += [
+            f"may hold {name}, or may still be granted it: if an ask says that {who} holds it, release it at that fence"
+            for name in self.core.lost_names()
+        ]
+        for text in texts:
+            warnings.warn(f"{who} is closed while it {text}", ResourceWarning, stacklevel=4)
+            log.warning("%s is closed while it %s", who, text)
 
     def tell_kept(self, name: str, fence: int | None, error: BaseException, failed: BaseException) -> None:
         """Notes on the error of a block, and logs, that its lock was not released."""

@@ -231,6 +231,17 @@ class Calls(Core):
             log.warning("the acquire of %s was dropped without an answer; withdraw tells whether it is held", name)
         self.open = None
 
+    def lost_names(self) -> list[str]:
+        """The names that this client may hold, without an answer that tells whether it does. The open one is lost."""
+        self.lost_name()
+        return sorted(self.unknown - self.grants.keys())
+
+    def forget(self) -> None:
+        """Forgets what this run holds or may hold, once somebody was told of it."""
+        self.open = None
+        self.grants.clear()
+        self.unknown.clear()
+
     def is_valid(self, name: str, fence: int) -> Plan[bool]:
         """Whether the lock is held at that fence; also if no answer comes soon, or another request is open."""
         if self.open:

@@ -37,7 +37,7 @@ class Client(Base):
     """
 
     def close(self) -> None:
-        """Closes the socket and the state file. A ResourceWarning names each lock that is still held."""
+        """Closes the socket and the state file. A ResourceWarning names each lock that is held, or may be."""
         self.tell_held()
         self.close_socket()
         self.numbers.close()

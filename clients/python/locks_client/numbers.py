@@ -32,6 +32,7 @@ class State:
     def __init__(self, path: str | os.PathLike[str]) -> None:
         self.path = os.path.realpath(path)
         self.lock: TextIO | None = None
+        self.process = os.getpid()
         self.greatest = 0  # of the numbers that this process has read or written
 
     def take(self) -> None:
@@ -107,8 +108,12 @@ class State:
             os.close(folder)
 
     def close(self) -> None:
-        """Another process may use the file from now on."""
-        if self.lock:
+        """Another process may use the file from now on. A forked child leaves the lock to its parent.
+
+        Closing the lock's file is not enough while a process that is being started has a copy of its descriptor."""
+        if self.lock and not self.lock.closed:
+            if os.getpid() == self.process:
+                fcntl.flock(self.lock, fcntl.LOCK_UN)
             self.lock.close()
 
 

@@ -81,8 +81,6 @@ def ask_once(client: Client, op: Op, is_strict: bool) -> int:
             print(error.brief, flush=True)
         tell(explained(client, op.name, error))
         return status_of(error)
-    finally:
-        client.core.grants.clear()  # what a single request was granted is meant to stay held
     print(" ".join([answer.text, *map(str, answer.fields)]))
     return REFUSED if is_strict and answer.text in FAILING else 0
 
@@ -111,9 +109,12 @@ def main() -> int:
         tell(str(error))
         return status_of(error)
     with client:
-        if args.op[0] == "hold":
-            return hold(client, op.name, args.op[2:], args.wait, args.release_wait)
-        return ask_once(client, op, args.fail)
+        try:
+            if args.op[0] == "hold":
+                return hold(client, op.name, args.op[2:], args.wait, args.release_wait)
+            return ask_once(client, op, args.fail)
+        finally:
+            client.core.forget()  # the output says what stays held, and a single request is meant to
 
 
 def run() -> None:

@@ -141,6 +141,17 @@ class TableCase(unittest.TestCase):
         self.addCleanup(client.close)
         return client
 
+    def reply_late(self, client):
+        """From now on the node replies once that client of asyncio waits for it, and not before."""
+
+        def replies(_):
+            end = time.monotonic() + 30.0
+            while client.stop_reading is None and time.monotonic() < end:
+                time.sleep(0.001)
+            return True
+
+        self.node.replies = replies
+
     def holders(self, name):
         """Who holds a name."""
         return list(self.node.table.holders.get(name, ()))

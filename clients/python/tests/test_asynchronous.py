@@ -28,7 +28,7 @@ class AsyncClientTest(unittest.IsolatedAsyncioTestCase):
         client = AsyncClient(5, 7, ports, first=1, patience=patience)
         client.core.has_begun = True
         self.addCleanup(client.close)
-        self.addCleanup(client.core.grants.clear)  # before that, since some of these tests leave a lock held
+        self.addCleanup(client.core.forget)  # before that, since some of these tests leave a lock held
         return client
 
     async def test_the_exchange_of_the_page(self):

@@ -4,7 +4,7 @@ import random
 import time
 import unittest
 
-from table_case import ASK, RELEASE, TableCase
+from table_case import ACQUIRE, ASK, RELEASE, SHARE, TableCase
 from locks_client import AsyncClient, LocksError
 
 
@@ -14,15 +14,14 @@ class CancellationTest(TableCase, unittest.IsolatedAsyncioTestCase):
 
     async def test_a_cancellation_in_the_turn_of_its_answer_is_not_lost(self):
         """The reply is there, and the task that waits for it is cancelled before it runs again."""
-        client = self.one()
-        await client.ask("db")
+        client, loop = self.one(), asyncio.get_running_loop()
+        self.reply_late(client)
         for _ in range(20):
-            holding = asyncio.create_task(self.hold(client))
-            heard = len(self.node.heard)
-            while len(self.node.heard) == heard:
-                await asyncio.sleep(0)
-            time.sleep(0.02)  # the reply arrives while this task runs
-            asyncio.get_running_loop().call_soon(asyncio.get_running_loop().call_soon, holding.cancel)
+            with self.hearing(ACQUIRE):  # the reply arrives while this task runs
+                holding = asyncio.create_task(self.hold(client))
+                while not (client.stop_reading and self.node.heard[-1:] == [ACQUIRE]):
+                    await asyncio.sleep(0)
+            loop.call_soon(loop.call_soon, holding.cancel)
             with self.assertRaises(asyncio.CancelledError):
                 await holding
             self.assertEqual(self.holders("db"), [])
@@ -52,6 +51,31 @@ class CancellationTest(TableCase, unittest.IsolatedAsyncioTestCase):
         async with client.lock("db"):
             await asyncio.sleep(0.01)
         await asyncio.sleep(0.01)
+
+    async def test_an_acquire_or_share_that_is_cancelled_is_withdrawn(self):
+        client = self.one()
+        client.cleanup = 30.0
+        for take, body in ((client.acquire, ACQUIRE), (client.share, SHARE)):
+            self.node.replies = lambda it: it != body  # it is granted, and the answer is lost
+            taking = asyncio.create_task(take("db"))
+            while self.node.done[-1:] != [body]:
+                await asyncio.sleep(0.001)
+            self.node.replies = lambda it: True
+            taking.cancel()
+            with self.assertRaises(asyncio.CancelledError):
+                await taking
+            self.assertEqual((self.holders("db"), client.is_open, client.core.grants), ([], False, {}))
+
+    async def test_an_acquire_that_is_cancelled_without_an_answer_is_told(self):
+        client = self.one()
+        await client.ask("other")
+        client.cleanup, self.node.takes = 0.2, lambda body: body == ASK
+        with self.assertRaises(TimeoutError) as raised, self.assertLogs("locks_client", "WARNING"):
+            async with asyncio.timeout(0.3):
+                await client.acquire("db")
+        self.assertRegex(raised.exception.__cause__.__notes__[0], "db was not released by client 7: no answer")
+        self.node.takes = lambda body: True
+        self.assertTrue(await client.withdraw("db"))
 
     async def test_a_cancelled_first_call_leaves_a_client_that_works(self):
         self.node.takes = lambda body: False  # so that the call is still under way when it is cancelled
@@ -92,6 +116,7 @@ class CancellationTest(TableCase, unittest.IsolatedAsyncioTestCase):
 
     def test_a_second_event_loop_goes_on(self):
         client = self.one()
+        self.reply_late(client)
 
         async def hold():
             async with client.lock("db") as fence:

@@ -84,7 +84,7 @@ class ClientTest(unittest.TestCase):
         client.cleanup = 30.0
         client.core.has_begun = True  # so that these tests need not script the first Ask
         self.addCleanup(client.close)
-        self.addCleanup(client.core.grants.clear)  # before that, since some of these tests leave a lock held
+        self.addCleanup(client.core.forget)  # before that, since some of these tests leave a lock held
         return client
 
     def asks_once(self, reply, ask):

@@ -77,6 +77,7 @@ class ErrorsTest(unittest.TestCase):
 
     def test_what_is_no_name_and_no_time_is_refused(self):
         with Client(5, 7, [1], first=1) as client:
+            client.perform = lambda effect: self.fail("it asks")
             for name in (None, 5, b"db"):
                 with self.subTest(name=name), self.assertRaisesRegex(TypeError, "must be a str of 1 to 32"):
                     client.acquire(name)

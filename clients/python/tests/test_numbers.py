@@ -141,6 +141,13 @@ class NumbersTest(unittest.TestCase):
         with self.assertRaises(InUse):
             Client(5, 7, [1], first=1, state=self.path)
 
+    def test_a_file_is_free_though_its_lock_was_copied(self):
+        numbers = self.numbers(first=1, path=self.path)
+        copied = os.dup(numbers.state.lock.fileno())  # as a process has that is being started
+        self.addCleanup(os.close, copied)
+        numbers.close()
+        self.numbers(first=1, path=self.path)
+
     def test_a_file_by_another_path_is_the_same(self):
         os.symlink(self.path, self.path + ".link")
         self.numbers(first=1, path=self.path).take()

@@ -14,6 +14,7 @@ from locks_client import Client, Free, Held, milliseconds, program
 STATUS_7 = [sys.executable, "-c", "import os, sys; print(os.environ['LOCKS_FENCE']); sys.exit(7)"]
 UP = "echo up; exec sleep 60"
 MAY_STAY_HELD = "db may stay held, or may still be granted"
+WARNING = os.environ | {"PYTHONWARNINGS": "always::ResourceWarning"}
 
 
 @unittest.skipUnless(PROGRAM, "LOCKS_PROGRAM does not tell the program")
@@ -25,7 +26,7 @@ class ProgramTest(ClusterCase):
         return process
 
     def test_an_answer_is_printed(self):
-        self.assertEqual(self.said(1, "acquire", "db"), (0, "granted 1\n", ""))
+        self.assertEqual(self.said(1, "acquire", "db", env=WARNING), (0, "granted 1\n", ""))
         self.assertEqual(self.said(2, "acquire", "db"), (0, "busy 1 1\n", ""))
         self.assertEqual(self.said(2, "hold", "db")[0], 2)
 
@@ -35,6 +36,8 @@ class ProgramTest(ClusterCase):
         command = ["hold", "db", "--", "scan", "--port", "5", "6"]
         self.assertEqual(program.spread([*known, *command]), [*spread, *command])
         self.assertEqual(program.spread(["--port", "1", "2", "ask", "db"]), ["--port", "1", "--port", "2", "ask", "db"])
+        ports = map(str, self.ports)
+        self.assertEqual(self.said(1, "--port", *ports, "ask", "db"), (0, "free 0\n", ""))
 
     def test_the_version_is_that_of_the_package(self):
         with open(os.path.join(os.path.dirname(__file__), "..", "pyproject.toml"), "rb") as file:
@@ -114,10 +117,12 @@ class ProgramTest(ClusterCase):
 
     def test_an_acquire_without_an_answer_says_how_to_free_the_lock(self):
         node = Node([FREE], *[[]] * 9)
-        status, _, err = self.said(7, "--wait", "1.5", "hold", "db", "--", "true", first=1, ports=[node.port])
+        how = {"first": 1, "ports": [node.port], "env": WARNING}
+        status, _, err = self.said(7, "--wait", "1.5", "hold", "db", "--", "true", **how)
         self.assertEqual(status, 123)
         self.assertIn("may still take effect; `ask db` tells whether client 7 holds it at a fence F", err)
         self.assertIn("`release db F`, as client 7, frees it", err)
+        self.assertEqual(err.count("\n"), 1)
 
     def test_an_acquire_that_was_passed_says_how_to_free_the_lock_and_to_go_on(self):
         for last, way in ((9, "give --first 1000009"), (2**48, "use another client number")):
@@ -210,13 +215,14 @@ class ProgramTest(ClusterCase):
         self.assertIn("`release db 1` with client number 1 frees it", err)
 
     def test_a_release_that_fails_has_a_status_of_its_own(self):
-        process = self.holds(1, "echo up; read line; exit 7", "--release-wait", "0.5", stdin=-1)
+        process = self.holds(1, "echo up; read line; exit 7", "--release-wait", "0.5", stdin=-1, env=WARNING)
         self.all_nodes(signal.SIGSTOP)
         process.stdin.write("\n")
         status, _, err = self.ended(process)
         self.all_nodes(signal.SIGCONT)
         self.assertEqual(status, 124)
         self.assertIn("db was not released at 1: no answer; the command's status was 7", err)
+        self.assertEqual(err.count("\n"), 1)
 
     def test_a_release_is_tried_for_long(self):
         process = self.holds(1, "echo up; read line; exit 7", stdin=-1)

@@ -71,16 +71,18 @@ class WatchTest(TableCase):
 
     async def watched(self):
         """The loss of a lock of asyncio, told to a coroutine."""
-        is_told, one = asyncio.Event(), self.client(kind=AsyncClient)
+        told, is_told, one = [], asyncio.Event(), self.client(kind=AsyncClient)
 
         async def lost(name, fence):
-            self.assertEqual((name, fence), ("db", 1))
+            told.append((name, fence))
             is_told.set()
 
         with self.assertRaises(NotHeld), self.assertLogs("locks_client", "WARNING"):
             async with one.lock("db", on_lost=lost):
                 self.client(8).break_lock("db", 1)
                 await asyncio.wait_for(is_told.wait(), 20.0)
+                await asyncio.sleep(0.3)
+        self.assertEqual(told, [("db", 1)])
         async with one.lock("db", on_lost=lost):
             await asyncio.sleep(0.2)
 

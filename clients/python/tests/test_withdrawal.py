@@ -1,4 +1,5 @@
 """What becomes of an acquire without an answer, and what is said of it."""
+import asyncio
 import time
 import unittest
 import warnings
@@ -6,7 +7,7 @@ from unittest import mock
 
 from fake_node import FREE, PASSED, Node
 from table_case import ACQUIRE, ASK, RELEASE, SHARE, TableCase
-from locks_client import Busy, Client, LocksError, NoAnswer, Passed, Unknown, core
+from locks_client import AsyncClient, Busy, Client, LocksError, NoAnswer, Passed, Unknown, core
 
 
 class WithdrawalTest(TableCase):
@@ -114,11 +115,39 @@ class WithdrawalTest(TableCase):
     def test_a_client_that_is_closed_while_it_holds_says_so(self):
         client = self.client()
         client.acquire("db")
+        self.closed_while_it_holds(client)
+
+    def test_a_client_of_asyncio_that_is_closed_while_it_holds_says_so(self):
+        client = self.client(kind=AsyncClient)
+        asyncio.run(client.acquire("db"))
+        self.closed_while_it_holds(client)
+
+    def closed_while_it_holds(self, client):
+        """Closes a client that holds `db`: it says so, the first time."""
         with self.assertWarnsRegex(ResourceWarning, "client 7 is closed while it holds db at fence 1"):
             with self.assertLogs("locks_client", "WARNING"):
                 client.close()
         with warnings.catch_warnings():
             warnings.simplefilter("error")
+            client.close()
+
+    def test_a_client_that_is_closed_while_an_acquire_has_no_answer_says_so(self):
+        dropped, unanswered = self.client(), self.client(8, first=1)
+        for client in (dropped, unanswered):
+            client.ask("other")
+            self.unanswered(client, f"db/{client.client}")
+        dropped.give_up()
+        for client in (dropped, unanswered):
+            told = f"client {client.client} is closed while it may hold db/{client.client}, or may still be granted it"
+            with self.assertWarnsRegex(ResourceWarning, told), self.assertLogs("locks_client", "WARNING"):
+                client.close()
+
+    def test_a_client_that_is_closed_after_a_withdrawal_says_nothing(self):
+        client = self.client()
+        client.ask("other")
+        self.unanswered(client)
+        self.assertTrue(client.withdraw("db"))
+        with self.assertNoLogs("locks_client", "WARNING"):
             client.close()
 
     def test_a_lock_that_is_known_to_be_lost_is_not_warned_of(self):

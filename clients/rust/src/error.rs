@@ -59,6 +59,8 @@ pub enum Error {
         op: Op,
         /// The answer to the other request.
         answer: Answer,
+        /// The number, which was used before.
+        number: u64,
     },
     /// The client, or its numbers, were made in another process, before a fork. Make them after it,
     /// and with another client number if the parent goes on to use this one.

@@ -184,12 +184,9 @@ impl Op {
         }
     }
 
-    /// The answer to it; a refusal is an error.
-    pub(crate) fn judged(self, answer: Answer) -> Result<Answer, Error> {
-        if !self.fits(&answer) {
-            return Err(Error::OtherAnswer { op: self, answer });
-        }
-        match Error::refusal(&self, &answer) {
+    /// The answer to it, which fits; a refusal is an error.
+    pub(crate) fn judged(&self, answer: Answer) -> Result<Answer, Error> {
+        match Error::refusal(self, &answer) {
             Some(error) => Err(error),
             None => Ok(answer),
         }

@@ -196,8 +196,8 @@ impl Session {
             _ => self.is_begun && asked.fits(&answer),
         };
         if !self.is_begun {
-            let op = open.op;
-            return Some(Err(Error::OtherAnswer { op, answer }));
+            let (op, number) = (open.op, open.number);
+            return Some(Err(Error::OtherAnswer { op, answer, number }));
         }
         match open.part {
             Part::Opening => {

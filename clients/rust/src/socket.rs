@@ -18,10 +18,7 @@ impl Client {
             Answer::Free(fence) => Ok(LockState::Free { fence }),
             Answer::Held { holder, fence } => Ok(LockState::Held { holder, fence }),
             Answer::HeldShared { holders, fence } => Ok(LockState::HeldShared { holders, fence }),
-            answer => {
-                let op = Op::Ask(name.to_owned());
-                Err(Error::OtherAnswer { op, answer })
-            }
+            _ => Err(Error::NothingAsked),
         }
     }
 

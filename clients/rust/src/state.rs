@@ -7,6 +7,7 @@ use std::fs::{self, File, OpenOptions, TryLockError};
 use std::io::{self, ErrorKind, Read, Write};
 use std::os::unix::fs::MetadataExt;
 use std::path::{Path, PathBuf};
+use std::process;
 
 /// A state file, and the lock file beside it, which this client alone has locked.
 #[derive(Debug)]
@@ -14,7 +15,24 @@ pub(crate) struct State {
     path: PathBuf,
     // no number in the file is greater, unless another program has written it
     greatest: u64,
-    _lock: File,
+    _lock: Lock,
+}
+
+/// A lock file that this process has locked.
+#[derive(Debug)]
+struct Lock {
+    file: File,
+    owner: u32,
+}
+
+impl Drop for Lock {
+    /// Unlocks the file: closing it is not enough while a process that is being started has a copy
+    /// of its descriptor. A forked child leaves the lock to its parent.
+    fn drop(&mut self) {
+        if process::id() == self.owner {
+            let _ = self.file.unlock();
+        }
+    }
 }
 
 /// Appends a suffix to the file name.
@@ -88,15 +106,18 @@ fn front(path: &Path) -> io::Result<Vec<u8>> {
 }
 
 /// Opens the lock file beside a state file, and locks it.
-fn locked(path: &Path) -> Result<File, StateFault> {
-    let lock = OpenOptions::new()
+fn locked(path: &Path) -> Result<Lock, StateFault> {
+    let file = OpenOptions::new()
         .write(true)
         .create(true)
         .truncate(false)
         .open(beside(path, ".lock"))
         .map_err(StateFault::Io)?;
-    match lock.try_lock() {
-        Ok(()) => Ok(lock),
+    match file.try_lock() {
+        Ok(()) => Ok(Lock {
+            file,
+            owner: process::id(),
+        }),
         Err(TryLockError::WouldBlock) => Err(StateFault::InUse),
         Err(TryLockError::Error(error)) => Err(StateFault::Io(error)),
     }
@@ -151,7 +172,21 @@ impl State {
 
 #[cfg(test)]
 mod tests {
-    use super::parsed;
+    use super::{locked, parsed};
+    use crate::StateFault;
+    use std::{env, fs, process};
+
+    #[test]
+    fn a_lock_ends_though_its_descriptor_was_copied() {
+        let path = env::temp_dir().join(format!("locks-{}-copied", process::id()));
+        let lock = locked(&path).unwrap();
+        let copy = lock.file.try_clone().unwrap(); // as a process has that is being started
+        assert!(matches!(locked(&path), Err(StateFault::InUse)));
+        drop(lock);
+        locked(&path).unwrap();
+        drop(copy);
+        fs::remove_file(super::beside(&path, ".lock")).unwrap();
+    }
 
     #[test]
     fn a_text_is_a_number_and_a_newline() {

@@ -1,7 +1,7 @@
 //! The texts of errors: each names the lock, its fence if it is known, and what to do.
 
 use crate::numbers::{MAX_NUMBER, beyond};
-use crate::{Error, Op};
+use crate::{Answer, Error, Op};
 use std::fmt::{self, Display, Formatter};
 
 /// What to do with an open request.
@@ -55,16 +55,30 @@ fn passed(f: &mut Formatter<'_>, op: &Op, is_sent: bool, last: u64) -> fmt::Resu
         false => f.write_str("was not sent")?,
     }
     f.write_str("; another process uses this client number, or its last number was lost: ")?;
-    match beyond(last) {
-        Some(first) => write!(f, "end that process, or skip_to({first})")?,
-        None => write!(
-            f,
-            "numbers end at {MAX_NUMBER}, so use another client number"
-        )?,
-    }
+    way_on(f, last)?;
     match op.wanted() {
         Some(name) if is_sent => write!(f, ", and then ask who holds {name}"),
         _ => Ok(()),
+    }
+}
+
+fn other_answer(f: &mut Formatter<'_>, op: &Op, answer: &Answer, number: u64) -> fmt::Result {
+    write!(
+        f,
+        "`{op}` was answered `{answer}`, which belongs to another request: number {number} was used \
+         before, by another process or before an old state file was restored; "
+    )?;
+    way_on(f, number)
+}
+
+/// How a client goes on above a number that was used.
+fn way_on(f: &mut Formatter<'_>, used: u64) -> fmt::Result {
+    match beyond(used) {
+        Some(first) => write!(f, "end that process, or skip_to({first})"),
+        None => write!(
+            f,
+            "numbers end at {MAX_NUMBER}, so use another client number"
+        ),
     }
 }
 
@@ -159,12 +173,7 @@ impl Display for Error {
             } => no_answer(f, op, *is_sent, *closed),
             Error::Unanswered { op } => write!(f, "`{op}` has no answer yet; {SETTLE}"),
             Error::Passed { op, is_sent, last } => passed(f, op, *is_sent, *last),
-            Error::OtherAnswer { op, answer } => write!(
-                f,
-                "`{op}` was answered `{answer}`, which belongs to another request: the number was \
-                 used before, as after a restored state file; end other processes of this client \
-                 number, or skip_to a number above all that it used"
-            ),
+            Error::OtherAnswer { op, answer, number } => other_answer(f, op, answer, *number),
             Error::Forked { opened, here } => write!(
                 f,
                 "this client was opened in process {opened}, not in {here}: open another one, \

@@ -38,7 +38,7 @@ fn a_stored_answer_to_an_earlier_run_is_not_believed() {
         assert!(matches!(refused, Error::OtherAnswer { .. }), "{refused}");
         let told = refused.to_string();
         assert!(told.starts_with("`acquire rb` was answered"), "{told}");
-        assert!(told.contains("restored state file; ") && told.contains("skip_to"));
+        assert!(told.contains("state file was restored; ") && told.contains("skip_to(1000001)"));
         assert!(!client.is_waiting() && client.holds().count() == 0);
         assert_eq!(node.heard().len(), 1);
     }

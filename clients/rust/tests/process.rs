@@ -159,5 +159,6 @@ fn a_stopped_process_releases_nothing_of_the_next_holder() {
         "{told}"
     );
     assert!(other.check("db", 2).unwrap());
+    holder.kill(); // so that it writes no file while the folder is removed
     fs::remove_dir_all(folder).unwrap();
 }

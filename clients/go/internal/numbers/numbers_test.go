@@ -6,6 +6,7 @@ import (
 	"os"
 	"path/filepath"
 	"strings"
+	"syscall"
 	"testing"
 )
 
@@ -102,6 +103,20 @@ func TestNumbersGoOnAfterARestart(t *testing.T) {
 		t.Errorf("keeps %q", got)
 	}
 	take(t, opened(t, path, 40), false, 43)
+}
+
+func TestALockEndsThoughItsDescriptorWasCopied(t *testing.T) {
+	path := file(t, "41\n")
+	numbers := opened(t, path, 0)
+	copied, err := syscall.Dup(int(numbers.state.lock.Fd())) // as a process has that is being started
+	if err != nil {
+		t.Fatal(err)
+	}
+	defer syscall.Close(copied)
+	if err := numbers.Close(); err != nil {
+		t.Error(err)
+	}
+	take(t, opened(t, path, 0), false, 42)
 }
 
 func TestASecondClientIsRefusedByEachPath(t *testing.T) {

@@ -57,7 +57,7 @@ func openState(path string, mayBeNew bool) (*state, uint64, error) {
 	}
 	number, err := kept(real, mayBeNew)
 	if err != nil {
-		lock.Close()
+		unlock(lock)
 		return nil, 0, &StateError{real, err}
 	}
 	return &state{path: real, greatest: number, lock: lock}, number, nil
@@ -211,7 +211,14 @@ func syncFolder(path string) error {
 	return folder.Sync()
 }
 
+// unlock unlocks and closes a lock file. Closing it is not enough while a process that is being started has a copy of
+// its descriptor.
+func unlock(lock *os.File) {
+	syscall.Flock(int(lock.Fd()), syscall.LOCK_UN)
+	lock.Close()
+}
+
 // close lets another client use the file.
 func (s *state) close() {
-	s.lock.Close()
+	unlock(s.lock)
 }

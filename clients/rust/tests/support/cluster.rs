@@ -4,20 +4,26 @@ use locks_client::{Client, ClientId, ClusterId, Numbers, milliseconds};
 use std::net::UdpSocket;
 use std::path::PathBuf;
 use std::process::{Child, Command, Stdio};
-use std::sync::atomic::{AtomicU16, AtomicU32, Ordering};
+use std::sync::atomic::{AtomicU32, Ordering};
+use std::sync::{LazyLock, Mutex};
 use std::time::Duration;
-use std::{env, fs, iter, process};
+use std::{env, fs, process};
 
 static CLUSTERS: AtomicU32 = AtomicU32::new(0);
-static PORTS: AtomicU16 = AtomicU16::new(0);
 
-/// Ports of 127.0.0.1 that nothing is bound to now, below those that the system gives to whoever asks for any port.
-pub fn free_ports(count: usize) -> Vec<u16> {
+/// The free ports of this process that no test has yet. All are tried before the first node starts: until it runs its
+/// program, a process that is being started has a copy of each open socket, so that a port would stay bound.
+static PORTS: LazyLock<Mutex<Vec<u16>>> = LazyLock::new(|| {
     let first = 20_000 + (process::id() % 60) as u16 * 200;
-    iter::repeat_with(|| first + PORTS.fetch_add(1, Ordering::Relaxed) % 200)
-        .filter(|port| UdpSocket::bind(("127.0.0.1", *port)).is_ok())
-        .take(count)
-        .collect()
+    let is_free = |port: &u16| UdpSocket::bind(("127.0.0.1", *port)).is_ok();
+    Mutex::new((first..first + 200).filter(is_free).collect())
+});
+
+/// Ports of 127.0.0.1 that nothing is bound to, below those that the system gives to whoever asks for any port.
+pub fn free_ports(count: usize) -> Vec<u16> {
+    let mut ports = PORTS.lock().unwrap();
+    let rest = ports.len().checked_sub(count).expect("ports are left");
+    ports.split_off(rest)
 }
 
 /// Processes of `locks node`, numbered from 1, whose stores stand in a folder of their own.
