@@ -1,4 +1,5 @@
--- A client that asks its ports in turn keeps the rule: it has sent its request alone, and returns what a datagram says.
+-- A client that asks its places in turn keeps the rule: it has sent its request alone, and returns what a datagram
+-- says.
 use Rattle.std.proofs.Common.{◌≡◌, ◌∙◌, ◌++◌, ◌<◌, ◌≤◌, List, ℕ, Option, Some, None, [], ◌∷◌, length, take, arith}
 use Rattle.std.proofs.Common.{append_assoc, append-nil, ap, sym, subst, inl, inr}
 use Rattle.std.specs.Prelude.{Result, Ok, Err, IfOk, OnErr, IfSome}
@@ -7,7 +8,9 @@ use Rattle.std.specs.declared.net.socket_addr.SocketAddr.{SocketAddr}
 use Rattle.lk_transport.specs.Chains.{Chain}
 use Rattle.lk_client.specs.Questions.{Endpoint, Asker, IsAsked, IsReply, HearsNext, followed_to, ended_by, SendsOnce}
 use Rattle.lk_client.specs.Questions.{SendsEach, Receives, WaitsFor, Tries, TriesInVain, TriesUntil, Exchanges}
+use Rattle.lk_client.specs.Questions.{own_place}
 use Rattle.lk_client.specs.Rules.{SendsOnly, IsReplied, KeepsRule, AsksInTurn}
+use Rattle.lk_client.specs.declared.destination.Place.{Place}
 use Rattle.lk_client.specs.declared.question.Heard.{Heard}
 use Rattle.lk_client.specs.declared.question.Heard.TheVariants.{Nothing, Other, Reply}
 use Rattle.lk_client.specs.declared.question.Question.{Question}
@@ -73,29 +76,31 @@ module _ {S : Type 0} (sent : S → List (SocketAddr × List ℕ)) (failures : S
   only_waits most bytes (Some reply) old new asked w =
       only_both (only_receives bytes old w.3.states w.2 asked w.3.chain) (only_receive asked w.4)
 
-  only_tries : {most port : ℕ} {bytes : List ℕ} {told : Option ReplyValue} {old new : Asker S} → IsAsked q bytes
-      → Tries sent failures next q most port bytes told old new
+  only_tries : {most : ℕ} {place : Place} {bytes : List ℕ} {told : Option ReplyValue} {old new : Asker S}
+      → IsAsked q bytes
+      → Tries sent failures next q most place bytes told old new
       → SendsOnly q (sent old.socket) (sent new.socket)
-  only_tries {most = most} {port = port} {bytes = bytes} {told = told} {old = old} {new = new} asked t =
-      only_both (only_once q (q.destination.address, port) bytes (sent old.socket) (failures old.socket)
+  only_tries {most = most} {place = place} {bytes = bytes} {told = told} {old = old} {new = new} asked t =
+      only_both (only_once q (place.address, place.port) bytes (sent old.socket) (failures old.socket)
       (sent t.asked_on)
       (failures t.asked_on) asked t.asks)
       (only_waits most bytes told (record { socket = t.asked_on; followed = old.followed }) new asked t.waits)
 
-  only_vain : (most : ℕ) (ports bytes : List ℕ) (old new : Asker S) → IsAsked q bytes
-      → TriesInVain sent failures next q most ports bytes old new
+  only_vain : (most : ℕ) (places : List Place) (bytes : List ℕ) (old new : Asker S) → IsAsked q bytes
+      → TriesInVain sent failures next q most places bytes old new
       → SendsOnly q (sent old.socket) (sent new.socket)
   only_vain most [] bytes old new asked v =
       only_nothing q (sent old.socket) (sent new.socket) (ap (λ (s : Asker S). sent s.socket) v)
-  only_vain most (port ∷ ports) bytes old new asked v =
-      only_both (only_tries asked v.1) (only_vain most ports bytes v.0 new asked v.2)
+  only_vain most (place ∷ places) bytes old new asked v =
+      only_both (only_tries asked v.1) (only_vain most places bytes v.0 new asked v.2)
 
-  only_until : (most : ℕ) (ports bytes : List ℕ) (told : Option ReplyValue) (old new : Asker S) → IsAsked q bytes
-      → TriesUntil sent failures next q most ports bytes told old new
+  only_until : (most : ℕ) (places : List Place) (bytes : List ℕ) (told : Option ReplyValue) (old new : Asker S)
+      → IsAsked q bytes
+      → TriesUntil sent failures next q most places bytes told old new
       → SendsOnly q (sent old.socket) (sent new.socket)
-  only_until most ports bytes None old new asked u = only_vain most ports bytes old new asked u
-  only_until most ports bytes (Some reply) old new asked u =
-      only_both (only_vain most (take u.0 ports) bytes old u.3 asked u.4) (only_tries asked u.5)
+  only_until most places bytes None old new asked u = only_vain most places bytes old new asked u
+  only_until most places bytes (Some reply) old new asked u =
+      only_both (only_vain most (take u.0 places) bytes old u.3 asked u.4) (only_tries asked u.5)
 
 -- ---- what is returned was said by a datagram
 
@@ -132,51 +137,54 @@ module _ {S : Type 0} (sent : S → List (SocketAddr × List ℕ)) (failures : S
   replied {reply = reply} {bytes = bytes} {old = old} {new = new} r =
       replied_by reply r.heard bytes old new r.tells r.hears r.sends
 
-  ends_until : (most : ℕ) (ports bytes : List ℕ) (told : Option ReplyValue) (old new : Asker S)
-      → TriesUntil sent failures next q most ports bytes told old new
+  ends_until : (most : ℕ) (places : List Place) (bytes : List ℕ) (told : Option ReplyValue) (old new : Asker S)
+      → TriesUntil sent failures next q most places bytes told old new
       → IfSome told (λ (reply : ReplyValue). IsReplied sent next q reply new.socket)
-  ends_until most ports bytes None old new u = tt
-  ends_until most ports bytes (Some reply) old new u = replied u.5.waits.4
+  ends_until most places bytes None old new u = tt
+  ends_until most places bytes (Some reply) old new u = replied u.5.waits.4
 
   -- ---- the rule
 
-  keeps_rule : {most : ℕ} {ports : List ℕ} {told : Option ReplyValue} {old new : S}
-      → Exchanges sent failures next q most ports told old new
-      → KeepsRule sent failures next q most ports told old new
-  keeps_rule {most = most} {ports = ports} {told = told} {old = old} {new = new} e =
+  keeps_rule : {most : ℕ} {places : List Place} {told : Option ReplyValue} {old new : S}
+      → Exchanges sent failures next q most places told old new
+      → KeepsRule sent failures next q most places told old new
+  keeps_rule {most = most} {places = places} {told = told} {old = old} {new = new} e =
       let first : Asker S = record { socket = old; followed = 0 } in
       let last : Asker S = record { socket = new; followed = e.followed } in
       record {
-        same = only_until sent failures next q most ports e.bytes told first last e.spelled e.tries;
+        same = only_until sent failures next q most places e.bytes told first last e.spelled e.tries;
         in_turn = e;
-        ends = ends_until most ports e.bytes told first last e.tries;
+        ends = ends_until most places e.bytes told first last e.tries;
       }
 
   -- of an exchange that is over, whether it fails or not
-  pub all_same : {E : Type 0} (most : ℕ) (ports : List ℕ) (old new : S) (result : Result (Option ReplyValue) E)
+  pub all_same : {E : Type 0} (most : ℕ) (places : List Place) (old new : S) (result : Result (Option ReplyValue) E)
       → OnErr result (new ≡ old)
-      → IfOk result (λ (told : Option ReplyValue). Exchanges sent failures next q most ports told old new)
+      → IfOk result (λ (told : Option ReplyValue). Exchanges sent failures next q most places told old new)
       → SendsOnly q (sent old) (sent new)
-  all_same most ports old new (Ok told) failed e = (keeps_rule e).same
-  all_same most ports old new (Err fault) failed e = only_nothing q (sent old) (sent new) (ap sent failed)
+  all_same most places old new (Ok told) failed e = (keeps_rule e).same
+  all_same most places old new (Err fault) failed e = only_nothing q (sent old) (sent new) (ap sent failed)
 
-  all_keep : {E : Type 0} (most : ℕ) (ports : List ℕ) (old new : S) (result : Result (Option ReplyValue) E)
-      → IfOk result (λ (told : Option ReplyValue). Exchanges sent failures next q most ports told old new)
-      → IfOk result (λ (told : Option ReplyValue). KeepsRule sent failures next q most ports told old new)
-  all_keep most ports old new (Ok told) e = keeps_rule e
-  all_keep most ports old new (Err fault) e = tt
+  all_keep : {E : Type 0} (most : ℕ) (places : List Place) (old new : S) (result : Result (Option ReplyValue) E)
+      → IfOk result (λ (told : Option ReplyValue). Exchanges sent failures next q most places told old new)
+      → IfOk result (λ (told : Option ReplyValue). KeepsRule sent failures next q most places told old new)
+  all_keep most places old new (Ok told) e = keeps_rule e
+  all_keep most places old new (Err fault) e = tt
 
   -- by its turns: none, or several
-  pub asks_alone : {E : Type 0} (turns : List ℕ) (old new : S) (result : Result (Option ReplyValue) E)
-      → length turns < 1
-      → IfOk result (λ (told : Option ReplyValue). Exchanges sent failures next q 50 (q.port ∷ []) told old new)
+  pub asks_alone : {E : Type 0} (turns : List Place) (own : Place) (old new : S)
+      (result : Result (Option ReplyValue) E)
+      → own ≡ own_place q → length turns < 1
+      → IfOk result (λ (told : Option ReplyValue). Exchanges sent failures next q 50 (own ∷ []) told old new)
       → IfOk result (λ (told : Option ReplyValue). AsksInTurn sent failures next q turns told old new)
-  asks_alone [] old new result none e = all_keep 50 (q.port ∷ []) old new result e
-  asks_alone (port ∷ ports) old new result none e = absurd (omega (arith, none))
+  asks_alone [] own old new result is none e =
+      subst (λ (p : Place). IfOk result (λ (told : Option ReplyValue).
+      KeepsRule sent failures next q 50 (p ∷ []) told old new)) is (all_keep 50 (own ∷ []) old new result e)
+  asks_alone (place ∷ places) own old new result is none e = absurd (omega (arith, none))
 
-  pub asks_several : {E : Type 0} (turns : List ℕ) (old new : S) (result : Result (Option ReplyValue) E)
+  pub asks_several : {E : Type 0} (turns : List Place) (old new : S) (result : Result (Option ReplyValue) E)
       → 1 ≤ length turns
       → IfOk result (λ (told : Option ReplyValue). Exchanges sent failures next q 5 turns told old new)
       → IfOk result (λ (told : Option ReplyValue). AsksInTurn sent failures next q turns told old new)
   asks_several [] old new result some e = absurd (omega (arith, some))
-  asks_several (port ∷ ports) old new result some e = all_keep 5 (port ∷ ports) old new result e
+  asks_several (place ∷ places) old new result some e = all_keep 5 (place ∷ places) old new result e

@@ -15,6 +15,7 @@ use Rattle.lk_transport.specs.Hosts.{host_of}
 use Rattle.lk_transport.specs.Chains.{Repeats}
 use Rattle.lk_client.specs.Replies.{reply_of}
 use Rattle.lk_client.specs.declared.destination.Destination.{Destination}
+use Rattle.lk_client.specs.declared.destination.Place.{Place}
 use Rattle.lk_client.specs.declared.question.Question.{Question}
 use Rattle.lk_client.specs.declared.question.Heard.{Heard}
 use Rattle.lk_client.specs.declared.question.Heard.TheVariants.{Nothing, Other, Reply}
@@ -36,6 +37,13 @@ known_or None other = other
 -- where to ask a member: where it lives, or, if that is not known, at the address that was asked first
 abbrev pub destination_address : Destination → Member → IpAddr
 destination_address f m = known_or (host_of f.hosts m.node) f.address
+
+abbrev pub destination_place : Destination → Member → Place
+destination_place f m = record { address = destination_address f m; port = m.port }
+
+-- where a question is sent first
+abbrev pub own_place : Question → Place
+own_place q = record { address = q.destination.address; port = q.port }
 
 -- the message of the request
 abbrev pub asking : Question → Message
@@ -121,33 +129,34 @@ module _ {S : Type 0} (sent : S → List (SocketAddr × List ℕ)) (failures : S
       (count : ℕ) × (count < most) × (last : Asker S) × Repeats (Receives bytes None) count old last
       × Receives bytes (Some reply) last new
 
-  -- the bytes went to this port of the question's address, and then the client waited for at most so many receives
-  pub record Tries (most port : ℕ) (bytes : List ℕ) (told : Option ReplyValue) (old new : Asker S) : Type 0 where
+  -- the bytes went to this place, and then the client waited for at most so many receives
+  pub record Tries (most : ℕ) (place : Place) (bytes : List ℕ) (told : Option ReplyValue)
+      (old new : Asker S) : Type 0 where
     pub asked_on : S
-    pub asks : SendsOnce (q.destination.address, port) bytes (sent old.socket) (failures old.socket)
+    pub asks : SendsOnce (place.address, place.port) bytes (sent old.socket) (failures old.socket)
         (sent asked_on) (failures asked_on)
     pub waits : WaitsFor most bytes told (record { socket = asked_on; followed = old.followed }) new
 
-  -- the client tried each of these ports in turn, and none brought a reply
-  abbrev pub TriesInVain : ℕ → List ℕ → List ℕ → Asker S → Asker S → Type 0
+  -- the client tried each of these places in turn, and none brought a reply
+  abbrev pub TriesInVain : ℕ → List Place → List ℕ → Asker S → Asker S → Type 0
   TriesInVain most [] bytes old new = new ≡ old
-  TriesInVain most (port ∷ ports) bytes old new =
-      (mid : Asker S) × Tries most port bytes None old mid × TriesInVain most ports bytes mid new
+  TriesInVain most (place ∷ places) bytes old new =
+      (mid : Asker S) × Tries most place bytes None old mid × TriesInVain most places bytes mid new
 
-  -- the client tried all of these ports in vain, or each in turn until one brought this reply
-  abbrev pub TriesUntil : ℕ → List ℕ → List ℕ → Option ReplyValue → Asker S → Asker S → Type 0
-  TriesUntil most ports bytes None old new = TriesInVain most ports bytes old new
-  TriesUntil most ports bytes (Some reply) old new =
-      (count : ℕ) × (port : ℕ) × (slice_get ports count ≡ Some port) × (last : Asker S)
-      × TriesInVain most (take count ports) bytes old last
-      × Tries most port bytes (Some reply) last new
+  -- the client tried all of these places in vain, or each in turn until one brought this reply
+  abbrev pub TriesUntil : ℕ → List Place → List ℕ → Option ReplyValue → Asker S → Asker S → Type 0
+  TriesUntil most places bytes None old new = TriesInVain most places bytes old new
+  TriesUntil most places bytes (Some reply) old new =
+      (count : ℕ) × (place : Place) × (slice_get places count ≡ Some place) × (last : Asker S)
+      × TriesInVain most (take count places) bytes old last
+      × Tries most place bytes (Some reply) last new
 
-  -- the bytes of the question went to these ports, one after another, until a reply came, and beyond them to the
+  -- the bytes of the question went to these places, one after another, until a reply came, and beyond them to the
   -- members that at most 20 Elsewhere replies name
-  pub record Exchanges (most : ℕ) (ports : List ℕ) (told : Option ReplyValue) (old new : S) : Type 0 where
+  pub record Exchanges (most : ℕ) (places : List Place) (told : Option ReplyValue) (old new : S) : Type 0 where
     pub bytes : List ℕ
     pub spelled : IsAsked q bytes
     pub followed : ℕ
     pub few : followed ≤ 20
-    pub tries : TriesUntil most ports bytes told (record { socket = old; followed = 0 })
+    pub tries : TriesUntil most places bytes told (record { socket = old; followed = 0 })
         (record { socket = new; followed = followed })

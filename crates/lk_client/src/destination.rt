@@ -1,12 +1,19 @@
 //! Where a client sends its requests, and the keys that identify a sender.
 
 ghost use Rattle.std.specs.Prelude.{◌≡◌};
-ghost use Rattle.lk_client.specs.Questions.{destination_address};
+ghost use Rattle.lk_client.specs.Questions.{destination_place};
 
 use lk_auth::{AskerSeals, Keys};
 use lk_transport::hosts::Hosts;
-use lk_types::Member;
+use lk_types::{Member, Port};
 use std::net::{IpAddr, Ipv4Addr};
+
+/// A port of an address, at which a node is asked.
+#[derive(Clone, Copy)]
+pub struct Place {
+    pub address: IpAddr,
+    pub port: Port,
+}
 
 /// The address of the node that is asked first, the addresses of the others, and the keys.
 #[derive(Drop)]
@@ -29,14 +36,14 @@ impl Destination {
         }
     }
 
-    /// Returns the address at which to ask a member: its own, or, if that is not known, that of the node that was asked
-    /// first.
-    pub fn address_of(&self, member: &Member) -> IpAddr
-        ensures { result ≡ destination_address self.now member.now }
+    /// Returns where to ask a member: at its port, of its own address or, if that is not known, of that of the node
+    /// that was asked first.
+    pub fn place_of(&self, member: &Member) -> Place
+        ensures { result ≡ destination_place self.now member.now }
     {
-        match self.hosts.address(member.node) {
-            Some(address) => address,
-            None => self.address,
+        Place {
+            address: self.hosts.address(member.node).unwrap_or(self.address),
+            port: member.port,
         }
     }
 }

@@ -3,14 +3,15 @@
 ghost use Rattle.std.specs.Prelude.{◌≡◌, ◌≤◌, ◌⊎◌, ◌↔◌, true, Some, IfOk, IfErr, OnErr, IfSome, IsSomeAnd};
 ghost use Rattle.lk_messages.specs.Grammar.{Spells};
 ghost use Rattle.lk_transport.specs.Streams.{next_of};
-ghost use Rattle.lk_client.specs.Questions.{asking, IsAsked, HearsNext, SendsOnce, Receives, Tries, Exchanges, IsFinal};
+ghost use Rattle.lk_client.specs.Questions.{own_place, asking, IsAsked, HearsNext, SendsOnce, Receives, Tries};
+ghost use Rattle.lk_client.specs.Questions.{Exchanges, IsFinal};
 ghost use Rattle.lk_client.specs.Rules.{SendsOnly, AsksInTurn, Comes};
 ghost use Rattle.lk_client.specs.declared.reply.Reply.{Reply as ReplyValue};
 
-use crate::destination::Destination;
+use crate::destination::{Destination, Place};
 use crate::reply::{Reply, read_reply};
 use bytes::BytesMut;
-use lk_transport::fault::ProgramFault;
+use lk_program_fault::ProgramFault;
 use lk_transport::receive_buffer::ReceiveBuffer;
 use lk_transport::socket::DatagramSocket;
 use lk_types::{Port, Request};
@@ -18,11 +19,11 @@ use lk_wire::{Content, Message, write};
 use std::alloc::Global;
 use std::io;
 use std::io::Write;
-use std::net::{IpAddr, SocketAddr};
+use std::net::SocketAddr;
 
-// How many receives of 100 ms pass before the client gives up a port that it asks alone.
+// How many receives of 100 ms pass before the client gives up a place that it asks alone.
 const ALONE: u32 = 50;
-// How many pass before the client asks the next of several ports.
+// How many pass before the client asks the next of several places.
 const EACH: u32 = 5;
 // How many Elsewhere replies the client follows for one request.
 const FOLLOWED: u32 = 20;
@@ -34,6 +35,18 @@ pub struct Question {
     pub port: Port,
     pub request: Request,
     pub destination: Destination,
+}
+
+impl Question {
+    // Where it is sent first.
+    fn place(&self) -> Place
+        ensures { result ≡ own_place self.now }
+    {
+        Place {
+            address: self.destination.address,
+            port: self.port,
+        }
+    }
 }
 
 // Serialises a message. Fails only when out of memory.
@@ -112,12 +125,12 @@ fn bytes_to_send(alloc: Global, question: &Question) -> Result<Vec<u8>, ProgramF
     Ok(framed.to_vec(alloc)?)
 }
 
-// Sends bytes to a port of an address. A failed send is ignored, as if the datagram were lost.
-fn send<S: DatagramSocket>(socket: &mut S, host: IpAddr, port: Port, bytes: &[u8])
-    ensures { S.is_observable → SendsOnce (host, port) bytes.now (S.sent socket.old) (S.failures socket.old)
-        (S.sent socket.new) (S.failures socket.new) }
+// Sends bytes to a place. A failed send is ignored, as if the datagram were lost.
+fn send<S: DatagramSocket>(socket: &mut S, place: Place, bytes: &[u8])
+    ensures { S.is_observable → SendsOnce (place.address, place.port) bytes.now (S.sent socket.old)
+        (S.failures socket.old) (S.sent socket.new) (S.failures socket.new) }
 {
-    let address = SocketAddr::from((host, port.get()));
+    let address = SocketAddr::from((place.address, place.port.get()));
     let _ = socket.send_to(address, bytes);
 }
 
@@ -140,12 +153,7 @@ fn receive_next<S: DatagramSocket>(
     match next_reply(buffer, socket, question) {
         Heard::Reply(Reply::Elsewhere(member)) if *followed < FOLLOWED => {
             *followed += 1;
-            send(
-                socket,
-                question.destination.address_of(&member),
-                member.port,
-                bytes,
-            );
+            send(socket, question.destination.place_of(&member), bytes);
             None
         }
         Heard::Reply(Reply::Elsewhere(_)) | Heard::Other | Heard::Nothing => None,
@@ -153,26 +161,26 @@ fn receive_next<S: DatagramSocket>(
     }
 }
 
-// Sends the request to a port, and returns the reply that one of the next `patience` receives brings, or `None`.
-fn ask_port<S: DatagramSocket>(
+// Sends the request to a place, and returns the reply that one of the next `patience` receives brings, or `None`.
+fn ask_place<S: DatagramSocket>(
     buffer: &mut ReceiveBuffer,
     socket: &mut S,
     question: &Question,
-    port: Port,
+    place: Place,
     patience: u32,
     bytes: &[u8],
     followed: &mut u32,
 ) -> Option<Reply>
     requires { followed.old ≤ 20 }
-    // The bytes go to the port, and of what comes next it hears at most that many, until it is told something.
+    // The bytes go to the place, and of what comes next it hears at most that many, until it is told something.
     ensures tries { S.is_observable
-        → Tries S.sent S.failures (next_of S.incoming) question.now patience port bytes.now result
+        → Tries S.sent S.failures (next_of S.incoming) question.now patience place bytes.now result
         (record { socket = socket.old; followed = followed.old })
         (record { socket = socket.new; followed = followed.new }) }
     ensures told { IfSome result IsFinal }
     ensures most { followed.new ≤ 20 }
 {
-    send(socket, question.destination.address, port, bytes);
+    send(socket, place, bytes);
     'receives: for _ in 0..patience {
         let reply = receive_next(buffer, socket, question, bytes, followed);
         if reply.is_some() {
@@ -182,32 +190,32 @@ fn ask_port<S: DatagramSocket>(
     None
 }
 
-// Sends the request to each of these ports in turn, and goes on to the next after `patience` receives without a reply.
-// Returns the reply, or `None` if no port brings one. Over all ports it follows the first 20 Elsewhere replies.
+// Sends the request to each of these places in turn, and goes on to the next after `patience` receives without a reply.
+// Returns the reply, or `None` if no place brings one. Over all places it follows the first 20 Elsewhere replies.
 fn exchange_in_turn<S: DatagramSocket>(
     alloc: Global,
     socket: &mut S,
     question: &Question,
-    ports: &[Port],
+    places: &[Place],
     patience: u32,
 ) -> Result<Option<Reply>, ProgramFault>
-    // The bytes of the question go to each port in turn until it is told something, and further only to the members of
+    // The bytes of the question go to each place in turn until it is told something, and further only to the members of
     // Elsewhere that it hears.
     ensures tries { S.is_observable
         → IfOk result (λ told. Exchanges S.sent S.failures
-        (next_of S.incoming) question.now patience ports.now told socket.old socket.new) }
+        (next_of S.incoming) question.now patience places.now told socket.old socket.new) }
     ensures told { IfOk result (λ reply. IfSome reply IsFinal) }
     ensures unchanged { OnErr result (socket.new ≡ socket.old) }
     ensures only { IfErr result (λ f. f ≡ ProgramFault.NoMemory) }
 {
     let bytes = bytes_to_send(alloc, question)?;
     let (mut buffer, mut followed) = (ReceiveBuffer::new(), 0);
-    'ports: for port in ports {
-        let reply = ask_port(
+    'places: for place in places {
+        let reply = ask_place(
             &mut buffer,
             socket,
             question,
-            *port,
+            *place,
             patience,
             &bytes,
             &mut followed,
@@ -219,27 +227,27 @@ fn exchange_in_turn<S: DatagramSocket>(
     Ok(None)
 }
 
-/// Sends the request to these ports in turn, with 5 receives each, or, if there are none, to its own port with 50.
+/// Sends the request to these places in turn, with 5 receives each, or, if there are none, to its own with 50.
 /// Returns the reply, or `None` if it gives up. A datagram that could not be sent is lost.
 pub fn exchange<S: DatagramSocket>(
     alloc: Global,
     socket: &mut S,
     question: &Question,
-    ports: &[Port],
+    places: &[Place],
 ) -> Result<Option<Reply>, ProgramFault>
     // Whether it fails or not, it has sent nothing but that request.
     ensures same { S.is_observable → SendsOnly question.now (S.sent socket.old) (S.sent socket.new) }
     // It keeps the rule of a client that asks one request.
     ensures rule { S.is_observable
         → IfOk result (λ told. AsksInTurn S.sent S.failures
-        (next_of S.incoming) question.now ports.now told socket.old socket.new) }
+        (next_of S.incoming) question.now places.now told socket.old socket.new) }
     ensures told { IfOk result (λ reply. IfSome reply IsFinal) }
     ensures unchanged { OnErr result (socket.new ≡ socket.old) }
     ensures only { IfErr result (λ f. f ≡ ProgramFault.NoMemory) }
 {
-    match ports {
-        [] => exchange_in_turn(alloc, socket, question, &[question.port], ALONE),
-        ports => exchange_in_turn(alloc, socket, question, ports, EACH),
+    match places {
+        [] => exchange_in_turn(alloc, socket, question, &[question.place()], ALONE),
+        places => exchange_in_turn(alloc, socket, question, places, EACH),
     }
 }
 
@@ -277,7 +285,7 @@ fn ask_and_write<S: DatagramSocket, W: Write>(
     alloc: Global,
     socket: &mut S,
     question: &Question,
-    ports: &[Port],
+    places: &[Place],
     out: &mut W,
 ) -> Result<bool, ProgramFault>
     // Whether it fails or not, it has sent nothing but that request.
@@ -285,23 +293,23 @@ fn ask_and_write<S: DatagramSocket, W: Write>(
     // It learned the fate exactly if the exchange got a reply.
     ensures told { S.is_observable
         → IfOk result (λ is_told. Comes S.sent S.failures
-        (next_of S.incoming) question.now ports.now is_told socket.old socket.new) }
+        (next_of S.incoming) question.now places.now is_told socket.old socket.new) }
     ensures only { IfErr result (λ f. (f ≡ ProgramFault.NoMemory) ⊎ (f ≡ ProgramFault.Write)) }
 {
-    let reply = exchange(alloc, socket, question, ports)?;
+    let reply = exchange(alloc, socket, question, places)?;
     match (write_reply(reply, out), out.flush()) {
         (Ok(is_told), Ok(())) => Ok(is_told),
         _ => Err(ProgramFault::Write),
     }
 }
 
-/// Asks the question's port, or these ports in turn if there are any, and prints the reply. Returns status 0, or 1
+/// Asks at the question's place, or at these in turn if there are any, and prints the reply. Returns status 0, or 1
 /// after printing `no answer` or writing a fault to standard error.
 pub fn ask<S: DatagramSocket, W: Write, E: Write>(
     alloc: Global,
     socket: &mut S,
     question: &Question,
-    ports: &[Port],
+    places: &[Place],
     out: &mut W,
     err: &mut E,
 ) -> u8
@@ -310,10 +318,10 @@ pub fn ask<S: DatagramSocket, W: Write, E: Write>(
     ensures same { S.is_observable → SendsOnly question.now (S.sent socket.old) (S.sent socket.new) }
     // Status 0 only if it has sent the request and learned its fate.
     ensures asked { S.is_observable → result ≡ 0
-        → (reply : ReplyValue) × AsksInTurn S.sent S.failures (next_of S.incoming) question.now ports.now
+        → (reply : ReplyValue) × AsksInTurn S.sent S.failures (next_of S.incoming) question.now places.now
         (Some reply) socket.old socket.new }
 {
-    match ask_and_write(alloc, socket, question, ports, out) {
+    match ask_and_write(alloc, socket, question, places, out) {
         Ok(true) => 0,
         Ok(false) => 1,
         Err(fault) => fault.write_to(err),

@@ -7,8 +7,14 @@ use Rattle.std.proofs.lemmas.List.{drop_at}
 use Rattle.std.proofs.lemmas.List.Elements.{Contains-append_left, Contains-append_right, Contains-append_cases}
 use Rattle.std.proofs.lemmas.List.Elements.{Contains-push, Contains-push_cases}
 use Rattle.std.specs.List.{AllByRecursion}
+use Rattle.std.specs.Prelude.{nat_eq, ◌==◌}
+use Rattle.std.specs.Cmp.Lexicographic.{pointwise}
 use Rattle.std.specs.declared.net.socket_addr.SocketAddr.{SocketAddr}
 use Rattle.lk_types.specs.declared.genesis.Genesis.{Genesis}
+use Rattle.lk_types.specs.declared.member.Member.{Member}
+use Rattle.lk_hearing.specs.Probes.{having_begun, is_round_due}
+use Rattle.lk_pacing.specs.declared.pace.Pace.{Pace}
+use Rattle.lk_pacing.specs.declared.pace.Pace.TheVariants.{Datagrams, Clock}
 use Rattle.lk_messages.specs.Grammar.{Spells}
 use Rattle.lk_messages.specs.declared.message.Message.{Message}
 use Rattle.lk_node_interface.specs.Letters.{LetterValue, batch_of, datagram_of}
@@ -27,13 +33,15 @@ use Rattle.lk_replica.specs.ReplicaValue.{ReplicaValue}
 use Rattle.lk_transport.specs.Addresses.{AddressBook, Filter, filter_of}
 use Rattle.lk_transport.specs.Askers.{asker, frame_for, keys_to, Replies, SendsTo}
 use Rattle.lk_transport.specs.Inquiring.{SendsProbe, question_by}
-use Rattle.lk_transport.specs.Posts.{SendState, Becomes, Loses, frame_of, carried, all_filtered, is_filtered_out}
-use Rattle.lk_transport.specs.Posts.{is_probe_or_report}
+use Rattle.lk_transport.specs.Listening.{HearsIf, HearsKept, ProbesAt, ProbesOther, ProbesMembers, ProbesIf}
+use Rattle.lk_transport.specs.Listening.{SendsSealedProbe, member_probe}
+use Rattle.lk_transport.specs.Posts.{SendState, Becomes, Loses, frame_of, keys_for, carried, all_filtered}
+use Rattle.lk_transport.specs.Posts.{is_filtered_out, is_probe_or_report}
 use Rattle.lk_transport.specs.declared.received_probe.ReceivedProbe.{ReceivedProbe}
 use Rattle.lk_server.specs.Premises.{IsNoNodeMessage}
-use Rattle.lk_server.specs.ProbeHandling.{HandlesProbes}
+use Rattle.lk_server.specs.ProbeHandling.{HandlesProbes, ListensFor}
 use Rattle.lk_server.specs.Probes.{RepliesToKept}
-use Rattle.lk_server.specs.Servers.{ServerValue, Turn, LastTurn, IsIdle, send_state_at}
+use Rattle.lk_server.specs.Servers.{ServerValue, Turn, LastTurn, IsIdle, periods, send_state_at}
 use Rattle.lk_server_replica.specs.Showing.{IsShown}
 use Rattle.lk_node_process.specs.Turns.{DoesTurnWith, letters_in}
 use Rattle.lk_sim_nodes.specs.declared.seat.Life.{Life}
@@ -167,7 +175,7 @@ module _ (observable : Type 0) (shown : observable) where
   reply_posts letters None old new none same =
       posts_none letters old.sent new.sent (ap (λ (s : ServerValue ReplicaValue). s.sent) same)
   reply_posts letters (Some a) old new none r =
-      beside_posts letters a.from (frame_for old.addresses.seals (asker a.probe) r.bytes)
+      beside_posts letters r.address (frame_for old.addresses.seals (asker a.probe) r.bytes)
       (keys_to old.addresses.seals (asker a.probe)) (send_state_at old.loopback old) (send_state_at new.loopback new)
       (subst IsNoNodeMessage (sym (report_is old.addresses.seals none (asker a.probe) r.bytes))
       (report_is_none r.reports.report r.bytes r.reports.spelled)) r.replies
@@ -179,14 +187,90 @@ module _ (observable : Type 0) (shown : observable) where
   question_posts letters p (Some address) old new sends =
       beside_posts letters address sends.0 [] old new (probe_is_none p sends.0 sends.1) sends.2
 
+  -- probes to the members
+
+  sealed_probe_posts : (letters : List LetterValue) (s : Seals) (none : HasNoKey s) (to : To) (p : Probe)
+      (address : SocketAddr) (old new : SendState) → SendsSealedProbe observable s to p address old new
+      → PostsOnly letters old.sent new.sent
+  sealed_probe_posts letters s none to p address old new sends =
+      beside_posts letters address (frame_of s to sends.0) (keys_for s to) old new
+      (subst IsNoNodeMessage (sym (frame_is s none to sends.0)) (probe_is_none p sends.0 sends.1)) sends.2
+
+  probe_at_posts : (letters : List LetterValue) (node : ℕ) (m : Member) (token : ℕ) (address : Option SocketAddr)
+      (old new : AddressBook) (before after : SendState) → HasNoKey old.seals
+      → ProbesAt observable node m token address old new before after
+      → (new.seals ≡ old.seals) × PostsOnly letters before.sent after.sent
+  probe_at_posts letters node m token None old new before after none p = (
+    ap (λ (b : AddressBook). b.seals) p.0,
+    posts_none letters before.sent after.sent (ap (λ (s : SendState). s.sent) p.1),
+  )
+  probe_at_posts letters node m token (Some address) old new before after none p = (
+    ap (λ (b : AddressBook). b.seals) p.0,
+    sealed_probe_posts letters old.seals none (Node m.node m.port) (member_probe old.seals node token) address before
+        after p.1,
+  )
+
+  member_posts : (letters : List LetterValue) (is_own : Bool) (node : ℕ) (m : Member) (token : ℕ)
+      (old new : AddressBook) (before after : SendState) → HasNoKey old.seals
+      → ProbesOther is_own observable node m token old new before after
+      → (new.seals ≡ old.seals) × PostsOnly letters before.sent after.sent
+  member_posts letters true node m token old new before after none p = (
+    ap (λ (b : AddressBook). b.seals) p.0,
+    posts_none letters before.sent after.sent (ap (λ (s : SendState). s.sent) p.1),
+  )
+  member_posts letters false node m token old new before after none p =
+      probe_at_posts letters node m token p.0 old new before after none p.2
+
+  members_posts : (letters : List LetterValue) (node : ℕ) (ms : List Member) (old new : AddressBook)
+      (before after : SendState) → HasNoKey old.seals → ProbesMembers observable node ms old new before after
+      → PostsOnly letters before.sent after.sent
+  members_posts letters node [] old new before after none p =
+      posts_none letters before.sent after.sent (ap (λ (s : SendState). s.sent) p.1)
+  members_posts letters node (m ∷ ms) old new before after none p =
+      let one = member_posts letters (m.node == node) node m p.0 old p.1 before p.2 none p.3 in
+      posts_both letters before.sent p.2.sent after.sent one.1
+      (members_posts letters node ms p.1 new p.2 after (subst HasNoKey (sym one.0) none) p.4)
+
+  round_posts : (letters : List LetterValue) (is_due : Bool) (node now : ℕ) (ms : List Member) (old new : AddressBook)
+      (before after : SendState) → HasNoKey old.seals → ProbesIf is_due observable node now ms old new before after
+      → PostsOnly letters before.sent after.sent
+  round_posts letters true node now ms old new before after none p =
+      members_posts letters node ms (record old { hearing = having_begun now old.hearing }) new before after none p
+  round_posts letters false node now ms old new before after none p =
+      posts_none letters before.sent after.sent (ap (λ (s : SendState). s.sent) p.1)
+
+  -- what is heard changes no key
+  heard_if : (is : Bool) (now : ℕ) (r : Reported) (old new : AddressBook) → HearsIf is now r old new
+      → new.seals ≡ old.seals
+  heard_if true now r old new h = ap (λ (b : AddressBook). b.seals) h
+  heard_if false now r old new h = ap (λ (b : AddressBook). b.seals) h
+
+  heard_keys : (now : ℕ) (r : Option Reported) (old new : AddressBook) → HearsKept now r old new
+      → new.seals ≡ old.seals
+  heard_keys now None old new h = ap (λ (b : AddressBook). b.seals) h
+  heard_keys now (Some r) old new h = heard_if (pointwise nat_eq r.reporter.genesis old.seals.genesis) now r old new h
+
+  listens_posts : (letters : List LetterValue) (told : Option Reported) (old : ServerValue ReplicaValue)
+      (book new : AddressBook) (before after : SendState) (pace : Pace) → HasNoKey book.seals
+      → ListensFor IsShown observable told old book new before after pace → PostsOnly letters before.sent after.sent
+  listens_posts letters told old book new before after Datagrams none l =
+      posts_none letters before.sent after.sent (ap (λ (s : SendState). s.sent) l.1)
+  listens_posts letters told old book new before after Clock none l =
+      round_posts letters (is_round_due (periods old) l.2.heard.hearing) old.node (periods old) l.0.members l.2.heard
+      l.2.probed before after
+      (subst HasNoKey (sym (heard_keys (periods old) told book l.2.heard l.2.hears)) none) l.2.probes
+
   handled_posts : (letters : List LetterValue) (asked : Option ReceivedProbe) (told : Option Reported)
       (old new : ServerValue ReplicaValue) → HasNoKey old.addresses.seals
       → HandlesProbes IsShown observable asked told old new → PostsOnly letters old.sent new.sent
   handled_posts letters asked told old new none h =
       posts_both letters old.sent h.replied.sent new.sent
       (reply_posts letters asked old h.replied none h.replies)
+      (posts_both letters h.replied.sent h.between.sent new.sent
       (question_posts letters (question_by h.learned.seals old.node) h.asks.address
-      (send_state_at h.replied.loopback h.replied) (send_state_at new.loopback new) h.asks.sends)
+      (send_state_at h.replied.loopback h.replied) h.between h.asks.sends)
+      (listens_posts letters told old h.questioned new.addresses h.between (send_state_at new.loopback new) old.pace
+      (subst HasNoKey (sym h.keys) none) h.listens))
 
   -- ---- a turn
 

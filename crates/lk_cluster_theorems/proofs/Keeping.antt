@@ -259,13 +259,15 @@ module _ (old : Cluster) (w : IsSound old) where
         room = λ d is. absurd (cc is);
       })
 
--- a server as another one, but for what it knows of other addresses, what has come to its socket and was sent by it
+-- a server as another one, but for what it knows of other addresses, what has come to its socket and was sent by it,
+-- and which ticks it has withheld
 abbrev at_rest : ServerValue ReplicaValue → ServerValue ReplicaValue → ServerValue ReplicaValue
 at_rest server after = record after {
   addresses = server.addresses;
   incoming = server.incoming;
   sent = server.sent;
   socket_failures = server.socket_failures;
+  withheld = server.withheld;
 }
 
 -- by an idle turn and beside the protocol nothing else changes

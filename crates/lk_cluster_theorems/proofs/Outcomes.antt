@@ -10,7 +10,7 @@ use Rattle.lk_node.specs.Histories.{Genesis}
 use Rattle.lk_node.specs.Leavings.{header_of}
 use Rattle.lk_replica.specs.ReplicaValue.{ReplicaValue}
 use Rattle.lk_server.specs.Servers.{ServerValue}
-use Rattle.lk_transport.specs.declared.fault.ProgramFault.{ProgramFault}
+use Rattle.lk_program_fault.specs.declared.fault.ProgramFault.{ProgramFault}
 use Rattle.lk_node_process.specs.Revivals.{IsRefusedWith, StartsOn, Surroundings}
 use Rattle.lk_node_process.specs.Turns.{RunsTurns, EndsEarly, EndsEarlyByStranger}
 use Rattle.lk_sim_nodes.specs.declared.seat.Life.{Life}

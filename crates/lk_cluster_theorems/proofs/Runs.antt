@@ -6,7 +6,7 @@ use Rattle.lk_disk.specs.declared.device.Side.{Side}
 use Rattle.lk_memory_disk.specs.Memory.{Memory, disk_of}
 use Rattle.lk_replica.specs.ReplicaValue.{ReplicaValue}
 use Rattle.lk_server.specs.Servers.{ServerValue}
-use Rattle.lk_transport.specs.declared.fault.ProgramFault.{ProgramFault}
+use Rattle.lk_program_fault.specs.declared.fault.ProgramFault.{ProgramFault}
 use Rattle.lk_transport.specs.Chains.{Chain}
 use Rattle.lk_node_process.specs.Revivals.{Surroundings}
 use Rattle.lk_node_process.specs.Turns.{DoesTurn}

@@ -30,6 +30,7 @@ module _ {R : Type 0} (S T : R → List (Option (List ℕ)) → List LetterValue
     hands_on = hands_so observable t.given _ old new t.hands_on;
     counted = t.counted;
     ticks = t.ticks;
+    withholds = t.withholds;
     heard = t.heard;
     same = t.same;
     alive = t.alive;

@@ -11,7 +11,7 @@ use Rattle.lk_node.specs.Histories.{Genesis}
 use Rattle.lk_node.specs.Leavings.{header_of}
 use Rattle.lk_replica.specs.ReplicaValue.{ReplicaValue}
 use Rattle.lk_server.specs.Servers.{ServerValue}
-use Rattle.lk_transport.specs.declared.fault.ProgramFault.{ProgramFault}
+use Rattle.lk_program_fault.specs.declared.fault.ProgramFault.{ProgramFault}
 use Rattle.lk_node_process.specs.Revivals.{IsServerStarted, IsRefusedWith, StaysDown}
 use Rattle.lk_sim.specs.Networks.{RestsBy}
 use Rattle.lk_cluster_theorems.specs.Clusters.{HasStarted}

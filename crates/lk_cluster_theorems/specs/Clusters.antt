@@ -141,8 +141,8 @@ pub record Starts (old new : Cluster) : Type 0 where
 
 -- a node that is up takes an idle turn, or handles probes: its replica is given nothing, and nothing is given to be
 -- sent as a datagram of the node. Only what it knows of the nodes at other addresses, what is to come to its socket,
--- what that has sent, and how many of its sends have failed may be another. `observable` says that the sockets tell
--- that
+-- what that has sent, how many of its sends have failed, and how many ticks were withheld may be another. `observable`
+-- says that the sockets tell that
 pub record Idles (observable : Type 0) (old new : Cluster) : Type 0 where
   pub node : Node
   pub next : Node

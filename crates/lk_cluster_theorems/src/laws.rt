@@ -20,7 +20,7 @@ ghost use Rattle.lk_replica.specs.ReplicaValue.{ReplicaValue};
 ghost use Rattle.lk_transport.specs.Addresses.{filter_of};
 ghost use Rattle.lk_transport.specs.Posts.{all_filtered};
 ghost use Rattle.lk_server.specs.Servers.{ServerValue, Turn, LastTurn, IsIdle};
-ghost use Rattle.lk_transport.specs.declared.fault.ProgramFault.{ProgramFault};
+ghost use Rattle.lk_program_fault.specs.declared.fault.ProgramFault.{ProgramFault};
 ghost use Rattle.lk_transport.specs.Chains.{Chain};
 ghost use Rattle.lk_node_process.specs.Revivals.{IsRestartRefused, IsRefusedWith, Surroundings};
 ghost use Rattle.lk_node_process.specs.Turns.{DoesTurn, TellsFailure};

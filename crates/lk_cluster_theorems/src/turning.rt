@@ -38,7 +38,7 @@ pub fn run_turn<D: LogDisk + Drop, S: DatagramSocket + Drop, C: Clock, L: Log>(
     ensures turn { D.is_honest
         → OnOk result ((frames : List (Address × List ℕ)) × HasReceived S.is_observable frames server.old server.new
         × TurnOrIdle (Says D.is_metered) S.is_observable frames server.old server.new
-        × KeepsOf server.old.node server.old.addresses.seals frames buffer.old buffer.new) }
+        × KeepsOf server.old.addresses.seals frames buffer.old buffer.new) }
     ensures ends { D.is_honest
         → OnErr result ((frames : List (Address × List ℕ)) × HasReceived S.is_observable frames server.old server.new
         × LastTurn (Says D.is_metered) S.is_observable

@@ -2,3 +2,4 @@ pub mod Arguments
 pub mod Spellings
 pub mod Questions
 pub mod StatusPlans
+pub mod Targets

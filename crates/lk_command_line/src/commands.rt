@@ -3,8 +3,9 @@
 use clap::{Arg, ArgAction, Command};
 use std::alloc::{AllocError, Global};
 
-// The version of the package, and the format of the stores that it writes.
-const VERSION: &str = "0.1.0, stores of format 2";
+// The version of the package, the format of the stores that it writes, and the kit with which it is proved, as `rt
+// version` names it (`tools/quick_check.py` compares its name with the README's).
+const VERSION: &str = "0.1.0, stores of format 2, rattle-kit-13b logic dac8208d650f15bf";
 
 // How an argument is given.
 #[derive(Clone, Copy)]
@@ -42,6 +43,7 @@ const SUBCOMMANDS: &[Usage] = &[
         (Kind::Word, "start", "the seed of the events"),
         (Kind::Word, "events", "how many events, 0 to 20000"),
         (Kind::Flag, "groups", "nodes also take several datagrams as one group"),
+        (Kind::Flag, "nudges", "nodes are also nudged, in place of one in four ticks"),
         (Kind::Flag, "script", "prints a script of what happens, for sim"),
     ]),
     ("node", "runs a node on the files of a folder and a UDP port", &[
@@ -49,24 +51,33 @@ const SUBCOMMANDS: &[Usage] = &[
         (Kind::Word, "number", "the number of the node"),
         (Kind::Word, "port", "the UDP port of the node"),
         (Kind::Word, "dir", "the folder of its files"),
+        (Kind::Flag, "existing", "begins no store: ends if the folder has none"),
         (Kind::Given, "hosts", "a file of lines NODE ADDRESS: where each node lives"),
         (Kind::Given, "bind",
             "the address at which the node listens; by default that of its line in the hosts, or 127.0.0.1"),
         (Kind::Given, "key", "the file of the key that the nodes share"),
         (Kind::Given, "client-key", "the file of the master from which the clients' keys are derived"),
         (Kind::Given, "ticks", "what ticks go by: datagrams, or clock (each 100 ms; always with a key)"),
+        (Kind::Flag, "bundle", "sends a node what goes to it at once in one UDP payload; older nodes drop that"),
         (Kind::Flag, "events", "writes leaders, members, snapshots and faults to standard error, with the time"),
         (Kind::Flag, "log", "writes each position that is counted or executed to standard error"),
         (Kind::Flag, "verbose", "writes what --log does, and what else happens to the node"),
     ]),
+    ("init", "begins the store of a node in a folder that has none", &[
+        (Kind::Word, "genesis", "CLUSTER,ALPHA,NODE:PORT,.."),
+        (Kind::Word, "number", "the number of the node"),
+        (Kind::Word, "dir", "the folder of its files"),
+    ]),
     ("ask", "sends a request to a node, and prints the reply", &[
         (Kind::Word, "cluster", "the number of the cluster"),
-        (Kind::Several, "port", "the port of a node; with several, the next one is asked if no reply comes"),
-        (Kind::Given, "address", "the address of the node asked first; 127.0.0.1 by default"),
+        (Kind::Several, "port",
+            "PORT or NODE:PORT of a node; with several, the next one is asked if no reply comes"),
+        (Kind::Given, "address", "the address of the nodes that the hosts do not name; 127.0.0.1 by default"),
         (Kind::Given, "hosts", "a file of lines NODE ADDRESS: where each node lives"),
         (Kind::Given, "client-key", "the file of the client's key"),
         (Kind::Word, "client", "the number of the client, 1 to 256"),
         (Kind::Word, "request", "the number of the request, higher each time"),
+        (Kind::Flag, "force", "sends a join or leave without a look at whether a majority will have caught up"),
         (Kind::Words, "op",
             "acquire NAME, release NAME FENCE, ask NAME, check NAME FENCE, share NAME, break NAME FENCE, join NODE PORT, leave NODE, raise 2 or raw HEX"),
     ]),
@@ -89,6 +100,7 @@ const SUBCOMMANDS: &[Usage] = &[
     ]),
     ("inspect", "prints the members, the locks and the position of a folder's store", &[
         (Kind::Word, "dir", "the folder of a node's files"),
+        (Kind::Flag, "all", "prints the names that are free too, each with its last fence"),
     ]),
     ("client-key", "prints the key of a client", &[
         (Kind::Word, "master", "the file of the master from which the clients' keys are derived"),

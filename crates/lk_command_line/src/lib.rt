@@ -6,4 +6,5 @@ pub mod asking;
 pub mod commands;
 pub mod operation;
 pub mod status_plan;
+pub mod targets;
 pub mod values;

@@ -10,12 +10,13 @@ ghost use Rattle.lk_command_line.specs.StatusPlans.{IsAsker, IsNoTime, IsTime, I
 ghost use Rattle.lk_command_line.specs.StatusPlans.{IsPatience, IsPatienceOf, IsWait, receives_of};
 
 use crate::argument_error::{ArgumentError, invalid_word};
+use crate::targets::targets_in;
 use crate::values::{number_in, read_client, read_number_up_to};
 use clap::ArgMatches;
 use lk_client::destination::Destination;
-use lk_status::target::{Inquiry, Target, targets_of};
+use lk_program_fault::ProgramFault;
+use lk_status::target::{Inquiry, Target};
 use lk_status_command::status::{Form, Plan};
-use lk_transport::fault::ProgramFault;
 use lk_types::ClientNo;
 use lk_word_parsers::number::read_number;
 use std::alloc::Global;
@@ -164,35 +165,13 @@ fn plan_of<'a>(matches: &ArgMatches<'a>, targets: Vec<Target>) -> Result<Plan, A
     })
 }
 
-// Returns the error of the first of these words that is neither `PORT` nor `NODE:PORT`. If there is none, there are too
-// many words.
-fn invalid_targets<'a>(alloc: Global, words: &[&'a str]) -> Result<ArgumentError<'a>, ProgramFault>
-    ensures { IfOk result (λ e. e.argument.now ≡ codes "port") }
-{
-    for word in words {
-        if targets_of(alloc, &[*word])?.is_none() {
-            return Ok(ArgumentError {
-                argument: "port",
-                value: *word,
-                wanted: "must be PORT or NODE:PORT",
-            });
-        }
-    }
-    Ok(ArgumentError {
-        argument: "port",
-        value: words.last().copied().unwrap_or(""),
-        wanted: "at most 64 nodes can be asked",
-    })
-}
-
 /// Returns the plan of `locks status`. The inner error is that of an invalid argument, the outer one out of memory.
 pub fn status_plan<'a>(
     alloc: Global,
     matches: &ArgMatches<'a>,
 ) -> Result<Result<Plan, ArgumentError<'a>>, ProgramFault> {
-    let words = matches.get_strs("port").unwrap_or(&[]);
-    match targets_of(alloc, words)? {
-        Some(targets) => Ok(plan_of(matches, targets)),
-        None => Ok(Err(invalid_targets(alloc, words)?)),
+    match targets_in(alloc, matches)? {
+        Ok(targets) => Ok(plan_of(matches, targets)),
+        Err(error) => Ok(Err(error)),
     }
 }

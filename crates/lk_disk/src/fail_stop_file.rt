@@ -14,6 +14,8 @@ pub(crate) struct FailStopFile<F: AppendFile + Drop> {
     file: F,
     // the number of its bytes, if it is known
     length: Option<usize>,
+    // it was cut to 0 bytes and synced, and nothing was appended since
+    is_cleared: bool,
     failed: bool,
 }
 
@@ -48,6 +50,7 @@ impl<F: AppendFile + Drop> FailStopFile<F> {
         FailStopFile {
             file,
             length: None,
+            is_cleared: false,
             failed: false,
         }
     }
@@ -130,6 +133,7 @@ impl<F: AppendFile + Drop> FailStopFile<F> {
         ensures cause { IsCaused self.old self.new result }
     {
         let length = self.check_call()?;
+        self.is_cleared = false;
         self.file.append(piece)?;
         self.end(lengthened(length, piece.len()));
         Ok(())
@@ -159,7 +163,8 @@ impl<F: AppendFile + Drop> FailStopFile<F> {
     }
 
     /// Cuts the file to this many bytes and syncs it. Past the end it fails and changes nothing. If the shorten or the
-    /// sync fails, it leaves a prefix of the file, and the file rejects every later call.
+    /// sync fails, it leaves a prefix of the file, and the file rejects every later call. A file that it has cut to 0,
+    /// and that has got no bytes since, is not shortened and synced again.
     pub fn cut(&mut self, len: usize) -> Result<(), FileFault>
         ensures ok { F.is_honest → OnOk result (left_of self.new.file ≡ cut_to len (left_of self.old.file)) }
         ensures within { F.is_honest → OnOk result (len ≤ length (contents (left_of self.old.file))) }
@@ -168,13 +173,18 @@ impl<F: AppendFile + Drop> FailStopFile<F> {
             → left_of self.new.file ≡ left_of self.old.file }
         ensures cause { IsCutCaused F.is_honest len self.old self.new result }
     {
-        if self.length()? < len {
+        let length = self.length()?;
+        if length < len {
             return Err(FileFault);
+        }
+        if length == 0 && self.is_cleared {
+            return Ok(());
         }
         self.check_call()?;
         self.file.shorten(len)?;
         self.file.sync()?;
         self.end(Some(len));
+        self.is_cleared = len == 0;
         Ok(())
     }
 }

@@ -10,7 +10,7 @@ use Rattle.lk_log.specs.declared.reopening.LiveFile.{LiveFile}
 use Rattle.lk_types.proofs.Appending.{appends_more}
 use Rattle.lk_inspect.specs.Dumps.{number_line, promised_line, live_text, found_text, Dumps}
 
-appends_kept : (a b c : Option (List ℕ)) (x : List ℕ) → Appends a b x → Keeps b c → Appends a c x
+pub appends_kept : (a b c : Option (List ℕ)) (x : List ℕ) → Appends a b x → Keeps b c → Appends a c x
 appends_kept None b c x f g = tt
 appends_kept (Some xs) None c x f g = absurd f
 appends_kept (Some xs) (Some ys) None x f g = absurd g

@@ -1,2 +1,3 @@
 mod Standing
 mod Dumping
+mod Writing

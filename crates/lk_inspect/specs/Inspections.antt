@@ -12,19 +12,17 @@ use Rattle.lk_members.specs.Windows.{sets_from}
 use Rattle.lk_state.specs.Packed.{Packs}
 use Rattle.lk_state.specs.States.{WholeValue, whole_after, sessions_of}
 use Rattle.lk_recovery.specs.Revivals.{run_from}
-use Rattle.lk_locks.specs.Held.{held_in}
 use Rattle.lk_locks.specs.Lists.{table_of}
 use Rattle.lk_locks.specs.Meaning.{table_meaning}
 use Rattle.lk_locks.specs.Packed.{IsTableText}
 use Rattle.lk_inspect.specs.declared.inspection.Inspection.{Inspection}
 
--- the length of the list, the members of the next positions, the names of its plain table and the held ones, and how
+-- the length of the list, the members of the next positions, the names of its plain table with their slots, and how
 -- many clients have had a request executed
 pub record DescribesList (genesis : Genesis) (L : List Command) (i : Inspection) : Type 0 where
   pub executed : i.executed ≡ length L
   pub members : i.window ≡ sets_from genesis L (length L + 1) genesis.alpha
-  pub names : i.names ≡ map.len (table_of L).names
-  pub held : i.held.items ≡ held_in (map.entries (table_of L).names)
+  pub names : i.names.items ≡ map.entries (table_of L).names
   pub clients : i.clients ≡ length (sessions_of table_meaning genesis L)
 
 -- the snapshot of the standing packs no state at its position

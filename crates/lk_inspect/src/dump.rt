@@ -10,7 +10,7 @@ use lk_disk::LogDisk;
 use lk_log::{LiveFile, look};
 use lk_node_files::folder::look_at_device;
 use lk_node_files::refusals::write_refusal;
-use lk_transport::fault::ProgramFault;
+use lk_program_fault::ProgramFault;
 use lk_types::Ballot;
 use std::alloc::Global;
 use std::fs::Files;

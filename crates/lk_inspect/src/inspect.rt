@@ -1,28 +1,38 @@
-//! `locks inspect`: prints the state that the commands of a store lead to: members, progress and held names.
+//! `locks inspect`: prints the state that the commands of a store lead to: members, progress and names.
 
-ghost use Rattle.std.specs.Prelude.{◌≡◌, ◌≤◌, is_some, IfOk, IsErrOf};
+ghost use Rattle.std.specs.Io.KnownBytes.{Appends};
+ghost use Rattle.std.specs.Option.{option_copied};
+ghost use Rattle.std.specs.Prelude.{◌≡◌, ◌≤◌, is_some, IfOk, OnOk, IsErrOf};
 ghost use Rattle.lk_disk.specs.declared.device.Side.{Side};
 ghost use Rattle.lk_log.specs.Images.{seen};
 ghost use Rattle.lk_inspect.specs.Inspections.{Finds, IsSpoilt};
+ghost use Rattle.lk_inspect.specs.Lines.{state_text};
 
 use crate::inspection::{Inspection, inspected};
-use crate::lines::write_inspection;
+use crate::lines::{Listing, write_inspection};
 use lk_disk::LogDisk;
 use lk_log::look;
 use lk_node_files::folder::look_at_device;
 use lk_node_files::refusals::write_refusal;
-use lk_transport::fault::ProgramFault;
+use lk_program_fault::ProgramFault;
 use std::alloc::Global;
 use std::fs::Files;
 use std::io;
 use std::io::Write;
 
 /// Writes the summary of a store's state, or `no store`, and flushes. Returns whether there is a store.
-pub fn write_found<W: Write>(found: Option<&Inspection>, out: &mut W) -> io::Result<bool>
-    ensures { IfOk result (λ is_store. is_store ≡ is_some found.entry) }
+#[tactic(auto, using(crate::proofs::Dumping::appends_kept))]
+pub fn write_found<W: Write>(
+    found: Option<&Inspection>,
+    listing: Listing,
+    out: &mut W,
+) -> io::Result<bool>
+    ensures text { OnOk result (Appends (W.contents out.old) (W.contents out.new)
+        (state_text listing (option_copied found.entry))) }
+    ensures value { IfOk result (λ is_store. is_store ≡ is_some found.entry) }
 {
     match found {
-        Some(inspection) => write_inspection(inspection, out)?,
+        Some(inspection) => write_inspection(inspection, listing, out)?,
         None => out.write_all(b"no store\n")?,
     }
     out.flush()?;
@@ -65,25 +75,27 @@ fn inspect_folder<R: Files, W: Write, E: Write>(
     rt: &R,
     alloc: Global,
     folder: &str,
+    listing: Listing,
     out: &mut W,
     err: &mut E,
 ) -> Result<bool, ProgramFault> {
     let found = inspection_in(rt, alloc, folder, err)?;
-    write_found(found.as_ref(), out).map_err(|_| ProgramFault::Write)
+    write_found(found.as_ref(), listing, out).map_err(|_| ProgramFault::Write)
 }
 
-/// Prints the summary for the store in a folder, even while a node runs on it. Returns status 0, or 1 if there is
-/// no store, which it prints as `no store`, or after an error message.
+/// Prints the summary for the store in a folder, even while a node runs on it, with the names that the listing says.
+/// Returns status 0, or 1 if there is no store, which it prints as `no store`, or after an error message.
 pub fn inspect<R: Files, W: Write, E: Write>(
     rt: &R,
     alloc: Global,
     folder: &str,
+    listing: Listing,
     out: &mut W,
     err: &mut E,
 ) -> u8
     ensures { result ≤ 1 }
 {
-    match inspect_folder(rt, alloc, folder, out, err) {
+    match inspect_folder(rt, alloc, folder, listing, out, err) {
         Ok(true) => 0,
         Ok(false) => 1,
         Err(fault) => fault.write_to(err),

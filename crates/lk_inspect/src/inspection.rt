@@ -15,8 +15,8 @@ ghost use Rattle.lk_inspect.specs.Inspections.{PacksNoState, DescribesList};
 use crate::state::state_of;
 use lk_locks::{Name, Slot};
 use lk_members::Window;
+use lk_program_fault::ProgramFault;
 use lk_store_format::Standing;
-use lk_transport::fault::ProgramFault;
 use lk_types::Executed;
 use std::alloc::Global;
 
@@ -27,12 +27,10 @@ pub struct Inspection {
     pub executed: Executed,
     /// The members of the next positions.
     pub window: Window,
-    /// How many names the table has.
-    pub names: usize,
+    /// The names of the table, rising, each with its slot.
+    pub names: Vec<(Name, Slot)>,
     /// How many clients have had a request executed.
     pub clients: usize,
-    /// The held names, rising.
-    pub held: Vec<(Name, Slot)>,
 }
 
 /// Returns the summary of the state of a standing, up to the first gap in its decided commands. It fails with `Damaged`
@@ -48,12 +46,10 @@ pub fn inspected(alloc: Global, standing: &Standing) -> Result<Inspection, Progr
     let whole = state_of(alloc, standing)?;
     let table = whole.machine();
     table.facts();
-    let held = table.held(alloc)?;
     Ok(Inspection {
         executed: whole.executed(),
         window: whole.roster().window().copy(),
-        names: table.len(),
+        names: table.names(alloc)?,
         clients: whole.sessions().len(),
-        held,
     })
 }

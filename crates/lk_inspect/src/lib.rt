@@ -1,9 +1,9 @@
-//! Prints what a store holds (`locks dump`, `locks inspect`): its live file, its members, how far it is, and which
-//! names are held.
+//! Prints what a store holds (`locks dump`, `locks inspect`): its live file, its members, how far it is, and its
+//! names, with who holds them and their last fences.
 #![tactic(auto)]
 
 pub mod dump;
 pub mod inspect;
 pub mod inspection;
-mod lines;
+pub mod lines;
 mod state;

@@ -13,9 +13,9 @@ ghost use Rattle.lk_locks.specs.Packed.{IsTableText};
 ghost use Rattle.lk_inspect.specs.Inspections.{PacksNoState};
 
 use lk_locks::LockTable;
+use lk_program_fault::ProgramFault;
 use lk_state::{Ran, Whole};
 use lk_store_format::Standing;
-use lk_transport::fault::ProgramFault;
 use lk_types::{Answer, Command, NoMemory, Position};
 use std::alloc::Global;
 

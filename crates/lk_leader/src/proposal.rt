@@ -1,12 +1,10 @@
 ghost use Rattle.std.specs.Prelude.{◌≡◌, false, ◌≤◌, ◌==◌, ◌+◌, ◌<◌, ◌&&◌, nat_lt, nat_le, length, ◌↔◌, [], IsTrue};
 ghost use Rattle.std.specs.Prelude.{IfOk};
-ghost use Rattle.lk_members.specs.Effects.{Request as RequestValue};
-ghost use Rattle.lk_leader.specs.Values.{IsUnderWay};
 ghost use Rattle.lk_leader.specs.Acceptances.{members_among, unheard, HasMajority, heard, GainsMajority};
 
 use arrayvec::ArrayVec;
 use lk_members::{Roster, is_among, is_majority, nodes_of};
-use lk_types::{Command, Executed, Members, NoMemory, NodeNo, Position, Request};
+use lk_types::{Command, Members, NoMemory, NodeNo, Position};
 use std::alloc::Global;
 use std::marker::Model;
 
@@ -54,16 +52,6 @@ impl Proposal {
     {
         let (executed, position) = (roster.executed().get(), self.position.get());
         executed < position && position <= executed + roster.alpha() as u64
-    }
-
-    // Whether it proposes this request at a position that is not executed yet.
-    pub(crate) fn is_for(&self, request: &Request, executed: Executed) -> bool
-        ensures { IsTrue result ↔ ((executed < self.now.position) × (self.now.command ≡ RequestValue request.now)) }
-    {
-        match &self.command {
-            Command::Request(own) => executed.get() < self.position.get() && *own == *request,
-            Command::Noop => false,
-        }
     }
 
     // Whether a majority of the set has accepted it.
@@ -122,16 +110,4 @@ fn members_of(set: &Members, nodes: &[NodeNo]) -> ArrayVec<NodeNo, 7>
         }
     }
     among
-}
-
-/// Whether one of the proposals is of this request, at a position that is not executed yet.
-pub fn is_under_way(proposals: &[Proposal], request: &Request, executed: Executed) -> bool
-    ensures { IsTrue result ↔ IsUnderWay executed proposals.now (RequestValue request.now) }
-{
-    for proposal in proposals {
-        if proposal.is_for(request, executed) {
-            return true;
-        }
-    }
-    false
 }

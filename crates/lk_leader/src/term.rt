@@ -1,5 +1,5 @@
-ghost use Rattle.std.specs.Prelude.{◌≡◌, ℕ, ◌<◌, ◌≤◌, ◌↔◌, ◌==◌, ◌&&◌, ◌||◌, nat_le, Option, Some, None, List, length};
-ghost use Rattle.std.specs.Prelude.{IsTrue, IsSome, OnOk, OnErr, MatchOption, false, position as position_of};
+ghost use Rattle.std.specs.Prelude.{◌≡◌, ℕ, ◌+◌, ◌<◌, ◌≤◌, ◌↔◌, ◌==◌, ◌&&◌, ◌||◌, nat_le, Option, Some, None, List};
+ghost use Rattle.std.specs.Prelude.{length, IsTrue, IsSome, OnOk, OnErr, MatchOption, false, position as position_of};
 ghost use Rattle.std.specs.Option.{option_copied};
 ghost use Rattle.std.specs.List.{list_any};
 ghost use Rattle.lk_leader.specs.Terms.{begun, with_received, with_proposals, proposal_at, ProposalValue, is_promiser};
@@ -18,7 +18,7 @@ use crate::received_promise::ReceivedPromise;
 use crate::waiting::Waiting;
 use arrayvec::ArrayVec;
 use lk_members::{Roster, is_majority};
-use lk_types::{Command, Members, NoMemory, NodeNo, Position, RealBallot};
+use lk_types::{Command, Executed, Members, NoMemory, NodeNo, Position, RealBallot};
 use std::alloc::Global;
 use std::marker::Model;
 
@@ -94,7 +94,8 @@ impl Term {
             (λ i. IsNext roster.now self.now.proposals i) }
     {
         let executed = roster.executed().get();
-        for ahead in 0..roster.alpha() as u64 {
+        let taken = taken_behind(self.proposals.as_slice(), roster.executed());
+        for ahead in taken..roster.alpha() as u64 {
             let position = Position::of(executed + 1 + ahead)?;
             if self.proposal_at(position).is_none() {
                 return Some(position);
@@ -240,6 +241,20 @@ impl Term {
         let proposal = &mut self.proposals[index];
         proposal.record_accepted(node, command, set)
     }
+}
+
+// Counts positions behind the executed ones, at each of which something is proposed: all before the first free one, if
+// the proposals are in the order of their positions.
+fn taken_behind(proposals: &[Proposal], executed: Executed) -> u64
+    ensures { (j : ℕ) → executed < j → j ≤ executed + result → IsSome (proposal_at j proposals.now) }
+{
+    let mut taken = 0;
+    for proposal in proposals {
+        if proposal.position.get() == executed.get() + taken + 1 {
+            taken += 1;
+        }
+    }
+    taken
 }
 
 // Returns the members of the set that have promised with a `first` that is at most the position.

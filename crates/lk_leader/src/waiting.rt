@@ -1,11 +1,13 @@
-ghost use Rattle.std.specs.Prelude.{◌≡◌, Option, Some, None, List, [], OnOk, OnErr, MatchOption, ◌<◌, length};
-ghost use Rattle.std.specs.Prelude.{slice_get};
-ghost use Rattle.lk_leader.specs.Values.{IsFirstNew, NoneIsNew};
+ghost use Rattle.std.specs.Prelude.{◌≡◌, ◌↔◌, Option, Some, None, List, [], OnOk, OnErr, MatchOption, ◌<◌, length};
+ghost use Rattle.std.specs.Prelude.{slice_get, IsTrue};
+ghost use Rattle.lk_leader.specs.Terms.{RequestValue};
+ghost use Rattle.lk_members.specs.Effects.{Request as RequestCommand};
+ghost use Rattle.lk_leader.specs.Values.{IsFirstNew, NoneIsNew, IsUnderWay};
 ghost use Rattle.lk_leader.specs.Waits.{asked, waiting_of, number_up_to, left_by};
 
-use crate::proposal::{Proposal, is_under_way};
+use crate::proposal::Proposal;
 use indexmap::IndexMap;
-use lk_types::{ClientNo, Executed, NoMemory, Op, Request, RequestNumber};
+use lk_types::{ClientNo, Command, Executed, NoMemory, Op, Request, RequestNumber};
 use std::alloc::Global;
 use std::marker::Model;
 
@@ -26,6 +28,47 @@ impl Asked {
             number: self.number,
             op: self.op.copy(),
         }
+    }
+
+    // Whether the proposal is of this request of the client, at a position that is not executed yet.
+    fn is_proposed_by(&self, client: ClientNo, proposal: &Proposal, executed: Executed) -> bool
+        ensures { IsTrue result ↔ ((executed < proposal.now.position)
+            × (proposal.now.command
+            ≡ RequestCommand (record { client = client; number = self.now.number; op = self.now.op }))) }
+    {
+        match &proposal.command {
+            Command::Request(own) => own.client == client
+                && executed.get() < proposal.position.get()
+                && own.number == self.number
+                && own.op == self.op,
+            Command::Noop => false,
+        }
+    }
+
+    // Returns the index of a proposal of this request of the client, at a position that is not executed yet, if there
+    // is one: `near` if it is there, else the first.
+    fn place_among(
+        &self,
+        client: ClientNo,
+        proposals: &[Proposal],
+        executed: Executed,
+        near: usize,
+    ) -> Option<usize>
+        ensures { MatchOption result
+            (IsUnderWay executed proposals.now
+            (RequestCommand (record { client = client; number = self.now.number; op = self.now.op })) → ⊥)
+            (λ k. (k < length proposals.now) × IsUnderWay executed proposals.now
+            (RequestCommand (record { client = client; number = self.now.number; op = self.now.op }))) }
+    {
+        if near < proposals.len() && self.is_proposed_by(client, &proposals[near], executed) {
+            return Some(near);
+        }
+        for (index, proposal) in proposals.iter().enumerate() {
+            if self.is_proposed_by(client, proposal, executed) {
+                return Some(index);
+            }
+        }
+        None
     }
 }
 
@@ -99,6 +142,25 @@ impl Waiting {
         asked.request_of(*client)
     }
 
+    // Returns the index of a proposal by which the request at this index is under way, if it is: `near` if that is one.
+    fn place_of(
+        &self,
+        index: usize,
+        proposals: &[Proposal],
+        executed: Executed,
+        near: usize,
+    ) -> Option<usize>
+        requires { index < length self.now }
+        ensures { MatchOption result
+            ((q : RequestValue) → slice_get self.now index ≡ Some q
+            → IsUnderWay executed proposals.now (RequestCommand q) → ⊥)
+            (λ k. (k < length proposals.now) × ((q : RequestValue) → slice_get self.now index ≡ Some q
+            → IsUnderWay executed proposals.now (RequestCommand q))) }
+    {
+        let (client, asked) = self.requests.get_index(index).unwrap();
+        asked.place_among(*client, proposals, executed, near)
+    }
+
     // How many requests wait.
     pub(crate) fn len(&self) -> usize
         ensures { result ≡ length self.now }
@@ -111,11 +173,13 @@ impl Waiting {
         ensures { MatchOption result (NoneIsNew executed proposals.now self.now)
             (λ q. IsFirstNew executed proposals.now self.now q) }
     {
+        // Requests are proposed in the order in which they wait, as a rule.
+        let mut near = 0;
         for index in 0..self.len() {
-            let request = self.request_at(index);
-            if !is_under_way(proposals, &request, executed) {
-                return Some(request);
-            }
+            let Some(place) = self.place_of(index, proposals, executed, near) else {
+                return Some(self.request_at(index));
+            };
+            near = place + 1;
         }
         None
     }

@@ -15,7 +15,7 @@ use Rattle.lk_locks.specs.declared.slot.Holders.{Holders}
 use Rattle.lk_locks.specs.declared.slot.Holders.TheVariants.{Nobody, Alone, Together}
 use Rattle.lk_locks.specs.declared.slot.Slot.{Slot}
 use Rattle.lk_locks.specs.Bodies.{body_of, name_of, is_known, known}
-use Rattle.lk_locks.specs.Held.{IsFree}
+use Rattle.lk_locks.specs.Free.{IsFree}
 use Rattle.lk_locks.specs.Holders.{is_held, left_by}
 use Rattle.lk_locks.specs.Sharers.{is_among}
 use Rattle.lk_locks.specs.Plain.{Names, Table, empty, transition, answer_to, answer, given, fence_after, first_fence}

@@ -12,4 +12,4 @@ pub mod SharerLaws
 pub mod PackedLaws
 pub mod NextLaws
 pub mod Lists
-pub mod Held
+pub mod Free

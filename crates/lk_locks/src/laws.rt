@@ -12,7 +12,7 @@ ghost use Rattle.lk_locks.specs.declared.body.Body.TheVariants.{Check, Break};
 ghost use Rattle.lk_locks.specs.declared.slot.Holders.{Holders};
 ghost use Rattle.lk_locks.specs.declared.slot.Holders.TheVariants.{Nobody};
 ghost use Rattle.lk_locks.specs.Bodies.{SpellsBody, body_of, name_of};
-ghost use Rattle.lk_locks.specs.Held.{IsFree};
+ghost use Rattle.lk_locks.specs.Free.{IsFree};
 ghost use Rattle.lk_locks.specs.Holders.{is_held};
 ghost use Rattle.lk_state.specs.Meanings.{Task};
 ghost use Rattle.lk_locks.specs.Plain.{Table, answer, next};

@@ -6,7 +6,6 @@ ghost use Rattle.std.specs.FinMap as map;
 ghost use Rattle.lk_types.specs.Limits.{max_names};
 ghost use Rattle.lk_locks.specs.Bodies.{body_of, is_known, known};
 ghost use Rattle.lk_locks.specs.Holders.{is_kept};
-ghost use Rattle.lk_locks.specs.Held.{held_in};
 ghost use Rattle.lk_locks.specs.Packed.{IsTable, rise, entries, table_text};
 ghost use Rattle.lk_locks.specs.declared.slot.Slot.{Slot};
 ghost use Rattle.lk_codec.specs.Fronts.{KeepsFront};
@@ -161,17 +160,15 @@ impl LockTable {
         self.put_names(out)
     }
 
-    /// Returns the names that are held, rising, each with its slot.
-    pub fn held(&self, alloc: Global) -> Result<Vec<(Name, Slot)>, NoMemory>
-        ensures { IfOk result (λ found. found.items ≡ held_in (map.entries self.now.names)) }
+    /// Returns all names, rising, each with its slot.
+    pub fn names(&self, alloc: Global) -> Result<Vec<(Name, Slot)>, NoMemory>
+        ensures { IfOk result (λ names. names.items ≡ map.entries self.now.names) }
     {
-        let mut held = Vec::new(alloc);
+        let mut names = Vec::new(alloc);
         for (name, slot) in self.slots.iter() {
-            if slot.holders.is_held() {
-                held.push((name.copy(), slot.copy()))?;
-            }
+            names.push((name.copy(), slot.copy()))?;
         }
-        Ok(held)
+        Ok(names)
     }
 
     // Executes a body that the table knows, and returns the answer. Only a new name takes memory. An `Err` changes

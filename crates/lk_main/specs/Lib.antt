@@ -1,1 +1,4 @@
 pub mod NodeRuns
+pub mod Plans
+pub mod Subcommands
+pub mod Looks

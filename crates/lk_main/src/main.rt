@@ -1,6 +1,7 @@
 //! The program `locks`: runs its command line on the streams, files and sockets of the system.
 #![tactic(auto)]
 
+mod asking;
 mod node;
 mod plans;
 mod subcommand;

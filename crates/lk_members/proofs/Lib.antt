@@ -4,5 +4,6 @@ mod SetLaws
 mod EffectLaws
 mod MajorityLaws
 mod PortLaws
+mod AlikeLaws
 mod RosterLaws
 pub mod Memberships

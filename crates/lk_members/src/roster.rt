@@ -41,7 +41,7 @@ impl Roster {
     ghost use Rattle.lk_members.specs.Effects.{Command, RequestValue, Request, in_effect};
     ghost use Rattle.lk_members.specs.Rosters.{Genesis, Op as OpValue, Join, Leave, IsChange, members, roster_of};
     ghost use Rattle.lk_members.specs.Rosters.{roster_answer, join_answer, leave_answer, is_granted_change};
-    ghost use Rattle.lk_members.specs.Sets.{newest, are_at_most};
+    ghost use Rattle.lk_members.specs.Sets.{AreAlike, newest, are_at_most};
     ghost use Rattle.lk_members.specs.Windows.{RosterSumsUp, IsRoster, newest_roster, moved, moved_unchanged};
     ghost use Rattle.lk_members.specs.Windows.{changed_by};
     ghost use Rattle.lk_members.specs.Ports.{is_named, port_of, number_or_zero, IsNextAbove};
@@ -199,9 +199,20 @@ impl Roster {
             → is_granted_change (roster_of genesis L) (in_effect L entry) ≡ false
             → RosterSumsUp genesis (L ++ entry ∷ []) self.new }
     {
+        if self.is_alike() {
+            self.executed = self.next();
+            return;
+        }
         let set = self.newest().copy();
         let (greatest, changed) = (self.greatest(), self.changed());
         self.advance(set, greatest, changed);
+    }
+
+    // Whether all sets of the window are known to be the same.
+    fn is_alike(&self) -> bool
+        ensures { IsTrue result → (0 < length self.now.sets) × AreAlike self.now.sets }
+    {
+        self.window.is_alike()
     }
 
     // Advances by one position: drops the nearest set, appends this one, and replaces the other two parts.

@@ -26,6 +26,13 @@ pub fn is_member(set: &Members, node: NodeNo) -> bool
     set.as_slice().iter().any(|m| m.node == node)
 }
 
+/// Whether the two sets are the same.
+pub fn are_same(a: &Members, b: &Members) -> bool
+    ensures { IsTrue result → a.now ≡ b.now }
+{
+    *a == *b
+}
+
 /// Returns the port that the set gives the node, or `None` if it is not a member.
 pub fn port_in(set: &Members, node: NodeNo) -> Option<Port>
     ensures { result ≡ port_of node set.now }

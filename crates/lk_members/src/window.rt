@@ -2,10 +2,10 @@ ghost use Rattle.std.specs.Prelude.{◌≡◌, ◌+◌, ◌<◌, ◌≤◌, ◌�
 ghost use Rattle.std.specs.Prelude.{IsSome, IfSome};
 ghost use Rattle.std.specs.List.{list_all};
 ghost use Rattle.lk_members.specs.Rosters.{is_member as is_one};
-ghost use Rattle.lk_members.specs.Sets.{IsWindow, newest, are_at_most};
+ghost use Rattle.lk_members.specs.Sets.{IsWindow, AreAlike, newest, are_at_most};
 ghost use Rattle.lk_members.specs.Ports.{is_named, port_of, IsNextAbove};
 
-use crate::set::{facts_of, is_member, lesser, next_above, port_in};
+use crate::set::{are_same, facts_of, is_member, lesser, next_above, port_in};
 use arrayvec::ArrayVec;
 use lk_types::{Member, Members, NodeNo, Port};
 use std::marker::Model;
@@ -65,18 +65,21 @@ impl WindowSet {
 #[derive(Drop)]
 pub struct Window {
     sets: ArrayVec<WindowSet, 16>,
+    // all sets are the same
+    is_alike: bool,
 }
 
 impl Model for Window {
     ghost use Rattle.std.specs.Prelude.{List};
     ghost use Rattle.lk_types.specs.declared.member.Member.{Member};
-    ghost use Rattle.lk_members.specs.Sets.{IsWindow};
+    ghost use Rattle.std.specs.Prelude.{◌≡◌, true};
+    ghost use Rattle.lk_members.specs.Sets.{IsWindow, AreAlike};
 
     ghost Value = { List (List Member) };
 
     ghost view = { λ w. w.sets.items };
 
-    ghost invariant = { λ w. IsWindow w.sets.items };
+    ghost invariant = { λ w. IsWindow w.sets.items × (w.is_alike ≡ true → AreAlike w.sets.items) };
 }
 
 impl Window {
@@ -86,6 +89,7 @@ impl Window {
     {
         Window {
             sets: ArrayVec::new(),
+            is_alike: true,
         }
     }
 
@@ -112,6 +116,13 @@ impl Window {
         self.sets.is_empty()
     }
 
+    /// Whether it has a set, and all its sets are known to be the same.
+    pub fn is_alike(&self) -> bool
+        ensures { IsTrue result → (0 < length self.now) × AreAlike self.now }
+    {
+        self.is_alike && !self.is_empty()
+    }
+
     /// Whether every node of the sets is at most this number.
     pub fn is_at_most(&self, greatest: NodeNo) -> bool
         ensures { result ≡ are_at_most greatest self.now }
@@ -126,6 +137,9 @@ impl Window {
     pub fn is_named(&self, node: NodeNo) -> bool
         ensures { result ≡ is_named node self.now }
     {
+        if self.is_alike() {
+            return is_member(self.newest(), node);
+        }
         self.sets.as_slice().iter().any(|each| each.names(node))
     }
 
@@ -146,6 +160,9 @@ impl Window {
     pub fn named_above(&self, low: u32) -> Option<NodeNo>
         ensures { IsNextAbove (λ k. is_named k self.now) low result }
     {
+        if self.is_alike() {
+            return next_above(self.newest(), low);
+        }
         let mut next = None;
         for each in self.as_slice() {
             next = lesser(next, next_above(&each.set, low));
@@ -172,6 +189,7 @@ impl Window {
     {
         facts_of(&set);
         self.sets.push(WindowSet { set });
+        self.is_alike = are_alike(self.sets.as_slice());
     }
 
     /// Returns the set at this index, the nearest at 0, or `None` if the window is shorter.
@@ -198,7 +216,24 @@ impl Window {
         requires { 0 < length self.old }
         ensures { self.new ≡ drop 1 self.old ++ set ∷ [] }
     {
+        self.is_alike = false;
         self.sets.remove(0);
         self.push(set);
     }
+}
+
+// Whether all sets are the same.
+fn are_alike(sets: &[WindowSet]) -> bool
+    ensures { IsTrue result → AreAlike sets.now }
+{
+    if sets.is_empty() {
+        return true;
+    }
+    let newest = &sets[sets.len() - 1];
+    for each in sets {
+        if !are_same(&each.set, &newest.set) {
+            return false;
+        }
+    }
+    true
 }

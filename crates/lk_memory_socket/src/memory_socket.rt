@@ -5,7 +5,7 @@ ghost use Rattle.lk_memory_socket.specs.Sockets.{sent_in, coming_in};
 
 use lk_node_interface::SendFault;
 use lk_transport::socket::DatagramSocket;
-use lk_types::NoMemory;
+use lk_types::{NoMemory, NodeNo};
 use std::alloc::Global;
 use std::collections::VecDeque;
 use std::net::SocketAddr;
@@ -140,6 +140,21 @@ impl DatagramSocket for MemorySocket {
         }
     }
 
+    // Sends at once.
+    fn send_in_group(
+        &mut self,
+        _node: NodeNo,
+        to: SocketAddr,
+        bytes: &[u8],
+    ) -> Result<(), SendFault> {
+        self.send_to(to, bytes)
+    }
+
+    // Does nothing: it keeps nothing back.
+    fn flush(&mut self) -> (u64, Option<NodeNo>) {
+        (0, None)
+    }
+
     // Does nothing: a receive never waits.
     fn set_timeout(&mut self, _time: Duration) {}
 
@@ -153,6 +168,14 @@ impl DatagramSocket for MemorySocket {
     // The same as `receive`, which never waits.
     fn try_receive(&mut self, buffer: &mut [u8]) -> Option<(usize, SocketAddr)> {
         self.receive(buffer)
+    }
+
+    fn reads_bundles(&self) -> bool {
+        false
+    }
+
+    fn sends_bundles(&self) -> bool {
+        false
     }
 
     fn cause(&self) -> Option<io::Error> {

@@ -45,12 +45,14 @@ use Rattle.lk_node.specs.Histories.{History}
 use Rattle.lk_node.specs.Keeping.{IsKnown}
 use Rattle.lk_node.specs.Learning.{with_learner, Learns}
 use Rattle.lk_node.specs.NodeValue.{NodeValue}
+use Rattle.lk_node.specs.Proposed.{ProposesNothing, ProposesNothingIf}
 use Rattle.lk_node.specs.Saying.{to_node}
 use Rattle.lk_node.specs.SafeSteps.{IsSafeStep, ActsSafely}
 use Rattle.lk_node.specs.Telling.{letter_to}
 use Rattle.lk_node.specs.Yielding.{without_term}
 use Rattle.lk_node.proofs.Changing.{change_goes_on}
 use Rattle.lk_node.proofs.Decisions.{for_proposal_or_not}
+use Rattle.lk_node.proofs.HeardNothing.{heard_brings_nothing}
 use Rattle.lk_node.proofs.LearnerLaws.{Chooses, unheard}
 use Rattle.lk_node.proofs.SafeSteps.{rests_here, then_goes_on, heard_goes_on, says, notes}
 
@@ -122,6 +124,20 @@ module _ (from : ℕ) (x : Vote) (was : NodeValue) (l : LeaderValue) (o : Bool) 
             let same : with_proposals (heard_at k.set from x.position k.term.proposals) k.term ≡ t = cc kept in
             subst (λ (u : TermValue). IsAtMost u.ballot b) same (promised k.term k.current))
         | inr isnt ↦ promised t (sym (ap (λ (n : NodeValue). n.leader.term) (told_none isnt).0) ∙ is)
+      ]
+
+  -- if nothing was left to propose, nothing is
+  pub still_nothing : (b : Bool) → ProposesNothingIf b was.leader was.learner.whole.roster
+      → ProposesNothingIf b l was.learner.whole.roster
+  still_nothing false none = tt
+  still_nothing true none =
+      let roster : RosterValue = was.learner.whole.roster in
+      elim (for_proposal_or_not was x set its_members) [
+        | inl k ↦ subst (λ (q : LeaderValue). ProposesNothing q roster)
+            (sym (ap (λ (n : NodeValue). n.leader) (told_for k).0))
+            (heard_brings_nothing k.set from x.position was.leader k.term roster k.current none)
+        | inr isnt ↦ subst (λ (q : LeaderValue). ProposesNothing q roster)
+            (sym (ap (λ (n : NodeValue). n.leader) (told_none isnt).0)) none
       ]
 
 -- ---- a vote is heard

@@ -1,7 +1,7 @@
 -- A step writes few entries.
 use Rattle.std.proofs.lemmas.Bool.Decides.{nat_tests}
-use Rattle.std.proofs.Common.{true, ◌≡◌, ℕ, ◌+◌, ◌≤◌, List, [], ◌∷◌, length, Option, Some, None, refl, ap, ◌∙◌, subst}
-use Rattle.std.proofs.Common.{inl, inr, arith, length-append}
+use Rattle.std.proofs.Common.{Bool, true, ◌≡◌, ℕ, ◌+◌, ◌≤◌, List, [], ◌∷◌, length, Option, Some, None, refl, ap, ◌∙◌}
+use Rattle.std.proofs.Common.{subst, inl, inr, arith, length-append}
 use Rattle.lk_types.specs.declared.entry.Entry.{Entry}
 use Rattle.lk_types.specs.declared.vote.Vote.{Vote}
 use Rattle.lk_messages.specs.Grammar.{IsContent, IsNodeMessage}
@@ -234,11 +234,12 @@ asked_same : (node : NodeValue) (out : OutboxValue) → AsksOthers node out → 
 asked_same node out (inl asks) = ap (λ (o : OutboxValue). o.entries) asks.1.2.1
 asked_same node out (inr last) = ap (λ (o : OutboxValue). o.entries) last.1
 
-pub nudged_same : (old new : NodeValue) (out : OutboxValue) → Nudges old new out → out.entries ≡ []
-nudged_same old new out (inl asks) =
+pub nudged_same : (withheld : Bool) (old new : NodeValue) (out : OutboxValue) → Nudges withheld old new out
+    → out.entries ≡ []
+nudged_same withheld old new out (inl asks) =
     let k = asks.2 in
     proposed_same k.proposes.0 (refreshed old) new k.asked out k.proposes.1 ∙ asked_same (refreshed old) k.asked k.asks
-nudged_same old new out (inr tells) = elim tells.2 [
+nudged_same withheld old new out (inr tells) = elim tells.2 [
   | inl silent ↦ ap (λ (o : OutboxValue). o.entries) silent.1.2.1
   | inr hears ↦ ap (λ (o : OutboxValue). o.entries) hears.1
 ]
@@ -249,7 +250,7 @@ nudged_same old new out (inr tells) = elim tells.2 [
 pub few_entries : (m : Meaning) (IsText : List ℕ → Type 0) (old : NodeValue) (i : Input) (new : NodeValue)
     (out : OutboxValue) → Steps m IsText old i new out → length out.entries ≤ 16
 few_entries m IsText old input.Tick new out t = ticked_few old new out t
-few_entries m IsText old input.Nudge new out t = none_written out (nudged_same old new out t)
+few_entries m IsText old (input.Nudge withheld) new out t = none_written out (nudged_same withheld old new out t)
 few_entries m IsText old (input.Datagram bytes) new out t =
     let heard : length t.first.entries ≤ 16 = elim t.handles [
       | inl h ↦ by_content h.0.content h.1.0.1 h.3

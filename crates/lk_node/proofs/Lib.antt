@@ -11,6 +11,7 @@ mod ReplyLaws
 mod LearnerLaws
 mod ExecutionLaws
 mod Decisions
+mod HeardNothing
 mod DecidingLaws
 mod BallotLaws
 mod NearLaws

@@ -1,5 +1,5 @@
 -- A step leaves nothing open to propose: it proposes all that is, and a term that it begins has no promise yet.
-use Rattle.std.proofs.Common.{◌≡◌, ℕ, inl, inr, List, [], ◌∷◌, Some, None, refl, ap, sym, subst, ◌∙◌, arith}
+use Rattle.std.proofs.Common.{◌≡◌, ℕ, Bool, inl, inr, List, [], ◌∷◌, Some, None, refl, ap, sym, subst, ◌∙◌, arith}
 use Rattle.lk_types.specs.declared.member.Member.{Member}
 use Rattle.lk_types.specs.declared.vote.Vote.{Vote}
 use Rattle.lk_members.specs.Majorities.{IsMajority}
@@ -56,13 +56,14 @@ tick_open old new out (inl reminds) =
     last_open reminds.2.proposes.0 old new reminds.2.offered reminds.2.proposed reminds.2.proposes.1
 tick_open old new out (inr waits) = due_open (ticked old) new out waits.0 waits.1
 
-nudge_open : (old new : NodeValue) (out : OutboxValue) → Nudges old new out → NothingToPropose new
-nudge_open old new out (inl asks) =
+nudge_open : (withheld : Bool) (old new : NodeValue) (out : OutboxValue) → Nudges withheld old new out
+    → NothingToPropose new
+nudge_open withheld old new out (inl asks) =
     last_open asks.2.proposes.0 (refreshed old) new asks.2.asked out asks.2.proposes.1
-nudge_open old new out (inr tells) = subst NothingToPropose (sym tells.1) (idle_open (refreshed old) tells.0)
+nudge_open withheld old new out (inr tells) = subst NothingToPropose (sym tells.1) (idle_open (refreshed old) tells.0)
 
 pub step_open : (m : Meaning) (IsText : List ℕ → Type 0) (old : NodeValue) (i : Input) (new : NodeValue)
     (out : OutboxValue) → Steps m IsText old i new out → NothingToPropose new
 step_open m IsText old input.Tick new out k = tick_open old new out k
-step_open m IsText old input.Nudge new out k = nudge_open old new out k
+step_open m IsText old (input.Nudge withheld) new out k = nudge_open withheld old new out k
 step_open m IsText old (input.Datagram bytes) new out k = last_open k.proposes.0 k.mid new k.first out k.proposes.1

@@ -190,18 +190,19 @@ refreshed_settles node = by_test (eqb (gathered_bytes node.learner.gathered) nod
     by_test true = λ none. none
     by_test false = λ none. none
 
-nudge_settles : (old new : NodeValue) (out : OutboxValue) → Nudges old new out → LeavesNothing old new
-nudge_settles old new out (inl asks) none =
+nudge_settles : (withheld : Bool) (old new : NodeValue) (out : OutboxValue) → Nudges withheld old new out
+    → LeavesNothing old new
+nudge_settles withheld old new out (inl asks) none =
     let proposes = asks.2.proposes in
     stays (refreshed old) new (proposed_learner proposes.0 (refreshed old) new asks.2.asked out proposes.1)
     (refreshed_settles old none)
-nudge_settles old new out (inr tells) none =
+nudge_settles withheld old new out (inr tells) none =
     stays_as (refreshed old) (refreshed old) new refl tells.1 (refreshed_settles old none)
 
 pub step_leaves_nothing : (m : Meaning) (IsText : List ℕ → Type 0) (old : NodeValue) (i : Input) (new : NodeValue)
     (out : OutboxValue) → Steps m IsText old i new out → NothingToRun old → NothingToRun new
 step_leaves_nothing m IsText old input.Tick new out k none = tick_settles old new out k none
-step_leaves_nothing m IsText old input.Nudge new out k none = nudge_settles old new out k none
+step_leaves_nothing m IsText old (input.Nudge withheld) new out k none = nudge_settles withheld old new out k none
 step_leaves_nothing m IsText old (input.Datagram bytes) new out k none =
     stays k.mid new (proposed_learner k.proposes.0 k.mid new k.first out k.proposes.1)
     (bytes_settle m IsText bytes old k.mid k.first k.handles none)

@@ -485,10 +485,11 @@ refreshed_rests node = by_test (eqb (gathered_bytes node.learner.gathered) node.
     by_test true = refl
     by_test false = refl
 
-nudge_told : (old new : NodeValue) (out : OutboxValue) → Nudges old new out → StillRestoresNode old new out.entries
-nudge_told old new out k = none_told old new out.entries (nudged_same old new out k) (by_term k)
+nudge_told : (withheld : Bool) (old new : NodeValue) (out : OutboxValue) → Nudges withheld old new out
+    → StillRestoresNode old new out.entries
+nudge_told withheld old new out k = none_told old new out.entries (nudged_same withheld old new out k) (by_term k)
   where
-    by_term : Nudges old new out → Rests old new
+    by_term : Nudges withheld old new out → Rests old new
     by_term (inl asks) =
         let proposes = asks.2.proposes in
         proposed_rests proposes.0 (refreshed old) new asks.2.asked out proposes.1 ∙ refreshed_rests old
@@ -500,7 +501,7 @@ nudge_told old new out k = none_told old new out.entries (nudged_same old new ou
 pub step_told : (m : Meaning) (IsText : List ℕ → Type 0) (old : NodeValue) (i : Input) (new : NodeValue)
     (out : OutboxValue) → Steps m IsText old i new out → out.rebase ≡ false → StillRestoresNode old new out.entries
 step_told m IsText old input.Tick new out t puts = tick_told old new out t
-step_told m IsText old input.Nudge new out k puts = nudge_told old new out k
+step_told m IsText old (input.Nudge withheld) new out k puts = nudge_told withheld old new out k
 step_told m IsText old (input.Datagram bytes) new out k puts = λ ahead s t.
     let first : k.first.rebase ≡ false = sym (proposed_rebase k.proposes.0 k.mid new k.first out k.proposes.1) ∙ puts in
     told_as ahead s k.first.entries out.entries k.mid new

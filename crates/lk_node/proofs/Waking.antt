@@ -216,16 +216,17 @@ refreshed_wakes node = by_test (eqb (gathered_bytes node.learner.gathered) node.
     by_test true = refl
     by_test false = refl
 
-nudge_wakes : (old new : NodeValue) (out : OutboxValue) → Nudges old new out → Wakes old new
-nudge_wakes old new out (inl asks) =
+nudge_wakes : (withheld : Bool) (old new : NodeValue) (out : OutboxValue) → Nudges withheld old new out
+    → Wakes old new
+nudge_wakes withheld old new out (inl asks) =
     let proposes = asks.2.proposes in
     proposed_wakes proposes.0 (refreshed old) new asks.2.asked out proposes.1 ∙ refreshed_wakes old
-nudge_wakes old new out (inr tells) = as_this (refreshed old) new tells.1 ∙ refreshed_wakes old
+nudge_wakes withheld old new out (inr tells) = as_this (refreshed old) new tells.1 ∙ refreshed_wakes old
 
 pub step_wakes : (m : Meaning) (IsText : List ℕ → Type 0) (old : NodeValue) (i : Input) (new : NodeValue)
     (out : OutboxValue) → Steps m IsText old i new out → new.halted ≡ old.halted
 step_wakes m IsText old input.Tick new out k = tick_wakes old new out k
-step_wakes m IsText old input.Nudge new out k = nudge_wakes old new out k
+step_wakes m IsText old (input.Nudge withheld) new out k = nudge_wakes withheld old new out k
 step_wakes m IsText old (input.Datagram bytes) new out k =
     proposed_wakes k.proposes.0 k.mid new k.first out k.proposes.1
     ∙ bytes_wake m IsText bytes old k.mid k.first k.handles

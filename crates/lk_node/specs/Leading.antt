@@ -3,11 +3,12 @@ use Rattle.std.specs.Prelude.{◌≡◌, ◌⊎◌, ℕ, Bool, true, false, List
 use Rattle.lk_types.specs.declared.vote.Vote.{Vote}
 use Rattle.lk_messages.specs.Values.{PromiseValue}
 use Rattle.lk_messages.specs.declared.message.NodeMessage.TheVariants as kinds
-use Rattle.lk_leader.specs.Proposing.{Proposes, LeaderProposes, proposed}
-use Rattle.lk_leader.specs.Terms.{Command, ReceivedPromise, TermValue, LeaderValue, with_term, with_received, IsFirstOf}
+use Rattle.lk_leader.specs.Proposing.{Proposes, proposed}
+use Rattle.lk_leader.specs.Terms.{ReceivedPromise, TermValue, LeaderValue, with_term, with_received, IsFirstOf}
 use Rattle.lk_members.specs.Nodes.{nodes_of}
 use Rattle.lk_node_interface.specs.Outboxes.{OutboxValue, nothing}
 use Rattle.lk_node.specs.NodeValue.{NodeValue}
+use Rattle.lk_node.specs.Proposed.{ProposesNothing}
 use Rattle.lk_node.specs.Telling.{telling}
 
 abbrev pub with_leader : NodeValue → LeaderValue → NodeValue
@@ -50,7 +51,7 @@ having_proposed old x p =
 
 -- nothing is left to propose
 abbrev pub NothingToPropose : NodeValue → Type 0
-NothingToPropose node = (i : ℕ) (v : Command) → LeaderProposes node.leader node.learner.whole.roster i v → ⊥
+NothingToPropose node = ProposesNothing node.leader node.learner.whole.roster
 
 -- the node proposes these, one after another, until nothing is open, and tells each to the members of its position
 abbrev pub ProposesAll : List Vote → NodeValue → NodeValue → OutboxValue → OutboxValue → Type 0

@@ -20,6 +20,7 @@ pub mod Executing
 pub mod Installing
 pub mod Telling
 pub mod Promised
+pub mod Proposed
 pub mod Nearness
 pub mod NewBases
 pub mod Reaching

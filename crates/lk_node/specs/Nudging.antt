@@ -1,6 +1,6 @@
 -- What a node does at a nudge: it asks the other nodes for what they know better, or tells them how far it has come.
 -- So nodes that wait for each other go on, as where nobody may begin a ballot.
-use Rattle.std.specs.Prelude.{◌≡◌, ◌⊎◌, ◌<◌, ℕ, true, false, List, None, if◌then◌else◌, nat_eq}
+use Rattle.std.specs.Prelude.{◌≡◌, ◌⊎◌, ◌<◌, ◌||◌, ℕ, Bool, true, false, List, None, if◌then◌else◌, nat_eq}
 use Rattle.lk_types.specs.BallotValue.{BallotValue}
 use Rattle.lk_types.specs.Ballots.{zero_ballot}
 use Rattle.lk_types.specs.Limits.{max_count}
@@ -63,16 +63,18 @@ pub record AsksInTerm (old new : NodeValue) (out : OutboxValue) : Type 0 where
   pub asks : AsksOthers old asked
   pub proposes : ProposesOpen old new asked out
 
--- without one it tells them its progress if it has heard of no leader for 28 ticks
-abbrev pub TellsIfSilent : NodeValue → OutboxValue → Type 0
-TellsIfSilent node out =
-    ((is_full node.ticks ≡ true) × TellsProgress node out) ⊎ ((is_full node.ticks ≡ false) × (out ≡ nothing))
+-- without one it tells them its progress if it has heard of no leader for 28 ticks, or if ticks are withheld, which it
+-- cannot count
+abbrev pub TellsIfSilent : Bool → NodeValue → OutboxValue → Type 0
+TellsIfSilent withheld node out =
+    (((withheld || is_full node.ticks) ≡ true) × TellsProgress node out)
+    ⊎ (((withheld || is_full node.ticks) ≡ false) × (out ≡ nothing))
 
-abbrev pub Seeks : NodeValue → NodeValue → OutboxValue → Type 0
-Seeks old new out =
+abbrev pub Seeks : Bool → NodeValue → NodeValue → OutboxValue → Type 0
+Seeks withheld old new out =
     ((b : BallotValue) × IsTermOf b old.leader × AsksInTerm old new out)
-    ⊎ ((old.leader.term ≡ None) × (new ≡ old) × TellsIfSilent old out)
+    ⊎ ((old.leader.term ≡ None) × (new ≡ old) × TellsIfSilent withheld old out)
 
--- the result of a nudge
-abbrev pub Nudges : NodeValue → NodeValue → OutboxValue → Type 0
-Nudges old new out = Seeks (refreshed old) new out
+-- the result of a nudge, by whether ticks are withheld
+abbrev pub Nudges : Bool → NodeValue → NodeValue → OutboxValue → Type 0
+Nudges withheld old new out = Seeks withheld (refreshed old) new out

@@ -44,6 +44,7 @@ impl<M: Machine> Node<M> {
         if self.leader.ballot().is_none() {
             return self.redirect(request);
         }
+        self.nothing_to_propose = false;
         self.leader
             .ask(request.client, request.number, &request.op)?;
         Ok(Outbox::new(self.alloc))

@@ -19,6 +19,7 @@ impl<M: Machine> Node<M> {
     ) -> Result<(), NoMemory>
         ensures { OnOk result (EndsWait session self.old out.old self.new out.new) }
     {
+        self.nothing_to_propose = false;
         let Some(number) = self.leader.ran(session.client, session.number) else {
             return Ok(());
         };
@@ -66,6 +67,7 @@ impl<M: Machine> Node<M> {
         ensures { IfOk result (λ r. RunsNext M.meaning self.old self.new r) }
     {
         self.learner.facts();
+        self.nothing_to_propose = false;
         let Some(ran) = self.learner.execute_next()? else {
             return Ok(None);
         };

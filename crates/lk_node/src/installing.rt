@@ -18,6 +18,7 @@ impl<M: Machine> Node<M> {
     fn add_part(&mut self, part: &PartRef<'_>) -> Result<bool, NoMemory>
         ensures { IfOk result (λ went. GathersPart M.IsText went part.now self.old self.new) }
     {
+        self.nothing_to_propose = false;
         self.learner.add_part(part)?;
         let went = self.learner.install()?;
         Ok(went)

@@ -36,6 +36,7 @@ impl<M: Machine> Node<M> {
             self.old self.new nothing o) }
     {
         let (ballot, first) = (promise.ballot(), promise.first());
+        self.nothing_to_propose = false;
         let roster = self.learner.whole().roster();
         self.leader
             .promise(from, ballot, first, promise.votes(), roster)?;
@@ -55,6 +56,7 @@ impl<M: Machine> Node<M> {
         ensures { MatchOption result (NothingToPropose self.old × (self.new ≡ self.old))
             (λ x. (p : ProposesVote self.old x) × (self.new ≡ having_proposed self.old x p)) }
     {
+        self.nothing_to_propose = false;
         let Some(ballot) = self.leader.ballot() else {
             return None;
         };
@@ -97,13 +99,18 @@ impl<M: Machine> Node<M> {
         Ok(true)
     }
 
-    // Proposes whatever it can, at rising positions, each to the members of its position.
+    // Proposes whatever it can, at rising positions, each to the members of its position. Returns at once if nothing
+    // has changed since it did so that may bring more.
     pub(crate) fn propose(&mut self, out: &mut Outbox) -> Result<(), NoMemory>
         ensures exact { OnOk result (ProposesOpen self.old self.new out.old out.new) }
         ensures done { OnOk result (NothingToPropose self.new) }
         ensures safe { OnOk result (ActsSafely M.meaning (λ h. Unit {0}) self.old self.new out.old out.new) }
     {
+        if self.nothing_to_propose {
+            return Ok(());
+        }
         'votes: while self.propose_next(out)? {}
+        self.nothing_to_propose = true;
         Ok(())
     }
 
@@ -111,6 +118,7 @@ impl<M: Machine> Node<M> {
     pub(crate) fn leave_term(&mut self)
         ensures { self.new ≡ without_term self.old }
     {
+        self.nothing_to_propose = false;
         self.leader.leave();
         self.ticks.reset();
     }
@@ -120,6 +128,7 @@ impl<M: Machine> Node<M> {
         ensures { self.new ≡ yielded ballot self.old }
     {
         if self.leader.yield_to(ballot) {
+            self.nothing_to_propose = false;
             self.ticks.reset();
         }
     }

@@ -28,6 +28,7 @@ impl<M: Machine> Node<M> {
             (ActsSafely M.meaning (λ h. ChosenAt h.genesis h.sent position command.now) self.old self.new out.old
             out.new) }
     {
+        self.nothing_to_propose = false;
         if self.learner.decided(position, command) {
             out.write(Entry::Decided(position, command.copy()))?;
         }

@@ -36,6 +36,8 @@ pub struct Node<M: Machine> {
     pub(crate) known: Option<NodeNo>,
     // How many bytes of a snapshot were gathered at the last nudge.
     pub(crate) gathered_before: u32,
+    // Nothing is left to propose: whatever may change that resets it.
+    pub(crate) nothing_to_propose: bool,
     // It has run out of memory in a step, which may have left it half changed.
     pub(crate) halted: bool,
 }
@@ -44,10 +46,12 @@ impl<M: Machine> Model for Node<M> {
     ghost use Rattle.lk_node.specs.NodeValue.{NodeValue};
     ghost use Rattle.lk_node.specs.Nearness.{AreNear};
     ghost use Rattle.lk_node.specs.Promised.{IsTermPromised};
+    ghost use Rattle.lk_node.specs.Proposed.{ProposesNothingIf};
 
     ghost Value = { NodeValue };
 
-    ghost invariant = { λ n. IsTermPromised n.acceptor n.leader × AreNear n.acceptor n.learner };
+    ghost invariant = { λ n. IsTermPromised n.acceptor n.leader × AreNear n.acceptor n.learner
+        × ProposesNothingIf n.nothing_to_propose n.leader n.learner.whole.roster };
 
     ghost view = { λ n. record {
       header = n.header;
@@ -88,6 +92,7 @@ impl<M: Machine> Node<M> {
             rounds: SeenRound::new(),
             known: None,
             gathered_before: 0,
+            nothing_to_propose: false,
             halted: false,
         }
     }

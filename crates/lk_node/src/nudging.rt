@@ -23,6 +23,7 @@ impl<M: Machine> Node<M> {
     fn forget_gathered(&mut self)
         ensures { self.new ≡ without_gathered self.old }
     {
+        self.nothing_to_propose = false;
         self.learner.forget_gathered();
     }
 
@@ -87,36 +88,37 @@ impl<M: Machine> Node<M> {
         Ok(out)
     }
 
-    // Handles a nudge without a term: tells its progress if 28 ticks have passed without a leader.
+    // Handles a nudge without a term: tells its progress if 28 ticks have passed without a leader, or if ticks are
+    // withheld.
     #[tactic(auto, using(crate::proofs::SafeSteps::rests_here))]
-    fn tell_if_silent(&self) -> Result<Outbox, NoMemory>
-        ensures exact { IfOk result (λ o. TellsIfSilent self.now o) }
+    fn tell_if_silent(&self, are_ticks_withheld: bool) -> Result<Outbox, NoMemory>
+        ensures exact { IfOk result (λ o. TellsIfSilent are_ticks_withheld self.now o) }
         ensures safe { IfOk result (λ o. ActsSafely M.meaning (λ h. Unit {0}) self.now self.now nothing o) }
     {
-        if !self.ticks.is_full() {
+        if !(are_ticks_withheld || self.ticks.is_full()) {
             return Ok(Outbox::new(self.alloc));
         }
         self.tell_progress()
     }
 
     // Asks in a term, and tells without one.
-    fn seek(&mut self) -> Result<Outbox, NoMemory>
-        ensures exact { IfOk result (λ o. Seeks self.old self.new o) }
+    fn seek(&mut self, are_ticks_withheld: bool) -> Result<Outbox, NoMemory>
+        ensures exact { IfOk result (λ o. Seeks are_ticks_withheld self.old self.new o) }
         ensures safe { IfOk result (λ o. ActsSafely M.meaning (λ h. Unit {0}) self.old self.new nothing o) }
     {
         match self.leader.ballot() {
             Some(_) => self.ask_in_term(),
-            None => self.tell_if_silent(),
+            None => self.tell_if_silent(are_ticks_withheld),
         }
     }
 
-    // Handles a nudge.
+    // Handles a nudge, which says whether ticks are withheld.
     #[tactic(auto, using(crate::proofs::Nudges::refreshed_goes_on))]
-    pub(crate) fn nudge(&mut self) -> Result<Outbox, NoMemory>
-        ensures exact { IfOk result (λ o. Nudges self.old self.new o) }
+    pub(crate) fn nudge(&mut self, are_ticks_withheld: bool) -> Result<Outbox, NoMemory>
+        ensures exact { IfOk result (λ o. Nudges are_ticks_withheld self.old self.new o) }
         ensures safe { IfOk result (λ o. ActsSafely M.meaning (λ h. Unit {0}) self.old self.new nothing o) }
     {
         self.refresh();
-        self.seek()
+        self.seek(are_ticks_withheld)
     }
 }

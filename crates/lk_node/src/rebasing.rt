@@ -51,6 +51,7 @@ impl<M: Machine> Node<M> {
         ensures { self.new ≡ with_snapshot self.old }
     {
         let executed = self.learner.whole().executed();
+        self.nothing_to_propose = false;
         self.acceptor.forget(executed);
         self.learner.set_snapshot(snapshot);
     }

@@ -25,6 +25,7 @@ impl<M: Machine> Node<M> {
         let nodes = self.window_nodes()?;
         let mut out = Outbox::new(self.alloc);
         out.write(self.acceptor.own(ballot))?;
+        self.nothing_to_propose = false;
         self.leader.begin(ballot);
         if let Some(first) = Position::of(self.learner.whole().executed().get() + 1) {
             self.send_to_all(&nodes, NodeMessage::Prepare(ballot, first), &mut out)?;

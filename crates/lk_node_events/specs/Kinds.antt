@@ -5,11 +5,11 @@ use Rattle.lk_node_events.specs.declared.event.Event.TheVariants.{StartedEmpty, 
 use Rattle.lk_node_events.specs.declared.event.Event.TheVariants.{Leaderless}
 use Rattle.lk_node_events.specs.declared.event.Event.TheVariants.{Joined}
 use Rattle.lk_node_events.specs.declared.event.Event.TheVariants.{Left, Wrote, Installed, Unsent, Behind, CaughtUp}
-use Rattle.lk_node_events.specs.declared.event.Event.TheVariants.{OtherGenesis, OtherCluster}
+use Rattle.lk_node_events.specs.declared.event.Event.TheVariants.{OtherGenesis, OtherCluster, Deaf, Hears, Outside}
 
 -- how many kinds of events there are
 abbrev pub kinds : ℕ
-kinds = 15
+kinds = 18
 
 -- the index of an event's kind, below that number
 abbrev pub kind_of : Event → ℕ
@@ -28,6 +28,9 @@ kind_of (Behind node) = 11
 kind_of (CaughtUp executed) = 12
 kind_of (OtherGenesis node) = 13
 kind_of (OtherCluster count) = 14
+kind_of (Deaf heard members) = 15
+kind_of (Hears heard members) = 16
+kind_of (Outside seconds) = 17
 
 -- an operator has to look at it
 abbrev pub is_warning : Event → Bool
@@ -35,4 +38,5 @@ is_warning (Leaderless seconds) = true
 is_warning (Unsent node) = true
 is_warning (OtherGenesis node) = true
 is_warning (OtherCluster count) = true
+is_warning (Deaf heard members) = true
 is_warning _ = false

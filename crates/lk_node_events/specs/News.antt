@@ -9,7 +9,7 @@ use Rattle.lk_node_events.specs.declared.event.Event.TheVariants.{StartedEmpty, 
 use Rattle.lk_node_events.specs.declared.event.Event.TheVariants.{Leaderless}
 use Rattle.lk_node_events.specs.declared.event.Event.TheVariants.{Joined}
 use Rattle.lk_node_events.specs.declared.event.Event.TheVariants.{Left, Wrote, Installed, Unsent, Behind, CaughtUp}
-use Rattle.lk_node_events.specs.declared.event.Event.TheVariants.{OtherGenesis, OtherCluster}
+use Rattle.lk_node_events.specs.declared.event.Event.TheVariants.{OtherGenesis, OtherCluster, Deaf, Hears, Outside}
 use Rattle.lk_node_events.specs.declared.event.Why.{Why}
 use Rattle.lk_node_events.specs.declared.story.Story.{Story}
 use Rattle.lk_node_events.specs.declared.observation.Observation.{Observation}
@@ -37,9 +37,14 @@ IsNews story seen (Installed position node) = seen.installed ≡ Some (position,
 IsNews story seen (Unsent node) = seen.unsent ≡ Some node
 IsNews story seen (OtherGenesis node) = seen.stranger ≡ Some node
 IsNews story seen (OtherCluster count) = seen.foreign ≡ Some count
+IsNews story seen (Deaf heard members) =
+    (seen.deaf ≡ true) × (story.deaf ≡ false) × (heard ≡ seen.heard) × (members ≡ seen.members)
+IsNews story seen (Hears heard members) =
+    (seen.deaf ≡ false) × (story.deaf ≡ true) × (heard ≡ seen.heard) × (members ≡ seen.members)
 IsNews story seen StartedEmpty = ⊥
 IsNews story seen (Found executed) = ⊥
 IsNews story seen (Leaderless seconds) = ⊥
+IsNews story seen (Outside seconds) = ⊥
 IsNews story seen (Behind node) = ⊥
 IsNews story seen (CaughtUp executed) = ⊥
 
@@ -50,6 +55,7 @@ story_with seen story = record {
   follows = newer seen.follows story.follows;
   members = seen.members;
   snapshot = seen.snapshot;
+  deaf = seen.deaf;
 }
 
 -- the story after it was reported that nobody leads, if it was: then any leader is news
@@ -59,17 +65,26 @@ forgetting (Some event) story = record story { follows = None }
 
 -- the story of a node that was first seen like this
 abbrev pub story_of : Observation → Story
-story_of seen = record { leads = seen.leads; follows = seen.follows; members = seen.members; snapshot = seen.snapshot }
+story_of seen = record {
+  leads = seen.leads;
+  follows = seen.follows;
+  members = seen.members;
+  snapshot = seen.snapshot;
+  deaf = seen.deaf;
+}
 
 -- ---- news by what it is about
 
--- who leads: that it leads no more, that it leads, and whom it follows; who is a member: that a node joined, and that
+-- who leads: that it leads no more, that it leads, and whom it follows; whether it hears a majority: that it does no
+-- more, and that it does; who is a member: that a node joined, and that
 -- one left; and its work: a snapshot that it wrote, one that it installed, what it could not send, whom it heard of
 -- another genesis, and what it heard of another cluster
 pub data Topic : Type 0 where
   ending : Topic
   leading : Topic
   following : Topic
+  deafening : Topic
+  hearing : Topic
   joining : ℕ → Topic
   leaving : ℕ → Topic
   writing : Topic
@@ -79,7 +94,7 @@ pub data Topic : Type 0 where
   straying : Topic
 
 abbrev pub lead_topics : List Topic
-lead_topics = ending ∷ leading ∷ following ∷ []
+lead_topics = ending ∷ leading ∷ following ∷ deafening ∷ hearing ∷ []
 
 -- each member may have joined
 abbrev pub joins : List Member → List Topic
@@ -107,6 +122,10 @@ IsNewsOf ending story seen event =
     (ballot : BallotValue) × (why : Why) × (event ≡ Ended ballot why) × IsNews story seen (Ended ballot why)
 IsNewsOf leading story seen event = (ballot : BallotValue) × (event ≡ Leads ballot) × IsNews story seen (Leads ballot)
 IsNewsOf following story seen event = (node : ℕ) × (event ≡ Follows node) × IsNews story seen (Follows node)
+IsNewsOf deafening story seen event =
+    (heard : ℕ) × (members : List Member) × (event ≡ Deaf heard members) × IsNews story seen (Deaf heard members)
+IsNewsOf hearing story seen event =
+    (heard : ℕ) × (members : List Member) × (event ≡ Hears heard members) × IsNews story seen (Hears heard members)
 IsNewsOf (joining node) story seen event =
     (members : List Member) × (event ≡ Joined node members) × IsNews story seen (Joined node members)
 IsNewsOf (leaving node) story seen event =

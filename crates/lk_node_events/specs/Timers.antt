@@ -2,7 +2,7 @@
 use Rattle.std.specs.Prelude.{◌≡◌, ◌≤◌, ◌<◌, ◌+◌, ◌*◌, ◌⊎◌, ℕ, Bool, true, false, Option, Some, None, IfSome, IsSome}
 use Rattle.std.specs.Prelude.{IsNone}
 use Rattle.lk_node_events.specs.declared.event.Event.{Event}
-use Rattle.lk_node_events.specs.declared.event.Event.TheVariants.{Leaderless, Behind, CaughtUp}
+use Rattle.lk_node_events.specs.declared.event.Event.TheVariants.{Leaderless, Outside, Behind, CaughtUp}
 use Rattle.lk_node_events.specs.declared.timers.LeaderlessTimer.{LeaderlessTimer}
 use Rattle.lk_node_events.specs.declared.timers.BehindTimer.{BehindTimer}
 
@@ -25,17 +25,24 @@ pub record IsQuiet (quiet : LeaderlessTimer) (now seconds : ℕ) : Type 0 where
   pub long : 2 ≤ seconds
   pub doubled : 2 * quiet.logged ≤ seconds
 
-abbrev pub IsQuietNews : LeaderlessTimer → ℕ → Event → Type 0
-IsQuietNews quiet now event = (seconds : ℕ) × (event ≡ Leaderless seconds) × IsQuiet quiet now seconds
+-- what is told of a node that has had no leader for so many seconds: of a member that it has none, and of another node
+-- that it is no member
+abbrev pub quiet_event : Bool → ℕ → Event
+quiet_event true seconds = Leaderless seconds
+quiet_event false seconds = Outside seconds
 
--- what a turn with or without a leader brings, and what is known of it then
-pub record TurnsQuiet (old : LeaderlessTimer) (now : ℕ) (has_leader : Bool) (news : Option Event)
+abbrev pub IsQuietNews : LeaderlessTimer → ℕ → Bool → Event → Type 0
+IsQuietNews quiet now is_member event =
+    (seconds : ℕ) × (event ≡ quiet_event is_member seconds) × IsQuiet quiet now seconds
+
+-- what a turn of a member or of another node brings, with or without a leader, and what is known of it then
+pub record TurnsQuiet (old : LeaderlessTimer) (now : ℕ) (has_leader is_member : Bool) (news : Option Event)
     (new : LeaderlessTimer) : Type 0 where
-  pub some : IfSome news (λ e. (has_leader ≡ false) × IsQuietNews old now e)
-  pub none : IsNone news → (has_leader ≡ true) ⊎ ((e : Event) → IsQuietNews old now e → ⊥)
+  pub some : IfSome news (λ e. (has_leader ≡ false) × IsQuietNews old now is_member e)
+  pub none : IsNone news → (has_leader ≡ true) ⊎ ((e : Event) → IsQuietNews old now is_member e → ⊥)
   pub leader : has_leader ≡ true → new ≡ record { since = None; logged = 0 }
   pub since : has_leader ≡ false → new.since ≡ Some (first_time old.since now)
-  pub logged : IfSome news (λ e. e ≡ Leaderless new.logged)
+  pub logged : IfSome news (λ e. e ≡ quiet_event is_member new.logged)
   pub kept : has_leader ≡ false → IsNone news → new.logged ≡ old.logged
 
 -- it has been asking for a second, and that is not yet reported

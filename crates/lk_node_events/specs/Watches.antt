@@ -41,7 +41,7 @@ pub record PopsDue (kind now : ℕ) (line : Line) (old new : List RateLimit) : T
 -- the first half of a turn: the events that depend on time are put into the slots
 pub record TurnsTimes (now : ℕ) (seen : Observation) (old new : Watch) : Type 0 where
   pub leaderless : Option Event
-  pub quiet : TurnsQuiet old.quiet now (has_leader seen) leaderless new.quiet
+  pub quiet : TurnsQuiet old.quiet now (has_leader seen) seen.is_member leaderless new.quiet
   pub behind : Option Event
   pub lag : TurnsLag old.lag now seen.wanted seen.executed behind new.lag
   pub mid : List RateLimit

@@ -7,7 +7,7 @@ use lk_types::{Executed, Members, NodeNo, RealBallot};
 use std::fmt;
 
 /// The number of kinds of events.
-pub const KINDS: usize = 15;
+pub const KINDS: usize = 18;
 
 /// Why a node no longer leads.
 #[derive(Clone, Copy, Debug)]
@@ -33,7 +33,7 @@ pub enum Event {
     Ended(RealBallot, Why),
     /// It follows this node.
     Follows(NodeNo),
-    /// It has neither led nor heard of a leader for this many seconds.
+    /// It is a member, and has neither led nor heard of a leader for this many seconds.
     Leaderless(u64),
     /// This node has joined: these are the members of the next position.
     Joined(NodeNo, Members),
@@ -53,6 +53,13 @@ pub enum Event {
     OtherGenesis(NodeNo),
     /// This many datagrams of another cluster have come.
     OtherCluster(u64),
+    /// It hears so many of these members, itself included, and no longer a majority: until it does it gets no ticks and
+    /// drops clients' requests.
+    Deaf(u8, Members),
+    /// It hears so many of these members, itself included, and a majority again.
+    Hears(u8, Members),
+    /// It is not a member of the next position, and has neither led nor heard of a leader for this many seconds.
+    Outside(u64),
 }
 
 impl Event {
@@ -77,6 +84,9 @@ impl Event {
             Event::CaughtUp(_) => 12,
             Event::OtherGenesis(_) => 13,
             Event::OtherCluster(_) => 14,
+            Event::Deaf(_, _) => 15,
+            Event::Hears(_, _) => 16,
+            Event::Outside(_) => 17,
         }
     }
 
@@ -90,6 +100,7 @@ impl Event {
                 | Event::Unsent(_)
                 | Event::OtherGenesis(_)
                 | Event::OtherCluster(_)
+                | Event::Deaf(_, _)
         )
     }
 }
@@ -185,6 +196,17 @@ fn write_foreign<W: fmt::Write>(count: u64, f: &mut fmt::Formatter<W>) -> fmt::R
     write!(f, "heard {count} {word} of another cluster")
 }
 
+// Writes how many of the members are heard, and what that is.
+fn write_heard<W: fmt::Write>(
+    heard: u8,
+    members: &Members,
+    what: &str,
+    f: &mut fmt::Formatter<W>,
+) -> fmt::Result {
+    let count = members.as_slice().len();
+    write!(f, "hears {heard} of {count} members{what}")
+}
+
 impl fmt::Display for Event {
     fn fmt<W: fmt::Write>(&self, f: &mut fmt::Formatter<W>) -> fmt::Result {
         match self {
@@ -203,6 +225,11 @@ impl fmt::Display for Event {
             Event::CaughtUp(executed) => write_done("has caught up", *executed, f),
             Event::OtherGenesis(node) => write!(f, "hears node {} of another genesis", node.get()),
             Event::OtherCluster(count) => write_foreign(*count, f),
+            Event::Deaf(heard, members) => write_heard(*heard, members, ", no majority", f),
+            Event::Hears(heard, members) => write_heard(*heard, members, ", a majority", f),
+            Event::Outside(seconds) => {
+                write!(f, "is not a member, and has had no leader for {seconds} s")
+            }
         }
     }
 }

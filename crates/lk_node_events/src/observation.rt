@@ -33,6 +33,10 @@ pub struct Observation {
     pub stranger: Option<NodeNo>,
     /// How many datagrams of another cluster have come, if that is to be reported.
     pub foreign: Option<u64>,
+    /// How many of the members it hears, itself included.
+    pub heard: u8,
+    /// Whether it hears too few, and so gets no ticks.
+    pub deaf: bool,
 }
 
 impl Observation {

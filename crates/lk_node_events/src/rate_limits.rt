@@ -37,6 +37,9 @@ impl RateLimits {
                 RateLimit::EMPTY,
                 RateLimit::EMPTY,
                 RateLimit::EMPTY,
+                RateLimit::EMPTY,
+                RateLimit::EMPTY,
+                RateLimit::EMPTY,
             ],
         }
     }

@@ -2,7 +2,7 @@
 
 ghost use Rattle.std.specs.Prelude.{◌≡◌};
 ghost use Rattle.lk_node_events.specs.News.{Gives, story_of, forgetting, story_with, is_one_of};
-ghost use Rattle.lk_node_events.specs.News.{ending, leading, following, joining, leaving};
+ghost use Rattle.lk_node_events.specs.News.{deafening, ending, hearing, leading, following, joining, leaving};
 ghost use Rattle.lk_node_events.specs.News.{writing, installing, failing, meeting, straying};
 ghost use Rattle.lk_node_events.specs.News.{lead_topics, joins, leaves, member_topics, work_topics, topics};
 ghost use Rattle.lk_node_events.specs.Watches.{PutsNews};
@@ -23,6 +23,8 @@ pub struct Story {
     pub members: Members,
     /// The position of its snapshot.
     pub snapshot: Executed,
+    /// Whether it hears too few members.
+    pub deaf: bool,
 }
 
 // Whether the node is one of these members.
@@ -42,6 +44,7 @@ impl Story {
             follows,
             members,
             snapshot,
+            deaf,
             ..
         } = seen;
         Story {
@@ -49,6 +52,7 @@ impl Story {
             follows,
             members,
             snapshot,
+            deaf,
         }
     }
 
@@ -151,13 +155,35 @@ impl Story {
         Some(Event::OtherCluster(count))
     }
 
-    // Puts the news of the leader into the slots.
+    /// Returns `Deaf` if it hears no majority now, but did in the story.
+    pub fn deaf(&self, seen: &Observation) -> Option<Event>
+        ensures { Gives deafening self.now seen.now result }
+    {
+        if self.deaf || !seen.deaf {
+            return None;
+        }
+        Some(Event::Deaf(seen.heard, seen.members.copy()))
+    }
+
+    /// Returns `Hears` if it hears a majority now, but did not in the story.
+    pub fn hears(&self, seen: &Observation) -> Option<Event>
+        ensures { Gives hearing self.now seen.now result }
+    {
+        if seen.deaf || !self.deaf {
+            return None;
+        }
+        Some(Event::Hears(seen.heard, seen.members.copy()))
+    }
+
+    // Puts the news of the leader, and of whether a majority is heard, into the slots.
     fn put_leads(&self, now: u64, seen: &Observation, slots: &mut RateLimits)
         ensures { PutsNews now self.now seen.now lead_topics slots.old.all slots.new.all }
     {
         slots.put_some(now, self.ended(seen));
         slots.put_some(now, self.leads(seen));
         slots.put_some(now, self.follows(seen));
+        slots.put_some(now, self.deaf(seen));
+        slots.put_some(now, self.hears(seen));
     }
 
     // Puts `Joined` for each of these members that has joined.
@@ -224,12 +250,14 @@ impl Story {
             follows,
             members,
             snapshot,
+            deaf,
             ..
         } = seen;
         self.leads = leads;
         self.follows = follows.or(self.follows);
         self.members = members;
         self.snapshot = snapshot;
+        self.deaf = deaf;
     }
 
     /// Puts what is news after a turn into the slots, and remembers it as reported.

@@ -1,11 +1,11 @@
 //! Events that depend on how long something lasts: no leader, and being behind. Times are milliseconds since 1970.
 
 ghost use Rattle.std.specs.Prelude.{◌≡◌, ◌⊎◌, Some, None, true, false, IfSome, IsSome, IsNone};
-ghost use Rattle.lk_node_events.specs.Timers.{first_time, first_asked, no_lag, IsQuietNews, IsBehind, IsOver};
-ghost use Rattle.lk_node_events.specs.Timers.{HasRested};
+ghost use Rattle.lk_node_events.specs.Timers.{first_time, first_asked, no_lag, quiet_event, IsQuietNews, IsBehind};
+ghost use Rattle.lk_node_events.specs.Timers.{IsOver, HasRested};
 ghost use Rattle.lk_node_events.specs.Timers.{IsLagNews, BecomesLag};
 ghost use Rattle.lk_node_events.specs.declared.event.Event.{Event as EventValue};
-ghost use Rattle.lk_node_events.specs.declared.event.Event.TheVariants.{Leaderless, Behind, CaughtUp};
+ghost use Rattle.lk_node_events.specs.declared.event.Event.TheVariants.{Behind, CaughtUp};
 
 use crate::event::Event;
 use lk_types::{Executed, NodeNo};
@@ -34,6 +34,18 @@ pub struct BehindTimer {
     pub logged: bool,
 }
 
+// Returns the event of a node that has had no leader for so many seconds: `Leaderless` of a member, and `Outside` of
+// another node.
+fn quiet_event(is_member: bool, seconds: u64) -> Event
+    ensures { result ≡ quiet_event is_member seconds }
+{
+    if is_member {
+        Event::Leaderless(seconds)
+    } else {
+        Event::Outside(seconds)
+    }
+}
+
 impl LeaderlessTimer {
     /// It has a leader.
     pub const NONE: LeaderlessTimer = LeaderlessTimer {
@@ -41,12 +53,12 @@ impl LeaderlessTimer {
         logged: 0,
     };
 
-    // Notes the start of a time without a leader, or returns `Leaderless` if that has lasted two seconds, and again
-    // each time that it has lasted twice the seconds reported last.
-    fn leaderless_event(&mut self, now: u64) -> Option<Event>
-        ensures some { IfSome result (IsQuietNews self.old now) }
-        ensures none { IsNone result → (e : EventValue) → IsQuietNews self.old now e → ⊥ }
-        ensures logged { IfSome result (λ e. e ≡ Leaderless self.new.logged) }
+    // Notes the start of a time without a leader, or returns the event if that has lasted two seconds, and again each
+    // time that it has lasted twice the seconds reported last.
+    fn leaderless_event(&mut self, now: u64, is_member: bool) -> Option<Event>
+        ensures some { IfSome result (IsQuietNews self.old now is_member) }
+        ensures none { IsNone result → (e : EventValue) → IsQuietNews self.old now is_member e → ⊥ }
+        ensures logged { IfSome result (λ e. e ≡ quiet_event is_member self.new.logged) }
         ensures kept { IsNone result → self.new.logged ≡ self.old.logged }
         ensures since { self.new.since ≡ Some (first_time self.old.since now) }
     {
@@ -59,24 +71,26 @@ impl LeaderlessTimer {
             return None;
         }
         self.logged = seconds;
-        Some(Event::Leaderless(seconds))
+        Some(quiet_event(is_member, seconds))
     }
 
-    /// Updates it after a turn, and returns `Leaderless` if that is due. A leader resets it.
-    pub fn observe(&mut self, now: u64, has_leader: bool) -> Option<Event>
-        ensures some { IfSome result (λ e. (has_leader ≡ false) × IsQuietNews self.old now e) }
+    /// Updates it after a turn, and returns `Leaderless` of a member, or `Outside` of another node, if that is due. A
+    /// leader resets it.
+    pub fn observe(&mut self, now: u64, has_leader: bool, is_member: bool) -> Option<Event>
+        ensures some { IfSome result (λ e. (has_leader ≡ false) × IsQuietNews self.old now is_member e) }
         // An event that is due is returned.
-        ensures none { IsNone result → (has_leader ≡ true) ⊎ ((e : EventValue) → IsQuietNews self.old now e → ⊥) }
+        ensures none { IsNone result
+            → (has_leader ≡ true) ⊎ ((e : EventValue) → IsQuietNews self.old now is_member e → ⊥) }
         ensures leader { has_leader ≡ true → self.new ≡ record { since = None; logged = 0 } }
         ensures since { has_leader ≡ false → self.new.since ≡ Some (first_time self.old.since now) }
-        ensures logged { IfSome result (λ e. e ≡ Leaderless self.new.logged) }
+        ensures logged { IfSome result (λ e. e ≡ quiet_event is_member self.new.logged) }
         ensures kept { has_leader ≡ false → IsNone result → self.new.logged ≡ self.old.logged }
     {
         if has_leader {
             *self = LeaderlessTimer::NONE;
             return None;
         }
-        self.leaderless_event(now)
+        self.leaderless_event(now, is_member)
     }
 }
 

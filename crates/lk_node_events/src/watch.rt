@@ -52,7 +52,7 @@ impl Watch {
     fn put_times(&mut self, now: u64, seen: &Observation)
         ensures { TurnsTimes now seen.now self.old self.new }
     {
-        let leaderless = self.quiet.observe(now, seen.has_leader());
+        let leaderless = self.quiet.observe(now, seen.has_leader(), seen.is_member);
         self.story.forget(&leaderless);
         self.slots.put_some(now, leaderless);
         let lag = self.lag.observe(now, seen.wanted, seen.executed);

@@ -1,2 +1,3 @@
 pub mod Openings
 pub mod Ends
+pub mod Existing

@@ -5,7 +5,7 @@ ghost use Rattle.lk_node_files.specs.Openings.{IsClosed};
 
 use lk_disk::{FileDisk, Side, SystemDisk};
 use lk_memory_disk::MemoryDisk;
-use lk_transport::fault::ProgramFault;
+use lk_program_fault::ProgramFault;
 use lk_transport::socket::{LocalSocket, local};
 use std::alloc::Global;
 use std::fmt::Display;

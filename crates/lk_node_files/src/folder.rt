@@ -1,14 +1,18 @@
-//! Opens the files of a node's folder, and locks it so that only one process runs on it.
+//! Opens the files of a node's folder, creates them, and locks the folder so that only one process runs on it.
 
-ghost use Rattle.std.specs.Prelude.{◌≡◌, IfOk, IfErr};
+ghost use Rattle.std.specs.Prelude.{◌≡◌, IfOk, IfErr, OnOk};
 ghost use Rattle.lk_node_files.specs.Openings.{IsClosed};
 
 use crate::causes::{open_file, write_cause, write_open_error};
 use lk_disk::{FileDisk, SystemDisk};
-use lk_transport::fault::ProgramFault;
+use lk_program_fault::ProgramFault;
 use std::alloc::Global;
 use std::fs::{File, Files, OpenOptions, TryLockError};
-use std::io::Write;
+use std::io::{ErrorKind, Write};
+use std::path::Path;
+
+// The names of the two files.
+const NAMES: [&str; 2] = ["a", "b"];
 
 /// A folder on which no other process can run a node as long as the value lives: its file `a` is locked. The lock ends
 /// with the process, and does not affect readers.
@@ -22,6 +26,115 @@ fn to_write() -> OpenOptions {
     let mut how = OpenOptions::new();
     how.read(true).append(true).create(true);
     how
+}
+
+// The options that create a node's file, and fail if it exists.
+fn to_create() -> OpenOptions {
+    let mut how = OpenOptions::new();
+    how.append(true).create_new(true);
+    how
+}
+
+// Checks that a folder has a file of that name. If it is missing, or that is not known, writes so, and returns
+// `CannotOpen`; without memory for the path, `NoMemory`.
+fn check_present<R: Files, E: Write>(
+    rt: &R,
+    alloc: Global,
+    folder: &str,
+    name: &str,
+    err: &mut E,
+) -> Result<(), ProgramFault>
+    ensures fault { IfErr result IsClosed }
+    ensures quiet { OnOk result (err.new ≡ err.old) }
+{
+    let path = Path::new(folder).join(alloc, name)?;
+    let path = path.as_path();
+    match rt.metadata(path.as_str()) {
+        Ok(_) => Ok(()),
+        Err(error) if error.kind() == ErrorKind::NotFound => Err(write_cause(
+            path.display(),
+            "missing, and --existing begins no store; for a node that has never run, locks init does",
+            err,
+        )),
+        Err(error) => Err(write_cause(path.display(), error, err)),
+    }
+}
+
+/// Checks that both files of a folder are there; it opens and creates none. If one is missing, or that is not known,
+/// it writes so, and returns `CannotOpen`; without memory for a path, `NoMemory`.
+pub fn check_files<R: Files, E: Write>(
+    rt: &R,
+    alloc: Global,
+    folder: &str,
+    err: &mut E,
+) -> Result<(), ProgramFault>
+    ensures fault { IfErr result IsClosed }
+    ensures quiet { OnOk result (err.new ≡ err.old) }
+{
+    'files: for name in NAMES {
+        check_present(rt, alloc, folder, name, err)?;
+    }
+    Ok(())
+}
+
+// Checks that a folder has no file of that name. If there is one, or that is not known, writes so, and returns
+// `CannotOpen`; without memory for the path, `NoMemory`.
+fn check_absent<R: Files, E: Write>(
+    rt: &R,
+    alloc: Global,
+    folder: &str,
+    name: &str,
+    err: &mut E,
+) -> Result<(), ProgramFault>
+    ensures fault { IfErr result IsClosed }
+    ensures quiet { OnOk result (err.new ≡ err.old) }
+{
+    let path = Path::new(folder).join(alloc, name)?;
+    let path = path.as_path();
+    match rt.symlink_metadata(path.as_str()) {
+        Ok(_) => Err(write_cause(
+            path.display(),
+            "exists; init begins a store only in a folder without files a and b",
+            err,
+        )),
+        Err(error) if error.kind() == ErrorKind::NotFound => Ok(()),
+        Err(error) => Err(write_cause(path.display(), error, err)),
+    }
+}
+
+// Checks that a folder has neither file.
+fn check_none<R: Files, E: Write>(
+    rt: &R,
+    alloc: Global,
+    folder: &str,
+    err: &mut E,
+) -> Result<(), ProgramFault>
+    ensures fault { IfErr result IsClosed }
+    ensures quiet { OnOk result (err.new ≡ err.old) }
+{
+    'files: for name in NAMES {
+        check_absent(rt, alloc, folder, name, err)?;
+    }
+    Ok(())
+}
+
+/// Creates the empty files of a folder, with the mode and the owner that a node gives them. If one of them exists it
+/// changes nothing, writes so, and returns `CannotOpen`; also if one cannot be created. Without memory for a path it
+/// returns `NoMemory`.
+pub fn create_files<R: Files, E: Write>(
+    rt: &R,
+    alloc: Global,
+    folder: &str,
+    err: &mut E,
+) -> Result<(), ProgramFault>
+    ensures fault { IfErr result IsClosed }
+    ensures quiet { OnOk result (err.new ≡ err.old) }
+{
+    check_none(rt, alloc, folder, err)?;
+    'files: for name in NAMES {
+        open_file(rt, alloc, &to_create(), folder, name, err)?;
+    }
+    Ok(())
 }
 
 impl FolderLock {

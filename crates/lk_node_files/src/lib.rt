@@ -2,5 +2,6 @@
 #![tactic(auto)]
 
 pub mod causes;
+pub mod existing;
 pub mod folder;
 pub mod refusals;

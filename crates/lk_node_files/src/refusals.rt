@@ -7,8 +7,8 @@ ghost use Rattle.lk_node_files.specs.Ends.{EndsAt};
 
 use crate::causes::{FailureCause, write_failed_calls};
 use lk_disk::{LogDisk, Side};
+use lk_program_fault::ProgramFault;
 use lk_store_format::{EntryFault, Header, Stored, first_entry};
-use lk_transport::fault::ProgramFault;
 use std::alloc::Global;
 use std::io;
 use std::io::Write;

@@ -50,16 +50,16 @@ pub fn index_of(roster: &Roster, node: NodeNo) -> Option<usize>
     members.iter().position(|member| member.node == node)
 }
 
-// Addresses a copy of these bytes to a node at its port in the window, or at port 0 if no set names it.
-fn letter_to(alloc: Global, roster: &Roster, node: NodeNo, bytes: &[u8]) -> Result<Letter, NoMemory>
-    ensures { IfOk result (λ l. l ≡ record { to = to_node roster.now.sets node; bytes = bytes.now }) }
+// Addresses these bytes to a node at its port in the window, or at port 0 if no set names it.
+fn letter_to(roster: &Roster, node: NodeNo, bytes: Vec<u8>) -> Letter
+    ensures { result ≡ record { to = to_node roster.now.sets node; bytes = bytes.items } }
 {
     let to = To::Node(node, roster.port_number_of(node));
-    let bytes = bytes.to_vec(alloc)?;
-    Ok(Letter { to, bytes })
+    Letter { to, bytes }
 }
 
-/// Returns a letter with this message for each of the nodes, in order, at its port in the window.
+/// Returns a letter with this message for each of the nodes, in order, at its port in the window. It is spelled once,
+/// and copied for each node but the last.
 pub fn letters_to(
     alloc: Global,
     header: &Header,
@@ -72,8 +72,13 @@ pub fn letters_to(
 {
     let bytes = spelled(alloc, header, message)?;
     let mut letters = Vec::new(alloc);
-    'nodes: for node in nodes {
-        letters.push(letter_to(alloc, roster, *node, bytes.as_slice())?)?;
+    let Some((last, others)) = nodes.split_last() else {
+        return Ok(letters);
+    };
+    'nodes: for node in others {
+        let bytes = bytes.as_slice().to_vec(alloc)?;
+        letters.push(letter_to(roster, *node, bytes))?;
     }
+    letters.push(letter_to(roster, *last, bytes))?;
     Ok(letters)
 }

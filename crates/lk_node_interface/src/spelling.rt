@@ -20,5 +20,5 @@ pub fn spelled(alloc: Global, header: &Header, message: NodeMessage) -> Result<V
     };
     let mut out = BytesMut::new(alloc);
     write(&message, &mut out)?;
-    Ok(out.as_slice().to_vec(alloc)?)
+    Ok(out.into_vec()?)
 }

@@ -67,7 +67,7 @@ pub turn_taken : {Says : ReplicaValue → List (Option (List ℕ)) → List Lett
     (kept left : BufferValue)
     (old mid new : ServerValue ReplicaValue) → HasReceived observable frames old mid
     → ServerTurn Says observable frames old mid
-    → KeepsOf old.node old.addresses.seals frames kept left
+    → KeepsOf old.addresses.seals frames kept left
     → HandlesProbes IsShown observable left.asked left.reported mid new
     → IsSameNetwork old.addresses mid.addresses → TellsFailure new → After new
     → DoesTurnWith Says observable kept.asked kept.reported After old new
@@ -80,6 +80,7 @@ turn_taken After frames kept left old mid new received turn keeps acts network f
   turn = turn;
   asked = left.asked;
   first_asked = keeps.asked;
+  last = keeps.last;
   reported = left.reported;
   first_reported = keeps.reported;
   acts = acts;

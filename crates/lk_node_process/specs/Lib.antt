@@ -1,3 +1,4 @@
 pub mod Revivals
 pub mod Turns
 pub mod Warnings
+pub mod FirstStores

@@ -17,8 +17,8 @@ use Rattle.lk_replica.specs.ReplicaValue.{ReplicaValue}
 use Rattle.lk_replica.specs.Revived.{MayGoOn}
 use Rattle.lk_recovery.specs.Revivals.{IsRefusedFor}
 use Rattle.lk_node_interface.specs.declared.fault.ReplicaFault.{ReplicaFault}
-use Rattle.lk_transport.specs.Faults.{replica_fault}
-use Rattle.lk_transport.specs.declared.fault.ProgramFault.{ProgramFault}
+use Rattle.lk_program_fault.specs.Faults.{replica_fault}
+use Rattle.lk_program_fault.specs.declared.fault.ProgramFault.{ProgramFault}
 use Rattle.lk_transport.specs.declared.network.Network.{Network}
 use Rattle.lk_pacing.specs.declared.pace.Pace.{Pace}
 use Rattle.lk_server.specs.Servers.{ServerValue, IsConfiguredAs, HasSocket}

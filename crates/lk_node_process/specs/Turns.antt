@@ -13,7 +13,7 @@ use Rattle.lk_server_replica.specs.Showing.{IsShown}
 use Rattle.lk_server.specs.Servers.{ServerValue, HasReceived, Turn, LastTurn, IsIdle}
 use Rattle.lk_transport.specs.Askers.{BringsProbe}
 use Rattle.lk_transport.specs.Inquiring.{IsReportedBy}
-use Rattle.lk_transport.specs.Kept.{KeepsFirstOf}
+use Rattle.lk_transport.specs.Kept.{KeepsFirstOf, OnlyLastBrings}
 use Rattle.lk_transport.specs.declared.received_probe.ReceivedProbe.{ReceivedProbe}
 use Rattle.lk_transport.specs.Chains.{Repeats}
 
@@ -37,8 +37,9 @@ module _ (Says : ReplicaValue → List (Option (List ℕ)) → List LetterValue 
   -- taken of the frames that came, and a tick where one was due, and goes on; or it is idle, and given nothing. After
   -- that the probe kept from before, or else the first in those frames, is answered, and a node of the same genesis
   -- that asks by it is heard again. The node learns from the report that it had kept, or else from the first in those
-  -- frames that answers its question. One question is sent if one is due, and nothing else. Where nodes live, and the
-  -- keys, are the same. `After` holds of the server then
+  -- frames that replies to it. Of these frames only the last brings a probe or a report, where none was kept. One
+  -- question and the probes to the members are sent if they are due, and nothing else. Where nodes live, and the keys,
+  -- are the same. `After` holds of the server then
   pub record DoesTurnWith (kept : Option ReceivedProbe) (told : Option Reported)
       (After : ServerValue ReplicaValue → Type 0) (old new : ServerValue ReplicaValue) : Type 0 where
     pub frames : List (SocketAddr × List ℕ)
@@ -50,7 +51,8 @@ module _ (Says : ReplicaValue → List (Option (List ℕ)) → List LetterValue 
     pub asked : Option ReceivedProbe
     pub first_asked : KeepsFirstOf (BringsProbe old.addresses.seals) kept frames asked
     pub reported : Option Reported
-    pub first_reported : KeepsFirstOf (IsReportedBy old.node old.addresses.seals) told frames reported
+    pub last : kept ≡ None → told ≡ None → OnlyLastBrings old.addresses.seals frames
+    pub first_reported : KeepsFirstOf (IsReportedBy old.addresses.seals) told frames reported
     pub acts : HandlesProbes IsShown observable asked reported mid new
     pub network : IsSameNetwork old.addresses new.addresses
     pub failure : TellsFailure new

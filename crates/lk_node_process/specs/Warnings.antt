@@ -6,7 +6,7 @@ use Rattle.lk_replica.specs.ReplicaValue.{ReplicaValue}
 use Rattle.lk_server_replica.specs.Showing.{IsShown}
 use Rattle.lk_server_replica.specs.declared.probed_state.ProbedState.{ProbedState}
 use Rattle.lk_server.specs.Probes.{ReportsStatus}
-use Rattle.lk_server.specs.Servers.{ServerValue}
+use Rattle.lk_server.specs.Servers.{ServerValue, periods}
 use Rattle.lk_transport.specs.Chains.{Repeats}
 use Rattle.lk_node_setup.specs.Reminders.{IsDue, Reminds, having_warned}
 use Rattle.lk_node_setup.specs.declared.port_reminder.PortReminder.{PortReminder}
@@ -22,10 +22,10 @@ pub record Reminded : Type 0 where
 abbrev pub reminded : ServerValue ReplicaValue → PortReminder → Option (List ℕ) → Reminded
 reminded s r bytes = record { server = s; reminder = r; written = bytes }
 
--- this status tells what the server's replica shows, and the server's own count of ticks
+-- this status tells what the server's replica shows, and the server's own count of periods
 abbrev pub IsStatusOf : ServerValue ReplicaValue → Status → Type 0
 IsStatusOf s status =
-    (shown : ProbedState) × IsShown s.replica shown × ReportsStatus s.addresses.seals.genesis s.ticks shown status
+    (shown : ProbedState) × IsShown s.replica shown × ReportsStatus s.addresses.seals.genesis (periods s) shown status
 
 -- by the server's own status, the line of the node of that number, which listens at that port, is written if a warning
 -- is due, and else nothing is; the next one is due a minute later, also where the line could not be written

@@ -4,7 +4,7 @@ ghost use Rattle.std.specs.Prelude.{◌≡◌};
 
 use lk_probe::DIGEST;
 use lk_probe::neighbours::Origin;
-use lk_transport::fault::ProgramFault;
+use lk_program_fault::ProgramFault;
 use std::io;
 use std::io::Write;
 

@@ -9,11 +9,11 @@ use lk_client::reply::Reply;
 use lk_memory_disk::MemoryDisk;
 use lk_node_setup::resources::Resources;
 use lk_pacing::pace::Pace;
+use lk_program_fault::ProgramFault;
 use lk_replica::Replica;
 use lk_server::server::Server;
 use lk_state::Machine;
 use lk_store_format::Header;
-use lk_transport::fault::ProgramFault;
 use lk_transport::network::Network;
 use lk_transport::receive_buffer::ReceiveBuffer;
 use lk_transport::socket::{DatagramSocket, LocalSocket, local};
@@ -248,7 +248,12 @@ pub fn run_demo<M: Machine, S: DatagramSocket + Drop, W: Write>(
     Ok(true)
 }
 
-// Opens sockets at this many free ports of 127.0.0.1, whose receives do not wait.
+// Opens a socket at a free port of 127.0.0.1, whose receives do not wait.
+fn free_socket<R: Net>(rt: &R) -> Result<LocalSocket, ProgramFault> {
+    LocalSocket::without_waiting(rt, 0).map_err(|_| ProgramFault::CannotOpen)
+}
+
+// Opens this many of them.
 fn free_sockets<R: Net>(
     rt: &R,
     alloc: Global,
@@ -256,7 +261,7 @@ fn free_sockets<R: Net>(
 ) -> Result<Vec<LocalSocket>, ProgramFault> {
     let mut sockets = Vec::new(alloc);
     for _ in 0..count {
-        sockets.push(LocalSocket::without_waiting(rt, 0)?)?;
+        sockets.push(free_socket(rt)?)?;
     }
     Ok(sockets)
 }
@@ -267,7 +272,7 @@ fn play_on_ports<M: Machine, R: Net, W: Write>(
     alloc: Global,
     out: &mut W,
 ) -> Result<bool, ProgramFault> {
-    let client = LocalSocket::without_waiting(rt, 0)?;
+    let client = free_socket(rt)?;
     let nodes = free_sockets(rt, alloc, NODES)?;
     let is_answered = run_demo::<M, _, W>(alloc, Sockets { nodes, client }, out)?;
     if out.flush().is_err() {

@@ -5,10 +5,10 @@ ghost use Rattle.std.specs.Prelude.{◌≡◌, MatchResult};
 use crate::observing::observe_end;
 use lk_disk::LogDisk;
 use lk_node_events::line::Observer;
+use lk_program_fault::ProgramFault;
 use lk_replica::Replica;
 use lk_server::server::Server;
 use lk_state::Machine;
-use lk_transport::fault::ProgramFault;
 use lk_transport::socket::DatagramSocket;
 use std::io::Write;
 

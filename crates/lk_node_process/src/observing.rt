@@ -6,11 +6,11 @@ use lk_disk::LogDisk;
 use lk_node::Node;
 use lk_node_events::line::Observer;
 use lk_node_events::observation::Observation;
+use lk_program_fault::ProgramFault;
 use lk_replica::Replica;
 use lk_server::server::Server;
 use lk_server::turn_events::TurnEvents;
 use lk_state::Machine;
-use lk_transport::fault::ProgramFault;
 use lk_transport::socket::DatagramSocket;
 use lk_types::{Members, NodeNo};
 
@@ -33,8 +33,12 @@ fn next_members<M: Machine>(node: &Node<M>) -> &Members {
     }
 }
 
-// Makes the observation of a node, from its state and from what happened in its turn.
-fn observation_of<M: Machine>(node: &Node<M>, events: &TurnEvents) -> Observation {
+// Makes the observation of a server's node, from its state and from what happened in its turn.
+fn observation_of<M: Machine, D: LogDisk + Drop, S: DatagramSocket + Drop>(
+    server: &Server<Replica<M, D>, S>,
+    events: &TurnEvents,
+) -> Observation {
+    let node = server.replica().node();
     let own = node.header().node();
     let members = next_members(node).copy();
     let is_member = members.as_slice().iter().any(|member| member.node == own);
@@ -51,6 +55,8 @@ fn observation_of<M: Machine>(node: &Node<M>, events: &TurnEvents) -> Observatio
         unsent: events.sends.unsent,
         stranger: events.stranger,
         foreign: events.foreign,
+        heard: server.count_heard(),
+        deaf: server.is_deaf(),
     }
 }
 
@@ -60,13 +66,13 @@ fn is_empty<M: Machine>(node: &Node<M>) -> bool {
 }
 
 /// Reports to an observer that a node has started.
-pub fn observe_start<M: Machine, D: LogDisk + Drop, O: Observer>(
-    replica: &Replica<M, D>,
+pub fn observe_start<M: Machine, D: LogDisk + Drop, S: DatagramSocket + Drop, O: Observer>(
+    server: &Server<Replica<M, D>, S>,
     observer: &mut O,
 ) {
     if observer.is_on() {
-        let node = replica.node();
-        observer.start(is_empty(node), observation_of(node, &TurnEvents::NOTHING));
+        let seen = observation_of(server, &TurnEvents::NOTHING);
+        observer.start(is_empty(server.replica().node()), seen);
     }
 }
 
@@ -79,7 +85,8 @@ pub fn observe_turn<M: Machine, D: LogDisk + Drop, S: DatagramSocket + Drop, O: 
 {
     if observer.is_on() {
         let events = server.drain_events();
-        observer.observe(observation_of(server.replica().node(), &events));
+        let seen = observation_of(server, &events);
+        observer.observe(seen);
     }
 }
 

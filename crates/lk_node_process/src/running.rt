@@ -8,7 +8,7 @@ ghost use Rattle.lk_server.specs.ProbeHandling.{HandlesProbes};
 ghost use Rattle.lk_server_replica.specs.Showing.{IsShown};
 ghost use Rattle.lk_server.specs.Servers.{IsConfiguredAs, HasSocket};
 ghost use Rattle.lk_transport.specs.Chains.{Repeats};
-ghost use Rattle.lk_transport.specs.Faults.{replica_fault};
+ghost use Rattle.lk_program_fault.specs.Faults.{replica_fault};
 ghost use Rattle.lk_node_setup.specs.KeysOfNode.{AreSealsOf};
 ghost use Rattle.lk_node_setup.specs.SelfProbes.{socket_value};
 ghost use Rattle.lk_node_process.specs.Revivals.{ComesUp, IsServerStarted, IsRestartRefused};
@@ -29,6 +29,7 @@ use lk_node_interface::ReplicaFault;
 use lk_node_setup::port_reminder::PortReminder;
 use lk_node_setup::resources::{NodePlan, Resources};
 use lk_pacing::tick_timer::TickTimer;
+use lk_program_fault::ProgramFault;
 use lk_recovery::ReviveFault;
 use lk_replica::Replica;
 use lk_server::group_fault::GroupFault;
@@ -38,7 +39,6 @@ use lk_server::watching::{log_port, log_start};
 use lk_server_replica::ServerReplica;
 use lk_state::Machine;
 use lk_store_format::Header;
-use lk_transport::fault::ProgramFault;
 use lk_transport::receive_buffer::ReceiveBuffer;
 use lk_transport::socket::DatagramSocket;
 use log::Log;
@@ -363,7 +363,7 @@ fn run_turns<
         ⊎ BreaksOffByStranger ⟦<Replica<M, D> as ServerReplica>⟧.Says S.is_observable (2 ^ 48) server.old server.new) }
 {
     log_port(log, plan.port);
-    observe_start(server.replica(), observer);
+    observe_start(server, observer);
     do_turns(clock, server, plan, reminder, log, observer, err)
 }
 

@@ -1,7 +1,10 @@
 pub mod ClientKeys
 pub mod Digests
 pub mod Guards
+pub mod HostFiles
 pub mod KeysOfNode
 pub mod SelfProbes
 pub mod Ports
 pub mod Reminders
+pub mod Named
+pub mod Opened

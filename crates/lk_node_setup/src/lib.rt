@@ -4,7 +4,11 @@
 
 pub mod client_key;
 pub mod digest;
+mod host_file;
 pub mod network;
+pub mod platform;
 pub mod port_reminder;
 pub mod resources;
 mod self_probe;
+pub mod system;
+pub mod text_files;

@@ -1,37 +1,37 @@
 //! Opens what a node runs on, and warns if the genesis names its port otherwise.
 
-ghost use Rattle.std.specs.Prelude.{◌≡◌, ◌≢◌, [], Some, None, IfOk, IfSome, OnErr};
+ghost use Rattle.std.specs.Prelude.{◌≡◌, Some, None, IfOk, IfSome, OnErr};
 ghost use Rattle.lk_members.specs.Ports.{port_in};
 ghost use Rattle.lk_auth.specs.Seals.{key_list};
 ghost use Rattle.lk_node_setup.specs.SelfProbes.{FindsUnheard, socket_value};
 ghost use Rattle.lk_node_setup.specs.Ports.{misnamed};
-ghost use Rattle.lk_node_setup.specs.KeysOfNode.{AreSealsOf};
+ghost use Rattle.lk_node_setup.specs.Opened.{AreOpenedFor, pace_with};
 
 use crate::network::{NetworkOptions, network_of};
+use crate::platform::Platform;
 use crate::self_probe::unheard_port;
 use lk_auth::{Keys, Seals};
-use lk_disk::SystemDisk;
-use lk_node_files::causes::open_socket_at;
-use lk_node_files::folder::{FolderLock, open_device};
+use lk_disk::LogDisk;
 use lk_pacing::pace::Pace;
+use lk_program_fault::ProgramFault;
 use lk_store_format::Header;
-use lk_transport::fault::ProgramFault;
 use lk_transport::network::Network;
-use lk_transport::socket::{DatagramSocket, LocalSocket};
+use lk_transport::socket::DatagramSocket;
 use lk_types::{Member, NodeNo, Port};
 use std::alloc::Global;
-use std::fs::{File, Files};
 use std::io::Write;
-use std::net::Net;
 
 /// What the command line of `locks node` asks for: the node with its genesis, its port, what its ticks go by, the
-/// folder of its files, and the options about other machines.
+/// folder of its files, whether that must have a store, whether the node sends bundles, and the options about other
+/// machines.
 #[derive(Drop)]
 pub struct NodePlan<'a> {
     pub header: Header,
     pub port: Port,
     pub pace: Pace,
     pub folder: &'a str,
+    pub existing: bool,
+    pub bundles: bool,
     pub options: NetworkOptions<'a>,
 }
 
@@ -45,9 +45,6 @@ pub struct Resources<D: Drop, S: Drop> {
     pub pace: Pace,
     pub unheard: Option<Port>,
 }
-
-/// The files of a folder as a device.
-pub type FolderDisk = SystemDisk<File>;
 
 // Returns the port that the members give the node, if it is one of them.
 fn named_port(members: &[Member], node: NodeNo) -> Option<Port>
@@ -113,8 +110,7 @@ fn check_named_port<S: DatagramSocket, E: Write>(
 // Returns what the ticks of a node with these seals go by: the clock if the nodes have a key, so that a stranger's
 // payloads neither bring nor prevent ticks, or else what was asked for.
 fn pace_with(seals: &Seals, asked: Pace) -> Pace
-    ensures key { key_list seals.now.nodes ≢ [] → result ≡ Pace.Clock }
-    ensures none { key_list seals.now.nodes ≡ [] → result ≡ asked }
+    ensures { result ≡ pace_with (key_list seals.now.nodes) asked }
 {
     match &seals.nodes {
         Keys::NoKey => asked,
@@ -154,29 +150,31 @@ fn warn_of_members<E: Write>(plan: &NodePlan<'_>, err: &mut E) {
     }
 }
 
-/// Opens the resources of a plan's node: its files, which are created if they are missing, and its socket. The folder
-/// stays locked as long as the second value lives. On failure, or if another process runs on the folder, it writes
-/// the reason and returns `CannotOpen`; out of memory, it returns `NoMemory`.
-pub fn open_resources<R: Files<File = File> + Net, E: Write>(
-    rt: &R,
+/// Opens the resources of a plan's node on a platform. The folder stays locked as long as the second value lives. On
+/// failure it writes the reason and returns the fault: `CannotOpen` also if another process runs on the folder, or if
+/// there should be a store and is none.
+pub fn open_resources<D: LogDisk + Drop, S: DatagramSocket + Drop, P: Platform<D, S>, E: Write>(
+    platform: &P,
     alloc: Global,
     plan: &NodePlan<'_>,
     err: &mut E,
-) -> Result<(Resources<FolderDisk, LocalSocket>, FolderLock), ProgramFault>
-    // The keys are for the node of the plan, in its cluster.
-    ensures seals { IfOk result (λ r. AreSealsOf plan.now.header r.0.network.seals) }
-    // Where the nodes have a key, ticks go by the clock.
-    ensures pace { IfOk result (λ r. key_list r.0.network.seals.nodes ≢ [] → r.0.pace ≡ Pace.Clock) }
-    // Only the port that the genesis names, where the node listens at another one, may be one at which it is not heard.
-    ensures unheard { IfOk result
-        (λ r. IfSome r.0.unheard (λ port. misnamed plan.now.header plan.now.port ≡ Some port)) }
+) -> Result<(Resources<D, S>, P::Lock), ProgramFault>
+    // They are those that the plan names.
+    ensures { IfOk result (λ r. AreOpenedFor (P.is_text platform.now) (P.is_store platform.now)
+        (P.is_bound platform.now) D.is_honest D.disk S.is_observable S.sent S.failures S.incoming plan.now r.0) }
 {
     warn_of_members(plan, err);
-    let (network, address) = network_of(rt, alloc, &plan.header, plan.port, &plan.options, err)?;
-    let mut socket = open_socket_at(rt, address, err)?;
+    let (network, address) = network_of(
+        platform,
+        alloc,
+        &plan.header,
+        plan.port,
+        &plan.options,
+        err,
+    )?;
+    let mut socket = platform.open_socket(alloc, address, plan.bundles, err)?;
     let unheard = check_named_port(alloc, plan, &network, &mut socket, err)?;
-    let lock = FolderLock::acquire(rt, alloc, plan.folder, err)?;
-    let device = open_device(rt, alloc, plan.folder, err)?;
+    let (device, lock) = platform.open_store(alloc, plan.folder, plan.existing, err)?;
     let pace = pace_with(&network.seals, plan.pace);
     let resources = Resources {
         device,

@@ -7,8 +7,8 @@ ghost use Rattle.lk_node_setup.specs.SelfProbes.{ComesNext, FindsUnheard, IsHear
 use lk_auth::Seals;
 use lk_probe::neighbours::Origin;
 use lk_probe::reported::question;
+use lk_program_fault::ProgramFault;
 use lk_store_format::Header;
-use lk_transport::fault::ProgramFault;
 use lk_transport::network::Network;
 use lk_transport::receive_buffer::ReceiveBuffer;
 use lk_transport::socket::DatagramSocket;
@@ -71,7 +71,7 @@ fn probe_itself<S: DatagramSocket>(
     };
     let probe = question(header.genesis().cluster, asker).datagram();
     let mut frame = Vec::new(alloc);
-    let framed = seals.seal_to_node(header.node().get(), &probe, &mut frame)?;
+    let framed = seals.seal_to_node(header.node().get(), probe.as_slice(), &mut frame)?;
     match socket.send_to(address, framed) {
         Ok(()) => Ok(comes_back(socket, framed)),
         Err(_) => Ok(false),

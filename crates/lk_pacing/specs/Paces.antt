@@ -1,7 +1,12 @@
 -- When a server gives a tick to its replica.
-use Rattle.std.specs.Prelude.{◌≡◌, ◌⊎◌, ◌==◌, ◌%◌, ℕ, Bool, false, List, [], ◌∷◌, Option, None}
+use Rattle.std.specs.Prelude.{◌≡◌, ◌⊎◌, ◌==◌, ◌%◌, ℕ, Bool, true, false, List, [], ◌∷◌, Option, None}
 use Rattle.lk_pacing.specs.declared.pace.Pace.{Pace}
 use Rattle.lk_pacing.specs.declared.pace.Pace.TheVariants.{Datagrams, Clock}
+
+-- the clock alone triggers the ticks
+abbrev pub is_clock : Pace → Bool
+is_clock Datagrams = false
+is_clock Clock = true
 
 -- whether a tick follows the datagram of that number at once: by datagrams every 64th, by the clock none
 abbrev pub ticks_after : Pace → ℕ → Bool

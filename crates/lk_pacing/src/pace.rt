@@ -1,7 +1,7 @@
 //! What triggers the ticks of a server: datagrams, or the clock alone.
 
 ghost use Rattle.std.specs.Prelude.{◌≡◌, true, false};
-ghost use Rattle.lk_pacing.specs.Paces.{ticks_after};
+ghost use Rattle.lk_pacing.specs.Paces.{is_clock, ticks_after};
 
 use crate::tick_timer::TickTimer;
 use crate::turn_input::TurnInput;
@@ -20,6 +20,13 @@ pub enum Pace {
 }
 
 impl Pace {
+    /// Whether the clock alone triggers the ticks.
+    pub fn is_clock(self) -> bool
+        ensures { result ≡ is_clock self }
+    {
+        matches!(self, Pace::Clock)
+    }
+
     /// Returns whether a tick follows this datagram at once. `number` counts all datagrams so far, this one included.
     pub fn ticks_after(self, number: u64) -> bool
         ensures { result ≡ ticks_after self number }

@@ -104,6 +104,15 @@ impl<C: Clock> TickTimer<C> {
         Instant::now(&self.clock).ok()
     }
 
+    /// Returns a reading of the clock in nanoseconds, or zero if it fails. It serves to draw numbers that are hard to
+    /// guess.
+    pub fn reading(&self) -> u128 {
+        match self.clock.monotonic() {
+            Ok(time) => time.as_nanos(),
+            Err(_) => 0,
+        }
+    }
+
     /// Returns the time since `then`, or zero if the clock failed then or fails now.
     pub fn since(&self, then: Option<Instant>) -> Duration {
         match (then, self.now()) {

@@ -1,13 +1,14 @@
 -- Ways to build a reader of others, beside those of the fields.
-use Rattle.std.proofs.Common.{◌≡◌, ℕ, suc, ◌-◌, ◌≤◌, Bool, true, false, cond, eqb, ◌&&◌, List, [], ◌∷◌, ◌++◌, length}
-use Rattle.std.proofs.Common.{replicate, Option, Some, None, refl, ap, subst, ◌∙◌, arith, inl, inr}
-use Rattle.std.proofs.lemmas.Bool.{eqb-true}
+use Rattle.std.proofs.Common.{◌≡◌, ℕ, suc, ◌-◌, ◌≤◌, Bool, true, false, cond, eqb, ltb, ◌&&◌, List, [], ◌∷◌, ◌++◌}
+use Rattle.std.proofs.Common.{length, take, drop, replicate, Option, Some, None, refl, ap, sym, subst, ◌∙◌, arith}
+use Rattle.std.proofs.Common.{inl, inr}
+use Rattle.std.proofs.lemmas.Bool.{eqb-true, le-ltb}
 use Rattle.std.proofs.lemmas.Bool.Decides.{nat_tests}
-use Rattle.std.proofs.lemmas.List.{length-append, length-replicate}
+use Rattle.std.proofs.lemmas.List.{length-append, length-replicate, take_at, drop_at, take-append-drop}
 use Rattle.lk_codec.specs.Parser.{◌>>=◌, made}
 use Rattle.lk_codec.proofs.Spellings.{IsBytes, bind_ok, chosen, some_is, Took, Reads, made_as}
 use Rattle.lk_probe.specs.Grammar.{front, padded}
-use Rattle.lk_probe.specs.Reading.{are_zeros, fronted, filled}
+use Rattle.lk_probe.specs.Reading.{are_zeros, cut, fronted, filled}
 
 module _ {X Y : Type 0} where
   -- another view of the value, which can be undone where it fits
@@ -22,45 +23,45 @@ module _ {X Y : Type 0} where
     again = λ y rest fits. let is = back y fits in rw (r.again (g y) rest is.1) (ap (λ (z : Y). Some (z, rest)) is.0);
   }
 
-letters : (k a b c d : ℕ) → (eqb a 76 && eqb b 80 && eqb c 1 && eqb d k) ≡ true
-    → (a ≡ 76) × (b ≡ 80) × (c ≡ 1) × (d ≡ k)
-letters k a b c d e = grind (arith, nat_tests)
+letters : (f k a b c d : ℕ) → (eqb a 76 && eqb b 80 && eqb c f && eqb d k) ≡ true
+    → (a ≡ 76) × (b ≡ 80) × (c ≡ f) × (d ≡ k)
+letters f k a b c d e = grind (arith, nat_tests)
 
 same : (k : ℕ) → eqb k k ≡ true
 same k = grind (arith, nat_tests)
 
 module _ {X : Type 0} where
-  fronted_takes : (k : ℕ) (p : List ℕ → Option (X × List ℕ)) (s : X → List ℕ) (F : X → Type 0) → Reads p s F
-      → (bytes : List ℕ) (x : X) (rest : List ℕ) → IsBytes bytes → fronted k p bytes ≡ Some (x, rest)
-      → Took (λ (x : X). front k (s x)) F bytes x rest
-  fronted_takes k p s F r (a ∷ b ∷ c ∷ d ∷ bytes) x rest h e =
-      elim (chosen (eqb a 76 && eqb b 80 && eqb c 1 && eqb d k) (p bytes) None (Some (x, rest)) e) [
+  fronted_takes : (f k : ℕ) (p : List ℕ → Option (X × List ℕ)) (s : X → List ℕ) (F : X → Type 0) → Reads p s F
+      → (bytes : List ℕ) (x : X) (rest : List ℕ) → IsBytes bytes → fronted f k p bytes ≡ Some (x, rest)
+      → Took (λ (x : X). front f k (s x)) F bytes x rest
+  fronted_takes f k p s F r (a ∷ b ∷ c ∷ d ∷ bytes) x rest h e =
+      elim (chosen (eqb a 76 && eqb b 80 && eqb c f && eqb d k) (p bytes) None (Some (x, rest)) e) [
         | inr failing ↦ let bad = failing.1 in absurd cc
         | inl passing ↦
-            let are = letters k a b c d passing.0 in
+            let are = letters f k a b c d passing.0 in
             let t = r.takes bytes x rest (λ i. h (suc (suc (suc (suc i))))) passing.1 in
             record {
-              parts = rw (are.0, are.1, are.2, are.3) (ap (front k) t.parts);
+              parts = rw (are.0, are.1, are.2, are.3) (ap (front f k) t.parts);
               rest_fits = t.rest_fits;
               fits = t.fits;
             }
       ]
-  fronted_takes k p s F r [] x rest h e = absurd cc
-  fronted_takes k p s F r (a ∷ []) x rest h e = absurd cc
-  fronted_takes k p s F r (a ∷ b ∷ []) x rest h e = absurd cc
-  fronted_takes k p s F r (a ∷ b ∷ c ∷ []) x rest h e = absurd cc
+  fronted_takes f k p s F r [] x rest h e = absurd cc
+  fronted_takes f k p s F r (a ∷ []) x rest h e = absurd cc
+  fronted_takes f k p s F r (a ∷ b ∷ []) x rest h e = absurd cc
+  fronted_takes f k p s F r (a ∷ b ∷ c ∷ []) x rest h e = absurd cc
 
-  -- after the letters, the version and the number
-  pub fronted_reads : (k : ℕ) (p : List ℕ → Option (X × List ℕ)) (s : X → List ℕ) (F : X → Type 0) → Reads p s F
-      → Reads (fronted k p) (λ (x : X). front k (s x)) F
-  fronted_reads k p s F r = record {
-    takes = fronted_takes k p s F r;
-    again = λ x rest fits. rw (same k) (r.again x rest fits);
+  -- after the letters, the form and the number
+  pub fronted_reads : (f k : ℕ) (p : List ℕ → Option (X × List ℕ)) (s : X → List ℕ) (F : X → Type 0) → Reads p s F
+      → Reads (fronted f k p) (λ (x : X). front f k (s x)) F
+  fronted_reads f k p s F r = record {
+    takes = fronted_takes f k p s F r;
+    again = λ x rest fits. rw (same f, same k) (r.again x rest fits);
   }
 
 -- ---- up to the length
 
-both_are : (a b : Bool) → (a && b) ≡ true → (a ≡ true) × (b ≡ true)
+pub both_are : (a b : Bool) → (a && b) ≡ true → (a ≡ true) × (b ≡ true)
 both_are true b e = (refl, e)
 both_are false b e = absurd cc
 
@@ -117,3 +118,30 @@ module _ {X : Type 0} where
   filled_again p s F r x fits short =
       let zeros : List ℕ = replicate (174 - length (s x)) 0 in
       rw (length-padded (s x) short, r.again x zeros fits, are_zeros-replicate (174 - length (s x))) refl
+
+-- ---- what follows the bytes of form 1
+
+module _ {X Y : Type 0} where
+  -- both parts are read
+  pub cut_takes : (tail : List ℕ → Option Y) (p : Y → List ℕ → Option X) (bytes : List ℕ) (x : X)
+      → cut tail p bytes ≡ Some x
+      → (y : Y) × (tail (drop 174 bytes) ≡ Some y) × (p y (take 174 bytes) ≡ Some x)
+  cut_takes tail p bytes x e =
+      elim (chosen (ltb (length bytes) 174) None
+      (tail (drop 174 bytes) >>= λ t. p t (take 174 bytes)) (Some x) e) [
+        | inl short ↦ let bad = short.1 in absurd cc
+        | inr long ↦
+            let a = bind_ok (tail (drop 174 bytes)) (λ t. p t (take 174 bytes)) x long.1 in (a.0, a.1, a.2)
+      ]
+
+  pub cut_again : (tail : List ℕ → Option Y) (p : Y → List ℕ → Option X) (front back : List ℕ) (x : X) (y : Y)
+      → length front ≡ 174 → tail back ≡ Some y → p y front ≡ Some x → cut tail p (front ++ back) ≡ Some x
+  cut_again tail p front back x y len is there =
+      let long : ltb (length (front ++ back)) 174 ≡ false = le-ltb _ _ (omega (arith, length-append front back)) in
+      rw (long, take_at front back 174 len, drop_at front back 174 len, is) there
+
+-- bytes are those of form 1, and what follows them
+pub joined : (bytes front back : List ℕ) → take 174 bytes ≡ front → drop 174 bytes ≡ back → bytes ≡ front ++ back
+joined bytes front back first last =
+    sym (take-append-drop 174 bytes) ∙ ap (λ (w : List ℕ). w ++ drop 174 bytes) first
+    ∙ ap (λ (w : List ℕ). front ++ w) last

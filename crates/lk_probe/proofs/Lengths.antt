@@ -1,5 +1,5 @@
 -- How long a probe and a report are before zeros stand behind.
-use Rattle.std.proofs.Common.{◌≡◌, ◌*◌, ◌≤◌, List, [], ◌∷◌, Option, Some, None, length, refl, arith}
+use Rattle.std.proofs.Common.{◌≡◌, ℕ, ◌*◌, ◌≤◌, List, [], ◌∷◌, Option, Some, None, length, refl, arith}
 use Rattle.std.specs.Prelude.{IfSome}
 use Rattle.std.specs.List.{flat_map}
 use Rattle.std.proofs.lemmas.List.{length-append}
@@ -27,14 +27,14 @@ length-genesis : (o : Option Origin) → IfSome o IsOrigin → length (genesis_i
 length-genesis None f = refl
 length-genesis (Some o) f = f.1
 
-pub length-probe : (p : Probe) → IsProbe p → length (front 9 (probe p)) ≡ 58
-length-probe p f =
+pub length-probe : (n : ℕ) (p : Probe) → IsProbe p → length (front n 9 (probe p)) ≡ 58
+length-probe n p f =
     simp (length-append, length-two, length-four, length-eight) (omega (arith, length-genesis p.origin f.1))
 
 length-status : (s : Status) → IsStatus s → length (status s) ≤ 148
 length-status s f =
     simp (length-append, length-two, length-four, length-eight) (omega (arith, f.0.0, f.4.1, length-members s.members))
 
-pub length-report : (r : Report) → IsReport r → length (front 10 (report r)) ≤ 174
-length-report r f = simp (length-append, length-two, length-four, length-eight)
+pub length-report : (n : ℕ) (r : Report) → IsReport r → length (front n 10 (report r)) ≤ 174
+length-report n r f = simp (length-append, length-two, length-four, length-eight)
     (omega (arith, f.4.0.0, f.4.4.1, length-members r.status.members))

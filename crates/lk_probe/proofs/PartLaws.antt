@@ -1,9 +1,10 @@
 -- Each part of a probe and of a report reads what its spelling is.
-use Rattle.std.proofs.Common.{◌≡◌, ℕ, suc, ◌^◌, ◌<◌, ◌≤◌, Bool, true, false, ltb, leb, eqb, List, ◌++◌, length, take}
+use Rattle.std.proofs.Common.{◌≡◌, ℕ, suc, ◌+◌, ◌-◌, ◌^◌, ◌<◌, ◌≤◌, Bool, true, false, cond, ltb, leb, eqb, ◌&&◌, List}
+use Rattle.std.proofs.Common.{[], ◌∷◌, ◌++◌, length, take}
 use Rattle.std.proofs.Common.{drop, replicate, Option, Some, None, refl, ap, sym, subst, ◌∙◌, arith, inl, inr}
 use Rattle.std.specs.Prelude.{IfSome}
 use Rattle.std.specs.List.{AllByRecursion}
-use Rattle.std.proofs.lemmas.Bool.{ltb-false, le-ltb}
+use Rattle.std.proofs.lemmas.Bool.{eqb-true, ltb-false, le-ltb}
 use Rattle.std.proofs.lemmas.Bool.Decides.{nat_tests}
 use Rattle.std.proofs.lemmas.List.{take_at, drop_at, take-append-drop, length-append, length-take}
 use Rattle.lk_types.specs.Ranges.{IsNode, IsClient, IsTotal}
@@ -12,20 +13,24 @@ use Rattle.lk_types.specs.Ballots.{IsBallot}
 use Rattle.lk_types.specs.Rosters.{IsMember, AreMembers}
 use Rattle.lk_types.specs.declared.member.Member.{Member}
 use Rattle.lk_codec.specs.Fields.{one, two, four, eight, ballot, members}
-use Rattle.lk_codec.specs.Parser.{read_byte, both, tested}
+use Rattle.lk_codec.specs.Parser.{◌>>=◌, read_byte, both, tested, whole}
 use Rattle.lk_codec.specs.FieldReading.{read_two, read_four, read_eight, read_node, read_total, read_any_ballot}
 use Rattle.lk_codec.specs.FieldReading.{read_members}
 use Rattle.lk_codec.proofs.Spellings.{IsBytes, IsBytes-drop, chosen, some_is, Took, Reads, fitting, both_reads}
 use Rattle.lk_codec.proofs.Spellings.{made_reads, byte_reads, two_reads, four_reads, eight_reads, limited_reads}
-use Rattle.lk_codec.proofs.Spellings.{tested_reads, node_reads, total_reads, mark_reads, members_reads}
+use Rattle.lk_codec.proofs.Spellings.{tested_reads, node_reads, total_reads, mark_reads, members_reads, bind_ok}
+use Rattle.lk_codec.proofs.Spellings.{whole_again, whole_takes, length-two}
 use Rattle.lk_auth.specs.Seals.{no_genesis}
 use Rattle.lk_probe.specs.Grammar.{or_zero, node_in, genesis_in, flag, version, identity, leadership, progress, traffic}
 use Rattle.lk_probe.specs.Grammar.{status, probe, report, IsByte, IsVersion, IsIdentity, IsLeadership, IsProgress}
-use Rattle.lk_probe.specs.Grammar.{IsTraffic, IsStatus, IsProbe, IsReport}
+use Rattle.lk_probe.specs.Grammar.{IsTraffic, IsStatus, IsProbe, IsReport, IsReach, heard_number, reach, reach_in}
+use Rattle.lk_probe.specs.Grammar.{blank}
 use Rattle.lk_probe.specs.Reading.{or_none, is_with_node, origin_of, optional, read_maybe_node, read_maybe_client}
 use Rattle.lk_probe.specs.Reading.{read_flag, read_digest, read_version, read_identity, read_leadership, read_progress}
-use Rattle.lk_probe.specs.Reading.{read_traffic, read_status, read_probe_fields, read_report_fields}
+use Rattle.lk_probe.specs.Reading.{read_traffic, read_status, read_probe_fields, read_report_fields, are_zeros}
+use Rattle.lk_probe.specs.Reading.{heard_in, read_heard, read_reach, read_tail, read_blank}
 use Rattle.lk_probe.specs.declared.neighbours.Origin.{Origin}
+use Rattle.lk_probe.specs.declared.reach.Reach.{Reach}
 use Rattle.lk_probe.specs.declared.status.Version.{Version}
 use Rattle.lk_probe.specs.declared.status.Identity.{Identity}
 use Rattle.lk_probe.specs.declared.status.Leadership.{Leadership}
@@ -34,7 +39,7 @@ use Rattle.lk_probe.specs.declared.status.Traffic.{Traffic}
 use Rattle.lk_probe.specs.declared.status.Status.{Status}
 use Rattle.lk_probe.specs.declared.probe.Probe.{Probe}
 use Rattle.lk_probe.specs.declared.probe.Report.{Report}
-use Rattle.lk_probe.proofs.Codec.{remade_reads, zeros, are_zeros-replicate}
+use Rattle.lk_probe.proofs.Codec.{remade_reads, zeros, are_zeros-replicate, both_are}
 
 -- ---- numbers that may not be there
 
@@ -204,50 +209,64 @@ IsAsking x = (x.0 < 2 ^ 64)
 abbrev spelled : Asking → List ℕ
 spelled x = eight x.0 ++ (four (or_zero x.1.0) ++ (two (or_zero x.1.1.0) ++ (eight x.1.1.1.0 ++ x.1.1.1.1)))
 
-abbrev probe_by : Asking → Probe
-probe_by x = record { cluster = x.0; origin = origin_of x.1.0 x.1.1.1.1; client = x.1.1.0; token = x.1.1.1.0 }
+abbrev probe_by : Bool → Asking → Probe
+probe_by asks x = record {
+  cluster = x.0;
+  origin = origin_of x.1.0 x.1.1.1.1;
+  client = x.1.1.0;
+  token = x.1.1.1.0;
+  asks_reach = asks;
+}
 
 abbrev fields_of : Probe → Asking
 fields_of p = (p.cluster, (node_in p.origin, (p.client, (p.token, genesis_in p.origin))))
 
+-- a probe that asks for a reach, or one that does not
+abbrev pub IsProbeThat : Bool → Probe → Type 0
+IsProbeThat asks p = IsProbe p × (p.asks_reach ≡ asks)
+
 -- a probe has its parts
-has_fields : (cluster : ℕ) (node client : Option ℕ) (token : ℕ) (genesis : List ℕ)
+has_fields : (asks : Bool) (cluster : ℕ) (node client : Option ℕ) (token : ℕ) (genesis : List ℕ)
     → IsAsking (cluster, (node, (client, (token, genesis)))) × (is_with_node node genesis ≡ true)
-    → (fields_of (probe_by (cluster, (node, (client, (token, genesis)))))
-    ≡ (cluster, (node, (client, (token, genesis))))) × IsProbe (probe_by (cluster, (node, (client, (token, genesis)))))
-has_fields cluster None client token genesis f =
+    → (fields_of (probe_by asks (cluster, (node, (client, (token, genesis)))))
+    ≡ (cluster, (node, (client, (token, genesis)))))
+    × IsProbeThat asks (probe_by asks (cluster, (node, (client, (token, genesis)))))
+has_fields asks cluster None client token genesis f =
     let none : no_genesis ≡ genesis = sym (zeros genesis f.1 ∙ ap (λ (n : ℕ). replicate n 0) f.0.1.1.1.1) in (
       ap (λ (g : List ℕ). let x : Asking = (cluster, (None, (client, (token, g)))) in x) none,
-      (f.0.0, tt, f.0.1.1.0, f.0.1.1.1.0),
+      ((f.0.0, tt, f.0.1.1.0, f.0.1.1.1.0), refl),
     )
-has_fields cluster (Some n) client token genesis f = (refl, (f.0.0, (f.0.1.0, f.0.1.1.1.1), f.0.1.1.0, f.0.1.1.1.0))
+has_fields asks cluster (Some n) client token genesis f =
+    (refl, ((f.0.0, (f.0.1.0, f.0.1.1.1.1), f.0.1.1.0, f.0.1.1.1.0), refl))
 
 -- its parts make it
-of_fields : (cluster : ℕ) (origin : Option Origin) (client : Option ℕ) (token : ℕ)
-    → IsProbe (record { cluster = cluster; origin = origin; client = client; token = token })
+of_fields : (cluster : ℕ) (origin : Option Origin) (client : Option ℕ) (token : ℕ) (asks : Bool)
+    → IsProbe (record { cluster = cluster; origin = origin; client = client; token = token; asks_reach = asks })
     → (origin_of (node_in origin) (genesis_in origin) ≡ origin)
     × (IsAsking (cluster, (node_in origin, (client, (token, genesis_in origin))))
     × (is_with_node (node_in origin) (genesis_in origin) ≡ true))
-of_fields cluster None client token f = (refl, ((f.0, (tt, (f.2, (f.3, refl)))), are_zeros-replicate 32))
-of_fields cluster (Some o) client token f = (refl, ((f.0, (f.1.0, (f.2, (f.3, f.1.1)))), refl))
+of_fields cluster None client token asks f = (refl, ((f.0, (tt, (f.2, (f.3, refl)))), are_zeros-replicate 32))
+of_fields cluster (Some o) client token asks f = (refl, ((f.0, (f.1.0, (f.2, (f.3, f.1.1)))), refl))
 
-fields_again : (p : Probe) → IsProbe p
-    → (probe_by (fields_of p) ≡ p)
+fields_again : (asks : Bool) (p : Probe) → IsProbeThat asks p
+    → (probe_by asks (fields_of p) ≡ p)
     × (IsAsking (fields_of p) × (is_with_node (node_in p.origin) (genesis_in p.origin) ≡ true))
-fields_again p f =
-    let is = of_fields p.cluster p.origin p.client p.token f in (
-      ap (λ (o : Option Origin). let x : Probe =
-          record { cluster = p.cluster; origin = o; client = p.client; token = p.token } in x) is.0,
+fields_again asks p f =
+    let is = of_fields p.cluster p.origin p.client p.token p.asks_reach f.0 in (
+      ap (λ (a : Bool). probe_by a (fields_of p)) (sym f.1)
+          ∙ ap (λ (o : Option Origin). let x : Probe =
+          record { cluster = p.cluster; origin = o; client = p.client; token = p.token; asks_reach = p.asks_reach } in
+          x) is.0,
       is.1,
     )
 
-pub probe_fields_reads : Reads read_probe_fields probe IsProbe
+pub probe_fields_reads : (asks : Bool) → Reads (read_probe_fields asks) probe (IsProbeThat asks)
 unfolding read_probe_fields
-probe_fields_reads = remade_reads probe_by fields_of
+probe_fields_reads asks = remade_reads (probe_by asks) fields_of
     (tested (λ (x : Asking). is_with_node x.1.0 x.1.1.1.1)
     (both read_eight (both read_maybe_node (both read_maybe_client (both read_eight read_digest))))) spelled
-    (λ (x : Asking). IsAsking x × (is_with_node x.1.0 x.1.1.1.1 ≡ true)) IsProbe
-    (λ x f. has_fields x.0 x.1.0 x.1.1.0 x.1.1.1.0 x.1.1.1.1 f) fields_again
+    (λ (x : Asking). IsAsking x × (is_with_node x.1.0 x.1.1.1.1 ≡ true)) (IsProbeThat asks)
+    (λ x f. has_fields asks x.0 x.1.0 x.1.1.0 x.1.1.1.0 x.1.1.1.1 f) (fields_again asks)
     (tested_reads (λ (x : Asking). is_with_node x.1.0 x.1.1.1.1) _ spelled IsAsking
     (both_reads read_eight eight (λ n. n < 2 ^ 64) _ _ _ eight_reads
     (both_reads read_maybe_node (λ (o : Option ℕ). four (or_zero o))
@@ -257,17 +276,132 @@ probe_fields_reads = remade_reads probe_by fields_of
     (both_reads read_eight eight (λ n. n < 2 ^ 64) read_digest (λ (d : List ℕ). d)
     (λ (d : List ℕ). length d ≡ 32) eight_reads digest_reads)))))
 
-pub report_fields_reads : Reads read_report_fields report IsReport
+-- the parts of a report, as they follow one another
+abbrev Telling : Type 0
+Telling = ℕ × (ℕ × (Option ℕ × (ℕ × Status)))
+
+abbrev IsTelling : Telling → Type 0
+IsTelling x = (x.0 < 2 ^ 64)
+    × (IsNode x.1.0 × (IfSome x.1.1.0 IsClient × ((x.1.1.1.0 < 2 ^ 64) × IsStatus x.1.1.1.1)))
+
+abbrev told : Telling → List ℕ
+told x = eight x.0 ++ (four x.1.0 ++ (two (or_zero x.1.1.0) ++ (eight x.1.1.1.0 ++ status x.1.1.1.1)))
+
+abbrev report_by : Option Reach → Telling → Report
+report_by reach x = record {
+  cluster = x.0;
+  node = x.1.0;
+  client = x.1.1.0;
+  token = x.1.1.1.0;
+  status = x.1.1.1.1;
+  reach = reach;
+}
+
+abbrev parts_of : Report → Telling
+parts_of r = (r.cluster, (r.node, (r.client, (r.token, r.status))))
+
+-- a report with that reach, or with none
+abbrev pub IsReportWith : Option Reach → Report → Type 0
+IsReportWith reach r = IsReport r × (r.reach ≡ reach)
+
+pub report_fields_reads : (reach : Option Reach) → IfSome reach IsReach
+    → Reads (read_report_fields reach) report (IsReportWith reach)
 unfolding read_report_fields
-report_fields_reads = fitting read_report_fields report
-    (λ (r : Report). (r.cluster < 2 ^ 64)
-    × (IsNode r.node × (IfSome r.client IsClient × ((r.token < 2 ^ 64) × IsStatus r.status)))) IsReport
-    (λ r f. (f.0, f.1.0, f.1.1.0, f.1.1.1.0, f.1.1.1.1)) (λ r f. (f.0, (f.1, (f.2, (f.3, f.4)))))
-    (made_reads (λ (r : ℕ × (ℕ × (Option ℕ × (ℕ × Status)))). let x : Report =
-    record { cluster = r.0; node = r.1.0; client = r.1.1.0; token = r.1.1.1.0; status = r.1.1.1.1 } in x)
-    (λ (r : Report). (r.cluster, (r.node, (r.client, (r.token, r.status))))) (λ x. refl) (λ y. refl) _ _ _
+report_fields_reads reach fits = remade_reads (report_by reach) parts_of
+    (both read_eight (both read_node (both read_maybe_client (both read_eight read_status)))) told
+    IsTelling (IsReportWith reach)
+    (λ x f. (refl, ((f.0, f.1.0, f.1.1.0, f.1.1.1.0, f.1.1.1.1, fits), refl)))
+    (λ r f. (
+      ap (λ (o : Option Reach). report_by o (parts_of r)) (sym f.1),
+      (f.0.0, (f.0.1, (f.0.2, (f.0.3, f.0.4)))),
+    ))
     (both_reads read_eight eight (λ n. n < 2 ^ 64) _ _ _ eight_reads
     (both_reads read_node four IsNode _ _ _ node_reads
     (both_reads read_maybe_client (λ (o : Option ℕ). two (or_zero o))
     (λ (o : Option ℕ). IfSome o IsClient) _ _ _ maybe_client_reads
-    (both_reads read_eight eight (λ n. n < 2 ^ 64) read_status status IsStatus eight_reads status_reads)))))
+    (both_reads read_eight eight (λ n. n < 2 ^ 64) read_status status IsStatus eight_reads status_reads))))
+
+-- ---- what form 2 has more
+
+heard_in-suc : (n : ℕ) → heard_in (suc n) ≡ Some n
+heard_in-suc n =
+    let more : eqb (suc n) 0 ≡ false = grind (arith, nat_tests) in
+    let less : suc n - 1 ≡ n = omega arith in
+    rw (more, less) refl
+
+number_of : (n : ℕ) → n ≤ 256 → (heard_number (heard_in n) ≡ n) × IfSome (heard_in n) IsByte
+number_of ℕ.zero h = (refl, tt)
+number_of (suc n) h = rw (heard_in-suc n) (omega arith, omega (arith, h))
+
+of_number : (o : Option ℕ) → IfSome o IsByte → (heard_in (heard_number o) ≡ o) × (heard_number o ≤ 256)
+of_number None h = (refl, omega arith)
+of_number (Some n) h =
+    let same : n + 1 ≡ suc n = omega arith in rw same (heard_in-suc n, omega (arith, h))
+
+heard_reads : Reads read_heard (λ (o : Option ℕ). two (heard_number o)) (λ (o : Option ℕ). IfSome o IsByte)
+unfolding read_heard
+heard_reads = remade_reads heard_in heard_number (tested (λ n. leb n 256) read_two) two (λ n. n ≤ 256)
+    (λ (o : Option ℕ). IfSome o IsByte) number_of of_number
+    (limited_reads 256 (2 ^ 16) (omega arith) read_two two two_reads)
+
+reach_reads : Reads read_reach reach IsReach
+unfolding read_reach
+reach_reads = fitting read_reach reach
+    (λ (t : Reach). IfSome t.heard IsByte × (Unit {0} × Unit {0})) IsReach (λ t f. f.0) (λ t f. (f, (tt, tt)))
+    (made_reads (λ (t : Option ℕ × (Bool × Bool)). let x : Reach =
+    record { heard = t.0; reads_bundles = t.1.0; sends_bundles = t.1.1 } in x)
+    (λ (t : Reach). (t.heard, (t.reads_bundles, t.sends_bundles))) (λ x. refl) (λ y. refl) _ _ _
+    (both_reads read_heard (λ (o : Option ℕ). two (heard_number o)) (λ (o : Option ℕ). IfSome o IsByte)
+    _ _ _ heard_reads
+    (both_reads read_flag (λ (b : Bool). one (flag b)) (λ (b : Bool). Unit {0})
+    read_flag (λ (b : Bool). one (flag b)) (λ (b : Bool). Unit {0}) flag_reads flag_reads)))
+
+none : (bytes : List ℕ) → length bytes ≡ 0 → bytes ≡ []
+none [] e = refl
+none (b ∷ bytes) e = absurd (omega (arith, e))
+
+-- nothing follows, or a reach
+pub tail_takes : (bytes : List ℕ) (o : Option Reach) → IsBytes bytes → read_tail bytes ≡ Some o
+    → IfSome o IsReach × (bytes ≡ reach_in o)
+unfolding read_tail
+tail_takes bytes o h e =
+    elim (chosen (eqb (length bytes) 0) (Some None) (whole read_reach bytes >>= λ t. Some (Some t)) (Some o) e) [
+      | inl short ↦ subst (λ (z : Option Reach). IfSome z IsReach × (bytes ≡ reach_in z)) (some_is None o short.1)
+          (tt, none bytes (eqb-true _ _ short.0))
+      | inr long ↦
+          let a = bind_ok (whole read_reach bytes) (λ t. Some (Some t)) o long.1 in
+          let t = whole_takes read_reach reach IsReach reach_reads bytes a.0 h a.1 in
+          subst (λ (z : Option Reach). IfSome z IsReach × (bytes ≡ reach_in z)) (some_is (Some a.0) o a.2) (t.0, t.1)
+    ]
+
+pub length-reach : (t : Reach) → length (reach t) ≡ 4
+length-reach t = simp (length-append, length-two) (omega arith)
+
+pub tail_again : (o : Option Reach) → IfSome o IsReach → read_tail (reach_in o) ≡ Some o
+unfolding read_tail
+tail_again None fits = refl
+tail_again (Some t) fits =
+    let long : eqb (length (reach t)) 0 ≡ false = rw (length-reach t) refl in
+    rw (long, whole_again read_reach reach IsReach reach_reads t fits) refl
+
+-- nothing follows, or zeros
+pub blank_takes : (bytes : List ℕ) (asks : Bool) → read_blank bytes ≡ Some asks → bytes ≡ blank asks
+unfolding read_blank
+blank_takes bytes asks e =
+    elim (chosen (eqb (length bytes) 0) (Some false)
+    (cond (eqb (length bytes) 4 && are_zeros bytes) (Some true) None) (Some asks) e) [
+      | inl short ↦ subst (λ (z : Bool). bytes ≡ blank z) (some_is false asks short.1)
+          (none bytes (eqb-true _ _ short.0))
+      | inr long ↦ elim (chosen (eqb (length bytes) 4 && are_zeros bytes) (Some true) None (Some asks) long.1) [
+        | inr bad ↦ let no = bad.1 in absurd cc
+        | inl good ↦
+            let are = both_are (eqb (length bytes) 4) (are_zeros bytes) good.0 in
+            subst (λ (z : Bool). bytes ≡ blank z) (some_is true asks good.1)
+            (zeros bytes are.1 ∙ ap (λ (n : ℕ). replicate n 0) (eqb-true _ _ are.0))
+      ]
+    ]
+
+pub blank_again : (asks : Bool) → read_blank (blank asks) ≡ Some asks
+unfolding read_blank
+blank_again false = refl
+blank_again true = refl

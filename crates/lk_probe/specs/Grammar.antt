@@ -1,6 +1,6 @@
 -- The bytes of a probe and of a report, and the ranges of their parts.
-use Rattle.std.specs.Prelude.{◌≡◌, ℕ, ◌-◌, ◌<◌, ◌^◌, Bool, true, false, Option, Some, None, List, ◌∷◌, ◌++◌, length}
-use Rattle.std.specs.Prelude.{replicate, IfSome}
+use Rattle.std.specs.Prelude.{◌≡◌, ℕ, ◌+◌, ◌-◌, ◌<◌, ◌^◌, Bool, true, false, is_some, Option, Some, None, List, [], ◌∷◌}
+use Rattle.std.specs.Prelude.{◌++◌, length, replicate, IfSome}
 use Rattle.std.specs.List.{AllByRecursion}
 use Rattle.lk_types.specs.Ranges.{IsNode, IsClient, IsTotal}
 use Rattle.lk_types.specs.Ballots.{IsBallot}
@@ -8,6 +8,7 @@ use Rattle.lk_types.specs.Rosters.{IsMember, AreMembers}
 use Rattle.lk_codec.specs.Fields.{one, two, four, eight, ballot, members}
 use Rattle.lk_auth.specs.Seals.{no_genesis}
 use Rattle.lk_probe.specs.declared.neighbours.Origin.{Origin}
+use Rattle.lk_probe.specs.declared.reach.Reach.{Reach}
 use Rattle.lk_probe.specs.declared.status.Version.{Version}
 use Rattle.lk_probe.specs.declared.status.Identity.{Identity}
 use Rattle.lk_probe.specs.declared.status.Leadership.{Leadership}
@@ -17,9 +18,13 @@ use Rattle.lk_probe.specs.declared.status.Status.{Status}
 use Rattle.lk_probe.specs.declared.probe.Probe.{Probe}
 use Rattle.lk_probe.specs.declared.probe.Report.{Report}
 
--- the bytes of a probe, and of a report
+-- the bytes of a probe in form 1, and of a report
 abbrev pub probe_length : ℕ
 probe_length = 174
+
+-- how many more form 2 has
+abbrev pub reach_length : ℕ
+reach_length = 4
 
 -- a number that may not be there: 0 where it is not
 abbrev pub or_zero : Option ℕ → ℕ
@@ -50,9 +55,22 @@ abbrev pub status : Status → List ℕ
 status s = identity s.identity
     ++ (leadership s.leadership ++ (progress s.progress ++ (traffic s.traffic ++ members s.members)))
 
--- two letters and the version, and which of both it is: 9 a probe, 10 a report
-abbrev pub front : ℕ → List ℕ → List ℕ
-front k fields = 76 ∷ 80 ∷ 1 ∷ k ∷ fields
+-- how many members a node hears, plus 1; 0 if it does not find that out
+abbrev pub heard_number : Option ℕ → ℕ
+heard_number None = 0
+heard_number (Some n) = n + 1
+
+abbrev pub reach : Reach → List ℕ
+reach t = two (heard_number t.heard) ++ (one (flag t.reads_bundles) ++ one (flag t.sends_bundles))
+
+-- the number of the form: the second has a reach, or asks for one
+abbrev pub form : Bool → ℕ
+form false = 1
+form true = 2
+
+-- two letters and the form, and which of both it is: 9 a probe, 10 a report
+abbrev pub front : ℕ → ℕ → List ℕ → List ℕ
+front f k fields = 76 ∷ 80 ∷ f ∷ k ∷ fields
 
 -- the node that asks, if one does
 abbrev pub node_in : Option Origin → Option ℕ
@@ -77,11 +95,21 @@ report r = eight r.cluster ++ (four r.node ++ (two (or_zero r.client) ++ (eight 
 unfoldable pub padded : List ℕ → List ℕ
 padded bytes = bytes ++ replicate (probe_length - length bytes) 0
 
+-- what a probe of form 2 has in the place of a reach: zeros
+abbrev pub blank : Bool → List ℕ
+blank false = []
+blank true = replicate reach_length 0
+
 abbrev pub probe_spelling : Probe → List ℕ
-probe_spelling p = padded (front 9 (probe p))
+probe_spelling p = padded (front (form p.asks_reach) 9 (probe p)) ++ blank p.asks_reach
+
+-- the reach, if there is one
+abbrev pub reach_in : Option Reach → List ℕ
+reach_in None = []
+reach_in (Some t) = reach t
 
 abbrev pub report_spelling : Report → List ℕ
-report_spelling r = padded (front 10 (report r))
+report_spelling r = padded (front (form (is_some r.reach)) 10 (report r)) ++ reach_in r.reach
 
 -- ---- validity
 
@@ -113,8 +141,12 @@ IsOrigin o = IsNode o.node × (length o.genesis ≡ 32)
 abbrev pub IsProbe : Probe → Type 0
 IsProbe p = (p.cluster < 2 ^ 64) × IfSome p.origin IsOrigin × IfSome p.client IsClient × (p.token < 2 ^ 64)
 
+abbrev pub IsReach : Reach → Type 0
+IsReach t = IfSome t.heard IsByte
+
 abbrev pub IsReport : Report → Type 0
 IsReport r = (r.cluster < 2 ^ 64) × IsNode r.node × IfSome r.client IsClient × (r.token < 2 ^ 64) × IsStatus r.status
+    × IfSome r.reach IsReach
 
 -- the grammar: the bytes are those of the probe
 abbrev pub SpellsProbe : Probe → List ℕ → Type 0
@@ -125,6 +157,11 @@ abbrev pub SpellsReport : Report → List ℕ → Type 0
 SpellsReport r bytes = IsReport r × (bytes ≡ report_spelling r)
 
 -- ---- what belongs together
+
+-- how many members a node hears, if that is said
+abbrev pub heard_of : Option Reach → Option ℕ
+heard_of None = None
+heard_of (Some t) = t.heard
 
 -- the report answers that probe
 pub record IsReportFor (p : Probe) (r : Report) : Type 0 where

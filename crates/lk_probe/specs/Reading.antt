@@ -1,12 +1,14 @@
 -- Readers of each part of a probe and of a report, and of both.
-use Rattle.std.specs.Prelude.{ℕ, Bool, true, Option, Some, None, List, [], ◌∷◌, length, take, drop, nat_le, nat_lt}
+use Rattle.std.specs.Prelude.{ℕ, ◌-◌, Bool, true, false, is_some, Option, Some, None, List, [], ◌∷◌, length, take, drop}
+use Rattle.std.specs.Prelude.{nat_le, nat_lt}
 use Rattle.std.specs.Prelude.{◌==◌, ◌&&◌, if◌then◌else◌}
 use Rattle.lk_types.specs.Limits.{max_node, max_client}
-use Rattle.lk_codec.specs.Parser.{◌>>=◌, read_byte, both, made, tested}
+use Rattle.lk_codec.specs.Parser.{◌>>=◌, read_byte, both, made, tested, whole}
 use Rattle.lk_codec.specs.FieldReading.{read_two, read_four, read_eight, read_node, read_total, read_any_ballot}
 use Rattle.lk_codec.specs.FieldReading.{read_members}
-use Rattle.lk_probe.specs.Grammar.{probe_length}
+use Rattle.lk_probe.specs.Grammar.{form, probe_length, reach_length}
 use Rattle.lk_probe.specs.declared.neighbours.Origin.{Origin}
+use Rattle.lk_probe.specs.declared.reach.Reach.{Reach}
 use Rattle.lk_probe.specs.declared.status.Version.{Version}
 use Rattle.lk_probe.specs.declared.status.Identity.{Identity}
 use Rattle.lk_probe.specs.declared.status.Leadership.{Leadership}
@@ -85,30 +87,78 @@ origin_of (Some n) genesis = Some (record { node = n; genesis = genesis })
 abbrev pub read_origin : Option ℕ → List ℕ → Option (Option Origin × List ℕ)
 read_origin node = made (origin_of node) (tested (is_with_node node) read_digest)
 
-unfoldable pub read_probe_fields : List ℕ → Option (Probe × List ℕ)
-read_probe_fields =
-    made (λ p. record { cluster = p.0; origin = origin_of p.1.0 p.1.1.1.1; client = p.1.1.0; token = p.1.1.1.0 })
+-- of a probe that asks for a reach, or does not
+unfoldable pub read_probe_fields : Bool → List ℕ → Option (Probe × List ℕ)
+read_probe_fields asks =
+    made (λ p. record {
+      cluster = p.0;
+      origin = origin_of p.1.0 p.1.1.1.1;
+      client = p.1.1.0;
+      token = p.1.1.1.0;
+      asks_reach = asks;
+    })
     (tested (λ p. is_with_node p.1.0 p.1.1.1.1)
     (both read_eight (both read_maybe_node (both read_maybe_client (both read_eight read_digest)))))
 
-unfoldable pub read_report_fields : List ℕ → Option (Report × List ℕ)
-read_report_fields =
-    made (λ r. record { cluster = r.0; node = r.1.0; client = r.1.1.0; token = r.1.1.1.0; status = r.1.1.1.1 })
+-- of a report with that reach, or with none
+unfoldable pub read_report_fields : Option Reach → List ℕ → Option (Report × List ℕ)
+read_report_fields reach =
+    made (λ r. record {
+      cluster = r.0;
+      node = r.1.0;
+      client = r.1.1.0;
+      token = r.1.1.1.0;
+      status = r.1.1.1.1;
+      reach = reach;
+    })
     (both read_eight (both read_node (both read_maybe_client (both read_eight read_status))))
 
+-- how many members are heard, by a number one above that, or nothing by 0
+abbrev pub heard_in : ℕ → Option ℕ
+heard_in n = if n == 0 then None else Some (n - 1)
+
+unfoldable pub read_heard : List ℕ → Option (Option ℕ × List ℕ)
+read_heard = made heard_in (tested (λ n. nat_le n 256) read_two)
+
+unfoldable pub read_reach : List ℕ → Option (Reach × List ℕ)
+read_reach = made (λ t. record { heard = t.0; reads_bundles = t.1.0; sends_bundles = t.1.1 })
+    (both read_heard (both read_flag read_flag))
+
+-- what follows the bytes of form 1 in a report: nothing, or a reach
+unfoldable pub read_tail : List ℕ → Option (Option Reach)
+read_tail bytes = if length bytes == 0 then Some None else whole read_reach bytes >>= λ t. Some (Some t)
+
+-- what follows them in a probe: nothing, or as many zeros
+unfoldable pub read_blank : List ℕ → Option Bool
+read_blank bytes =
+    if length bytes == 0 then Some false else
+    (if length bytes == reach_length && are_zeros bytes then Some true else None)
+
 module _ {X : Type 0} where
-  -- after two letters, the version and that number
-  abbrev pub fronted : ℕ → (List ℕ → Option (X × List ℕ)) → List ℕ → Option (X × List ℕ)
-  fronted k p (a ∷ b ∷ c ∷ d ∷ rest) = if a == 76 && b == 80 && c == 1 && d == k then p rest else None
-  fronted k p _ = None
+  -- after two letters, that form and that number
+  abbrev pub fronted : ℕ → ℕ → (List ℕ → Option (X × List ℕ)) → List ℕ → Option (X × List ℕ)
+  fronted f k p (a ∷ b ∷ c ∷ d ∷ rest) = if a == 76 && b == 80 && c == f && d == k then p rest else None
+  fronted f k p _ = None
 
   -- all of the bytes, which have that length and end in zeros
   abbrev pub filled : (List ℕ → Option (X × List ℕ)) → List ℕ → Option X
   filled p bytes =
       if length bytes == probe_length then (p bytes >>= λ a. if are_zeros a.1 then Some a.0 else None) else None
 
+-- the bytes of form 1, by what follows them
+abbrev pub cut : {X Y : Type 0} → (List ℕ → Option Y) → (Y → List ℕ → Option X) → List ℕ → Option X
+cut tail p bytes =
+    if nat_lt (length bytes) probe_length then None else
+    tail (drop probe_length bytes) >>= λ t. p t (take probe_length bytes)
+
+unfoldable pub probe_in : Bool → List ℕ → Option Probe
+probe_in asks = filled (fronted (form asks) 9 (read_probe_fields asks))
+
 unfoldable pub probe_of : List ℕ → Option Probe
-probe_of = filled (fronted 9 read_probe_fields)
+probe_of = cut read_blank probe_in
+
+unfoldable pub report_in : Option Reach → List ℕ → Option Report
+report_in reach = filled (fronted (form (is_some reach)) 10 (read_report_fields reach))
 
 unfoldable pub report_of : List ℕ → Option Report
-report_of = filled (fronted 10 read_report_fields)
+report_of = cut read_tail report_in

@@ -1,6 +1,6 @@
 //! Laws of the datagrams of probes and reports. Each is stated as a function without a body.
 
-ghost use Rattle.std.specs.Prelude.{◌≡◌, List, ℕ, length};
+ghost use Rattle.std.specs.Prelude.{◌≡◌, List, ℕ, length, false, true, is_some};
 ghost use Rattle.lk_messages.specs.declared.message.Message.{Message};
 ghost use Rattle.lk_messages.specs.Grammar.{Spells};
 ghost use Rattle.lk_auth.specs.Clients.{client_in};
@@ -15,10 +15,15 @@ pub fn one_meaning()
     ensures report { (r s : Report) (bytes : List ℕ) → SpellsReport r bytes → SpellsReport s bytes → r ≡ s }
 {}
 
-/// Each probe and each report has 174 bytes.
+/// In form 1 each probe and each report has 174 bytes, and in form 2 four more.
 pub fn lengths()
-    ensures probe { (p : Probe) (bytes : List ℕ) → SpellsProbe p bytes → length bytes ≡ 174 }
-    ensures report { (r : Report) (bytes : List ℕ) → SpellsReport r bytes → length bytes ≡ 174 }
+    ensures probe { (p : Probe) (bytes : List ℕ) → SpellsProbe p bytes → p.asks_reach ≡ false → length bytes ≡ 174 }
+    ensures report { (r : Report) (bytes : List ℕ) → SpellsReport r bytes → is_some r.reach ≡ false
+        → length bytes ≡ 174 }
+    ensures long_probe { (p : Probe) (bytes : List ℕ) → SpellsProbe p bytes → p.asks_reach ≡ true
+        → length bytes ≡ 178 }
+    ensures long_report { (r : Report) (bytes : List ℕ) → SpellsReport r bytes → is_some r.reach ≡ true
+        → length bytes ≡ 178 }
 {}
 
 /// No datagram of the protocol is a probe or a report, and no probe is a report.

@@ -1,16 +1,21 @@
 //! Probes and reports: datagrams beside the protocol, by which a node is asked for its status and replies. Both begin
-//! with `LP` and have the same length, so a probe with a forged source address amplifies nothing.
+//! with `LP`. Each has two forms, and a report has the form of its probe and so its length: a probe with a forged
+//! source address amplifies nothing.
 #![tactic(auto)]
 
+mod datagram;
 pub mod laws;
 pub mod neighbours;
 mod probe;
+mod reach;
 mod reading;
 pub mod reported;
 mod status;
 mod writing;
 
+pub use datagram::ProbeDatagram;
 pub use probe::{Probe, Report};
+pub use reach::Reach;
 pub use status::{
     DIGEST, Identity, LENGTH, Leadership, PROGRAM, Progress, Status, Traffic, Version,
 };

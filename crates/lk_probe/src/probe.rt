@@ -1,10 +1,13 @@
 // Probes and reports as values, and which report replies to which probe.
-ghost use Rattle.std.specs.Prelude.{◌≡◌, ◌↔◌, IsTrue, IfSome};
+ghost use Rattle.std.specs.Prelude.{◌≡◌, ◌↔◌, IsTrue, IfSome, Some, None, if◌then◌else◌};
 ghost use Rattle.lk_types.specs.Ranges.{IsClient};
-ghost use Rattle.lk_probe.specs.Grammar.{IsOrigin, IsProbe, IsReport, IsReportFor, SpellsProbe, SpellsReport, node_in};
+ghost use Rattle.lk_probe.specs.Grammar.{IsOrigin, IsProbe, IsReport, IsReportFor, SpellsProbe, SpellsReport, heard_of};
+ghost use Rattle.lk_probe.specs.Grammar.{node_in};
 
+use crate::datagram::ProbeDatagram;
 use crate::neighbours::Origin;
-use crate::status::{LENGTH, Status};
+use crate::reach::{Reach, reach_facts};
+use crate::status::Status;
 use crate::writing::{write_probe, write_report};
 use lk_types::{ClientNo, NodeNo};
 
@@ -18,6 +21,8 @@ pub struct Probe {
     pub client: Option<ClientNo>,
     /// A number that the report repeats, by which the asker matches them.
     pub token: u64,
+    /// Whether the report is to say whom the node hears: then both have form 2.
+    pub asks_reach: bool,
 }
 
 /// A node's reply to a probe.
@@ -31,6 +36,8 @@ pub struct Report {
     /// The token of the probe.
     pub token: u64,
     pub status: Status,
+    /// Whom it hears, and what it does with bundles, if the probe asks for that: then the report has form 2.
+    pub reach: Option<Reach>,
 }
 
 impl Origin {
@@ -82,26 +89,30 @@ impl Probe {
         }
     }
 
-    /// Returns its datagram, with zeros up to `LENGTH`. Allocates nothing.
-    pub fn datagram(&self) -> [u8; LENGTH]
+    /// Returns its datagram, as long as that of its report. Allocates nothing.
+    pub fn datagram(&self) -> ProbeDatagram
         ensures { SpellsProbe self.now result }
     {
         self.facts();
         write_probe(self)
     }
 
-    /// Returns the report that replies to this probe: with its cluster, client and token, and that node and status.
-    pub fn report(&self, node: NodeNo, status: Status) -> Report
+    /// Returns the report that replies to this probe: with its cluster, client and token, that node and status, and
+    /// that reach if the probe asks for it.
+    pub fn report(&self, node: NodeNo, status: Status, reach: Reach) -> Report
         ensures is_for { IsReportFor self.now result }
         ensures node { result.node ≡ node }
         ensures status { result.status ≡ status }
+        ensures reach { result.reach ≡ (if self.now.asks_reach then Some reach else None) }
     {
+        let reach = if self.asks_reach { Some(reach) } else { None };
         Report {
             cluster: self.cluster,
             node,
             client: self.client,
             token: self.token,
             status,
+            reach,
         }
     }
 }
@@ -116,17 +127,28 @@ impl Report {
         client_facts(self.client);
         let _token = self.token;
         self.status.facts();
+        reach_facts(&self.reach);
     }
 
-    /// Returns its datagram, with zeros up to `LENGTH`. Allocates nothing.
-    pub fn datagram(&self) -> [u8; LENGTH]
+    /// Returns its datagram, in form 2 if it has a reach. Allocates nothing.
+    pub fn datagram(&self) -> ProbeDatagram
         ensures { SpellsReport self.now result }
     {
         self.facts();
         write_report(self)
     }
 
-    /// Whether it is for that probe: cluster, client and token are the same.
+    /// Returns how many of the members its node hears, itself included; `None` if it does not say it.
+    pub fn heard(&self) -> Option<u8>
+        ensures { result ≡ heard_of self.now.reach }
+    {
+        match &self.reach {
+            Some(reach) => reach.heard,
+            None => None,
+        }
+    }
+
+    /// Whether it is for that probe: cluster, client and token are the same. Its form is not asked.
     pub fn is_for(&self, probe: &Probe) -> bool
         ensures { IsTrue result ↔ IsReportFor probe.now self.now }
     {

@@ -1,18 +1,23 @@
 // Reads probes and reports. Each `read_..` returns a part and the bytes after it, or `None` if the bytes do not begin
 // with one.
-ghost use Rattle.std.specs.Prelude.{◌≡◌, IfSome, IsSomeAnd};
+ghost use Rattle.std.specs.Prelude.{◌≡◌, is_some, IfSome, IsSomeAnd};
 ghost use Rattle.lk_codec.specs.Parser.{Finds};
-ghost use Rattle.lk_probe.specs.Grammar.{SpellsProbe, SpellsReport};
+ghost use Rattle.lk_probe.specs.Grammar.{SpellsProbe, SpellsReport, form};
 ghost use Rattle.lk_probe.specs.Reading.{are_zeros, read_origin, read_maybe_node, read_maybe_client, read_flag};
 ghost use Rattle.lk_probe.specs.Reading.{read_digest, read_version, read_identity, read_leadership, read_progress};
 ghost use Rattle.lk_probe.specs.Reading.{read_traffic, read_status, read_probe_fields, read_report_fields, fronted};
-ghost use Rattle.lk_probe.specs.Reading.{probe_of, report_of};
+ghost use Rattle.lk_probe.specs.Reading.{read_heard, read_reach, read_tail, read_blank, probe_in, probe_of, report_in};
+ghost use Rattle.lk_probe.specs.Reading.{report_of};
 ghost use Rattle.lk_probe.specs.declared.probe.Probe.{Probe as ProbeValue};
 ghost use Rattle.lk_probe.specs.declared.probe.Report.{Report as ReportValue};
 
+use crate::datagram::form_number;
 use crate::neighbours::Origin;
 use crate::probe::{Probe, Report};
-use crate::status::{DIGEST, Identity, LENGTH, Leadership, Progress, Status, Traffic, Version};
+use crate::reach::Reach;
+use crate::status::{
+    DIGEST, Identity, LENGTH, Leadership, Progress, REACH, Status, Traffic, Version,
+};
 use lk_codec::{
     read_any_ballot, read_executed, read_members, read_node, read_u8, read_u16, read_u32, read_u64,
 };
@@ -189,8 +194,8 @@ fn read_origin(node: Option<NodeNo>, bytes: &[u8]) -> Option<(Option<Origin>, &[
 }
 
 #[tactic(auto, unfolding(crate::specs::Reading::read_probe_fields))]
-fn read_probe_fields(bytes: &[u8]) -> Option<(Probe, &[u8])>
-    ensures { Finds (λ x. (x.0, x.1.now)) result (read_probe_fields bytes.now) }
+fn read_probe_fields(asks_reach: bool, bytes: &[u8]) -> Option<(Probe, &[u8])>
+    ensures { Finds (λ x. (x.0, x.1.now)) result (read_probe_fields asks_reach bytes.now) }
 {
     if let Some((cluster, rest)) = read_u64(bytes)
         && let Some((node, rest)) = read_maybe_node(rest)
@@ -203,6 +208,7 @@ fn read_probe_fields(bytes: &[u8]) -> Option<(Probe, &[u8])>
             origin,
             client,
             token,
+            asks_reach,
         };
         return Some((probe, rest));
     }
@@ -210,8 +216,8 @@ fn read_probe_fields(bytes: &[u8]) -> Option<(Probe, &[u8])>
 }
 
 #[tactic(auto, unfolding(crate::specs::Reading::read_report_fields))]
-fn read_report_fields(bytes: &[u8]) -> Option<(Report, &[u8])>
-    ensures { Finds (λ x. (x.0, x.1.now)) result (read_report_fields bytes.now) }
+fn read_report_fields(reach: Option<Reach>, bytes: &[u8]) -> Option<(Report, &[u8])>
+    ensures { Finds (λ x. (x.0, x.1.now)) result (read_report_fields reach bytes.now) }
 {
     if let Some((cluster, rest)) = read_u64(bytes)
         && let Some((node, rest)) = read_node(rest)
@@ -225,6 +231,7 @@ fn read_report_fields(bytes: &[u8]) -> Option<(Report, &[u8])>
             client,
             token,
             status,
+            reach,
         };
         return Some((report, rest));
     }
@@ -243,17 +250,78 @@ fn are_zeros(bytes: &[u8]) -> bool
     true
 }
 
-// Reads a whole datagram as a probe. `None` if length, letters, version, kind, a field or the zeros at its end differ.
-#[tactic(auto, unfolding(crate::specs::Reading::probe_of))]
-fn probe_of(bytes: &[u8]) -> Option<Probe>
-    ensures { Finds (λ x. x) result (probe_of bytes.now) }
+// Reads how many members are heard, a number one above that; two zeros say nothing.
+#[tactic(auto, unfolding(crate::specs::Reading::read_heard))]
+fn read_heard(bytes: &[u8]) -> Option<(Option<u8>, &[u8])>
+    ensures { Finds (λ x. (x.0, x.1.now)) result (read_heard bytes.now) }
+{
+    let (number, rest) = read_u16(bytes)?;
+    if number > 256 {
+        return None;
+    }
+    if number == 0 {
+        return Some((None, rest));
+    }
+    Some((Some((number - 1) as u8), rest))
+}
+
+#[tactic(auto, unfolding(crate::specs::Reading::read_reach))]
+fn read_reach(bytes: &[u8]) -> Option<(Reach, &[u8])>
+    ensures { Finds (λ x. (x.0, x.1.now)) result (read_reach bytes.now) }
+{
+    let (heard, rest) = read_heard(bytes)?;
+    let (reads_bundles, rest) = read_flag(rest)?;
+    let (sends_bundles, rest) = read_flag(rest)?;
+    let reach = Reach {
+        heard,
+        reads_bundles,
+        sends_bundles,
+    };
+    Some((reach, rest))
+}
+
+// Reads what a report has after the bytes of form 1: no reach if nothing follows. `None` if anything but a reach does.
+#[tactic(auto, unfolding(crate::specs::Reading::read_tail))]
+fn read_tail(bytes: &[u8]) -> Option<Option<Reach>>
+    ensures { Finds (λ x. x) result (read_tail bytes.now) }
+{
+    if bytes.len() == 0 {
+        return Some(None);
+    }
+    let (reach, rest) = read_reach(bytes)?;
+    if rest.len() > 0 {
+        return None;
+    }
+    Some(Some(reach))
+}
+
+// Reads whether a probe asks for a reach, by what follows the bytes of form 1: nothing, or zeros in place of a reach.
+#[tactic(auto, unfolding(crate::specs::Reading::read_blank))]
+fn read_blank(bytes: &[u8]) -> Option<bool>
+    ensures { Finds (λ x. x) result (read_blank bytes.now) }
+{
+    if bytes.len() == 0 {
+        return Some(false);
+    }
+    if bytes.len() != REACH || !are_zeros(bytes) {
+        return None;
+    }
+    Some(true)
+}
+
+// Reads the bytes that a probe has in both forms. `None` if length, letters, form, kind, a field or the zeros at their
+// end differ.
+#[tactic(auto, unfolding(crate::specs::Reading::probe_in))]
+fn probe_in(asks_reach: bool, bytes: &[u8]) -> Option<Probe>
+    ensures { Finds (λ x. x) result (probe_in asks_reach bytes.now) }
 {
     if bytes.len() != LENGTH {
         return None;
     }
+    let form = form_number(asks_reach);
     match bytes {
-        [b'L', b'P', 1, 9, fields @ ..] => {
-            let Some((probe, rest)) = read_probe_fields(fields) else {
+        [b'L', b'P', version, 9, fields @ ..] if *version == form => {
+            let Some((probe, rest)) = read_probe_fields(asks_reach, fields) else {
                 return None;
             };
             if !are_zeros(rest) {
@@ -265,17 +333,28 @@ fn probe_of(bytes: &[u8]) -> Option<Probe>
     }
 }
 
-// Reads a whole datagram as a report. `None` if length, letters, version, kind, a field or the zeros at its end differ.
-#[tactic(auto, unfolding(crate::specs::Reading::report_of))]
-fn report_of(bytes: &[u8]) -> Option<Report>
-    ensures { Finds (λ x. x) result (report_of bytes.now) }
+// Reads a whole datagram as a probe, `None` if it is none.
+#[tactic(auto, unfolding(crate::specs::Reading::probe_of))]
+fn probe_of(bytes: &[u8]) -> Option<Probe>
+    ensures { Finds (λ x. x) result (probe_of bytes.now) }
+{
+    let (front, tail) = bytes.split_first_chunk::<LENGTH>()?;
+    probe_in(read_blank(tail)?, front)
+}
+
+// Reads the bytes that a report has in both forms. `None` if length, letters, form, kind, a field or the zeros at their
+// end differ.
+#[tactic(auto, unfolding(crate::specs::Reading::report_in))]
+fn report_in(reach: Option<Reach>, bytes: &[u8]) -> Option<Report>
+    ensures { Finds (λ x. x) result (report_in reach bytes.now) }
 {
     if bytes.len() != LENGTH {
         return None;
     }
+    let form = form_number(reach.is_some());
     match bytes {
-        [b'L', b'P', 1, 10, fields @ ..] => {
-            let Some((report, rest)) = read_report_fields(fields) else {
+        [b'L', b'P', version, 10, fields @ ..] if *version == form => {
+            let Some((report, rest)) = read_report_fields(reach, fields) else {
                 return None;
             };
             if !are_zeros(rest) {
@@ -285,6 +364,15 @@ fn report_of(bytes: &[u8]) -> Option<Report>
         }
         _ => None,
     }
+}
+
+// Reads a whole datagram as a report, `None` if it is none.
+#[tactic(auto, unfolding(crate::specs::Reading::report_of))]
+fn report_of(bytes: &[u8]) -> Option<Report>
+    ensures { Finds (λ x. x) result (report_of bytes.now) }
+{
+    let (front, tail) = bytes.split_first_chunk::<LENGTH>()?;
+    report_in(read_tail(tail)?, front)
 }
 
 impl Probe {

@@ -7,11 +7,12 @@ use crate::neighbours::Origin;
 use crate::probe::{Probe, Report};
 use std::net::SocketAddr;
 
-/// The node and the genesis that a report names, and the address that it came from.
+/// The node and the genesis that a report names, the token that it repeats, and the address that it came from.
 #[derive(Clone, Copy)]
 pub struct Reported {
     pub from: SocketAddr,
     pub reporter: Origin,
+    pub token: u64,
 }
 
 /// Returns the probe by which the node `asker` asks for a genesis. Its token is the asker's number.
@@ -24,22 +25,27 @@ pub fn question(cluster: u64, asker: Origin) -> Probe
         origin: Some(asker),
         client: None,
         token,
+        asks_reach: false,
     }
 }
 
 impl Reported {
-    /// Reads a datagram from an address. `None` if it is no report, or replies to another probe.
-    pub fn by(probe: &Probe, from: SocketAddr, datagram: &[u8]) -> Option<Reported>
-        ensures { IsReportedOf probe.now (from, datagram.now) result }
+    /// Reads a datagram from an address. `None` if it is no report, is of another cluster, or replies to a client.
+    pub fn by(cluster: u64, from: SocketAddr, datagram: &[u8]) -> Option<Reported>
+        ensures { IsReportedOf cluster (from, datagram.now) result }
     {
         let report = Report::read(datagram)?;
-        if !report.is_for(probe) {
+        if report.cluster != cluster || report.client.is_some() {
             return None;
         }
         let reporter = Origin {
             node: report.node,
             genesis: report.status.identity.genesis,
         };
-        Some(Reported { from, reporter })
+        Some(Reported {
+            from,
+            reporter,
+            token: report.token,
+        })
     }
 }

@@ -8,8 +8,11 @@ use lk_types::{Ballot, Executed, Members, NodeNo};
 /// The length of the SHA-256 digest of a genesis, in bytes.
 pub const DIGEST: usize = 32;
 
-/// The length of a probe's datagram, and of a report's, in bytes.
+/// The length of a probe's datagram in form 1, and of a report's, in bytes.
 pub const LENGTH: usize = 174;
+
+/// How many bytes form 2 has after these.
+pub const REACH: usize = 4;
 
 /// The version of a program.
 #[derive(Clone, Copy, PartialEq, Eq)]

@@ -1,15 +1,19 @@
 // Writes probes and reports as datagrams. Numbers are big-endian; each `put_..` appends one field, and requires room.
-ghost use Rattle.std.specs.Prelude.{◌≡◌, ◌≤◌, ◌+◌, ◌*◌, ◌++◌, [], length};
+ghost use Rattle.std.specs.Prelude.{◌≡◌, ◌≤◌, ◌+◌, ◌*◌, ◌++◌, [], is_some, length};
 ghost use Rattle.arrayvec.specs.ArrayVec.{array_vec_len};
 ghost use Rattle.lk_types.specs.Limits.{max_members};
 ghost use Rattle.lk_codec.specs.Fields.{one, two, four, eight, ballot, member, members};
 ghost use Rattle.lk_probe.specs.Grammar.{probe_length, flag, genesis_in, or_zero, version, identity, leadership};
-ghost use Rattle.lk_probe.specs.Grammar.{progress, traffic, status, front, probe, report, padded, probe_spelling};
-ghost use Rattle.lk_probe.specs.Grammar.{report_spelling};
+ghost use Rattle.lk_probe.specs.Grammar.{progress, traffic, status, form, front, probe, report, padded, probe_spelling};
+ghost use Rattle.lk_probe.specs.Grammar.{report_spelling, blank, heard_number, reach, reach_in, reach_length};
 
+use crate::datagram::{ProbeDatagram, form_number};
 use crate::neighbours::Origin;
 use crate::probe::{Probe, Report};
-use crate::status::{DIGEST, Identity, LENGTH, Leadership, Progress, Status, Traffic, Version};
+use crate::reach::Reach;
+use crate::status::{
+    DIGEST, Identity, LENGTH, Leadership, Progress, REACH, Status, Traffic, Version,
+};
 use arrayvec::ArrayVec;
 use lk_types::{Ballot, ClientNo, Member, NodeNo};
 
@@ -204,13 +208,60 @@ fn put_status(out: &mut Bytes, value: &Status)
     put_members(out, value.members.as_slice());
 }
 
-// Returns the first four bytes: `LP`, version 1, and the kind, 9 for a probe or 10 for a report.
-fn with_header(kind: u8) -> Bytes
-    ensures items { result.items ≡ front kind [] }
+// Appends how many members are heard, plus 1; two zeros if that is not known.
+fn put_heard(out: &mut Bytes, heard: Option<u8>)
+    requires { array_vec_len out.old + 2 ≤ probe_length }
+    ensures items { out.new.items ≡ out.old.items ++ two (heard_number heard) }
+    ensures len { array_vec_len out.new ≡ array_vec_len out.old + 2 }
+{
+    match heard {
+        Some(count) => put_u16(out, u16::from(count) + 1),
+        None => put_u16(out, 0),
+    }
+}
+
+// Returns the bytes of a reach.
+fn reach_bytes(value: &Reach) -> Bytes
+    ensures items { result.items ≡ reach value.now }
+    ensures len { array_vec_len result ≡ reach_length }
+{
+    let mut out = ArrayVec::new();
+    put_heard(&mut out, value.heard);
+    put_flag(&mut out, value.reads_bundles);
+    put_flag(&mut out, value.sends_bundles);
+    out
+}
+
+// Returns what a report has after the bytes of form 1: its reach, if it has one.
+fn tail_of(value: &Option<Reach>) -> Bytes
+    ensures items { result.items ≡ reach_in value.now }
+    ensures len { array_vec_len result ≤ reach_length }
+{
+    match value {
+        Some(reach) => reach_bytes(reach),
+        None => ArrayVec::new(),
+    }
+}
+
+// Returns what a probe has after the bytes of form 1: zeros in place of a reach, if it asks for one.
+fn blank_of(asks_reach: bool) -> Bytes
+    ensures items { result.items ≡ blank asks_reach }
+    ensures len { array_vec_len result ≤ reach_length }
+{
+    let mut out = ArrayVec::new();
+    if asks_reach {
+        put(&mut out, &[0; REACH]);
+    }
+    out
+}
+
+// Returns the first four bytes: `LP`, the form, and the kind, 9 for a probe or 10 for a report.
+fn with_header(has_reach: bool, kind: u8) -> Bytes
+    ensures items { result.items ≡ front (form has_reach) kind [] }
     ensures len { array_vec_len result ≡ 4 }
 {
     let mut out = ArrayVec::new();
-    put(&mut out, &[b'L', b'P', 1, kind]);
+    put(&mut out, &[b'L', b'P', form_number(has_reach), kind]);
     out
 }
 
@@ -226,27 +277,27 @@ fn filled(written: &Bytes) -> [u8; LENGTH]
 }
 
 /// Returns the datagram of a probe.
-pub fn write_probe(value: &Probe) -> [u8; LENGTH]
+pub fn write_probe(value: &Probe) -> ProbeDatagram
     ensures { result ≡ probe_spelling value.now }
 {
-    let mut out = with_header(9);
+    let mut out = with_header(value.asks_reach, 9);
     put_u64(&mut out, value.cluster);
     put_maybe_node(&mut out, value.node());
     put_maybe_client(&mut out, value.client);
     put_u64(&mut out, value.token);
     put_genesis(&mut out, &value.origin);
-    filled(&out)
+    ProbeDatagram::of(&filled(&out), blank_of(value.asks_reach).as_slice())
 }
 
 /// Returns the datagram of a report.
-pub fn write_report(value: &Report) -> [u8; LENGTH]
+pub fn write_report(value: &Report) -> ProbeDatagram
     ensures { result ≡ report_spelling value.now }
 {
-    let mut out = with_header(10);
+    let mut out = with_header(value.reach.is_some(), 10);
     put_u64(&mut out, value.cluster);
     put_u32(&mut out, value.node.get());
     put_maybe_client(&mut out, value.client);
     put_u64(&mut out, value.token);
     put_status(&mut out, &value.status);
-    filled(&out)
+    ProbeDatagram::of(&filled(&out), tail_of(&value.reach).as_slice())
 }

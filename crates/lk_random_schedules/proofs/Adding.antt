@@ -7,7 +7,7 @@ use Rattle.lk_script_lines.specs.EventLines.{line_of, lines_for}
 use Rattle.lk_sim.specs.Runs.{AreExecuted}
 use Rattle.lk_sim.specs.Scenes.{Scene}
 use Rattle.lk_sim.specs.declared.event.Event.{Event}
-use Rattle.lk_random_schedules.specs.Transcripts.{kept_lines, Adds, AddsSome}
+use Rattle.lk_random_schedules.specs.Transcripts.{kept_lines, AddsSome}
 use Rattle.lk_random_schedules.specs.declared.transcript.Transcript.{Transcript}
 
 passes_on : {R : Type 0} (b : Behaviour R) (es fs : List Event) (old mid new : Scene R) → AreExecuted b es old mid

@@ -1,9 +1,10 @@
 -- What each draw may give.
-use Rattle.std.specs.Prelude.{◌≡◌, ℕ, ◌<◌, ◌≤◌, ◌+◌, Bool, true, ⊤, List}
+use Rattle.std.specs.Prelude.{◌≡◌, ℕ, ◌<◌, ◌≤◌, ◌+◌, true, false, ⊤}
 use Rattle.std.specs.List.{AllByRecursion}
 use Rattle.lk_members.specs.Effects.{RequestValue}
 use Rattle.lk_random_schedules.specs.declared.event_kind.EventKind.{EventKind}
 use Rattle.lk_random_schedules.specs.declared.event_kind.EventKind.TheVariants as kind
+use Rattle.lk_random_schedules.specs.declared.plan.Plan.{Plan}
 use Rattle.lk_sim.specs.declared.event.Event.{Event}
 use Rattle.lk_sim.specs.declared.event.Event.TheVariants as event
 use Rattle.lk_sim.specs.declared.event.GroupInput.{GroupInput}
@@ -19,29 +20,31 @@ pub record IsNext (about : ℕ) (r : RequestValue) : Type 0 where
   pub above : about < r.number
   pub near : r.number ≤ about + 8
 
--- a kind that may be drawn: a Group only if groups are drawn
-abbrev pub IsKind : Bool → EventKind → Type 0
-IsKind groups kind.Group = groups ≡ true
-IsKind groups _ = ⊤
+-- a kind that the plan may draw: a Group or a Nudge only if the plan has them
+abbrev pub IsKind : Plan → EventKind → Type 0
+IsKind plan kind.Group = plan.groups ≡ true
+IsKind plan kind.Nudge = plan.nudges ≡ true
+IsKind plan _ = ⊤
 
--- a tick, or the place of one of so many datagrams, or 0
+-- a tick, or the place of one of so many datagrams, or 0; no nudge
 abbrev pub IsPart : ℕ → GroupInput → Type 0
 IsPart sent group_input.Tick = ⊤
+IsPart sent (group_input.Nudge withheld) = ⊥
 IsPart sent (group_input.Deliver k) = k ≤ sent
 
--- an event that may be drawn after so many datagrams were sent: any but a Start or a Nudge, and a Group only if groups
--- are drawn
-abbrev pub IsDrawn : Bool → ℕ → Event → Type 0
-IsDrawn groups sent (event.Start n) = ⊥
-IsDrawn groups sent (event.Nudge n) = ⊥
-IsDrawn groups sent (event.Restart n) = IsNear n
-IsDrawn groups sent (event.Tick n) = IsNear n
-IsDrawn groups sent (event.Compact n) = IsNear n
-IsDrawn groups sent (event.Client n r) = IsNear n
-IsDrawn groups sent (event.Deliver k) = k ≤ sent
-IsDrawn groups sent (event.Group n group_inputs) = (groups ≡ true) × IsNear n
+-- an event that the plan may draw after so many datagrams were sent: any but a Start, and a Group or a Nudge only if
+-- the plan has them; no nudge says that ticks are withheld
+abbrev pub IsDrawn : Plan → ℕ → Event → Type 0
+IsDrawn plan sent (event.Start n) = ⊥
+IsDrawn plan sent (event.Nudge n withheld) = (plan.nudges ≡ true) × IsNear n × (withheld ≡ false)
+IsDrawn plan sent (event.Restart n) = IsNear n
+IsDrawn plan sent (event.Tick n) = IsNear n
+IsDrawn plan sent (event.Compact n) = IsNear n
+IsDrawn plan sent (event.Client n r) = IsNear n
+IsDrawn plan sent (event.Deliver k) = k ≤ sent
+IsDrawn plan sent (event.Group n group_inputs) = (plan.groups ≡ true) × IsNear n
     × AllByRecursion (IsPart sent) group_inputs.items
-IsDrawn groups sent (event.Inject n bytes) = IsNear n
-IsDrawn groups sent (event.Stop n x y) = IsNear n
-IsDrawn groups sent (event.FailAt n count) = IsNear n × (count ≤ 4)
-IsDrawn groups sent (event.Arm n count bytes) = IsNear n × (count ≤ 8)
+IsDrawn plan sent (event.Inject n bytes) = IsNear n
+IsDrawn plan sent (event.Stop n x y) = IsNear n
+IsDrawn plan sent (event.FailAt n count) = IsNear n × (count ≤ 4)
+IsDrawn plan sent (event.Arm n count bytes) = IsNear n × (count ≤ 8)

@@ -1,5 +1,5 @@
 -- Random schedules: which events happen in their worlds.
-use Rattle.std.specs.Prelude.{◌≡◌, ℕ, zero, suc, Bool, ◌⊎◌, ⊤, [], ◌∷◌, length}
+use Rattle.std.specs.Prelude.{◌≡◌, ℕ, zero, suc, ◌⊎◌, ⊤, [], ◌∷◌, length}
 use Rattle.lk_node.specs.Histories.{Genesis}
 use Rattle.lk_replica.specs.Behaviours.{Behaviour}
 use Rattle.lk_sim.specs.Events.{IsExecuted}
@@ -54,17 +54,17 @@ pub record Starts {R : Type 0} (b : Behaviour R) (old new : Scene R) : Type 0 wh
   pub second : IsExecuted b one (Start 2) two
   pub third : IsExecuted b two (Start 3) new
 
--- an event that is drawn happens
-abbrev pub Next : {R : Type 0} → Behaviour R → Bool → Scene R → Scene R → Type 0
-Next b groups old new = (e : Event) × IsDrawn groups (length old.sent) e × Happens b old e new
+-- an event that the plan may draw happens
+abbrev pub Next : {R : Type 0} → Behaviour R → Plan → Scene R → Scene R → Type 0
+Next b plan old new = (e : Event) × IsDrawn plan (length old.sent) e × Happens b old e new
 
 -- so many of them happen, one after another
-abbrev pub Draws : {R : Type 0} → Behaviour R → Bool → ℕ → Scene R → Scene R → Type 0
-Draws b groups zero old new = new ≡ old
-Draws {R = R} b groups (suc n) old new = (mid : Scene R) × Draws b groups n old mid × Next b groups mid new
+abbrev pub Draws : {R : Type 0} → Behaviour R → Plan → ℕ → Scene R → Scene R → Type 0
+Draws b plan zero old new = new ≡ old
+Draws {R = R} b plan (suc n) old new = (mid : Scene R) × Draws b plan n old mid × Next b plan mid new
 
 -- the three nodes are started, and then so many drawn events happen
 pub record Fuzzes {R : Type 0} (b : Behaviour R) (plan : Plan) (old new : Scene R) : Type 0 where
   pub started : Scene R
   pub starts : Starts b old started
-  pub draws : Draws b plan.groups plan.count started new
+  pub draws : Draws b plan plan.count started new

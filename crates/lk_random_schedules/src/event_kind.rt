@@ -1,12 +1,13 @@
 // The kinds of events that are drawn, and how often each is.
-ghost use Rattle.std.specs.Prelude.{Bool};
 ghost use Rattle.lk_random_schedules.specs.Drawn.{IsKind};
+ghost use Rattle.lk_random_schedules.specs.declared.plan.Plan.{Plan as PlanValue};
 
 /// The kinds of events that are drawn: all but a Start.
 #[derive(Clone, Copy)]
 pub enum EventKind {
     Restart,
     Tick,
+    Nudge,
     Compact,
     Client,
     Deliver,
@@ -18,10 +19,10 @@ pub enum EventKind {
 }
 
 impl EventKind {
-    /// Returns the kind for a drawn byte; how many bytes a kind has is its weight. Never a Group, which replaces some
-    /// deliveries.
+    /// Returns the kind for a drawn byte; how many bytes a kind has is its weight. Never a Group or a Nudge: groups
+    /// replace some deliveries, nudges some ticks.
     pub fn of(case: u8) -> EventKind
-        ensures { (groups : Bool) → IsKind groups result }
+        ensures { (plan : PlanValue) → IsKind plan result }
     {
         match case {
             0..=183 => EventKind::Deliver,

@@ -119,18 +119,18 @@ fn start<R: MemoryReplica>(
     Ok(())
 }
 
-// Draws the next event and executes it.
+// Draws the next event of the plan and executes it.
 fn step<R: MemoryReplica>(
     alloc: Global,
     world: &mut World<R>,
-    groups: bool,
+    plan: Plan,
     schedule: &mut Schedule,
     transcript: &mut Transcript,
 ) -> Result<(), Refused>
-    ensures next { OnOk result (Next R.behaves groups world.old world.new) }
+    ensures next { OnOk result (Next R.behaves plan world.old world.new) }
     ensures adds { OnOk result (AddsSome R.behaves world.old transcript.old world.new transcript.new) }
 {
-    let event = schedule.next_event(alloc, groups, world.datagrams())?;
+    let event = schedule.next_event(alloc, plan, world.datagrams())?;
     happen(alloc, world, event, transcript)
 }
 
@@ -156,7 +156,7 @@ pub fn run_schedule<R: MemoryReplica>(
     start(alloc, world, transcript)?;
     let mut schedule = Schedule::of(plan.start);
     'events: for _ in 0..plan.count {
-        step(alloc, world, plan.groups, &mut schedule, transcript)?;
+        step(alloc, world, plan, &mut schedule, transcript)?;
     }
     Ok(())
 }

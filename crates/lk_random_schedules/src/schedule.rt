@@ -1,10 +1,12 @@
 // Draws the events of a random schedule.
-ghost use Rattle.std.specs.Prelude.{◌≤◌, Bool, length, IfOk, IfSome};
+ghost use Rattle.std.specs.Prelude.{◌≤◌, length, IfOk, IfSome};
 ghost use Rattle.std.specs.List.{AllByRecursion};
 ghost use Rattle.lk_random_schedules.specs.Drawn.{IsDrawn, IsKind, IsNear, IsPart};
+ghost use Rattle.lk_random_schedules.specs.declared.plan.Plan.{Plan as PlanValue};
 
 use crate::draws::Draws;
 use crate::event_kind::EventKind;
+use crate::plan::Plan;
 use crate::request::request;
 use lk_agreement_laws::Party;
 use lk_replica::Datagram;
@@ -143,13 +145,17 @@ impl Schedule {
         Ok(group_inputs)
     }
 
-    // Draws the kind of the next event. If groups are drawn, they replace one in four deliveries.
-    fn kind(&mut self, groups: bool) -> EventKind
-        ensures { IsKind groups result }
+    // Draws the kind of the next event. If the plan has groups, they replace one in four deliveries; if it has nudges,
+    // they replace one in four ticks.
+    fn kind(&mut self, plan: Plan) -> EventKind
+        ensures { IsKind plan result }
     {
         let kind = EventKind::of(self.draws.byte());
-        if groups && matches!(kind, EventKind::Deliver) && self.draws.is_one_of(4) {
+        if plan.groups && matches!(kind, EventKind::Deliver) && self.draws.is_one_of(4) {
             return EventKind::Group;
+        }
+        if plan.nudges && matches!(kind, EventKind::Tick) && self.draws.is_one_of(4) {
+            return EventKind::Nudge;
         }
         kind
     }
@@ -161,12 +167,16 @@ impl Schedule {
         kind: EventKind,
         sent: &[Datagram],
     ) -> Result<Event, NoMemory>
-        ensures { (groups : Bool) → IsKind groups kind → IfOk result (IsDrawn groups (length sent.now)) }
+        ensures { (plan : PlanValue) → IsKind plan kind → IfOk result (IsDrawn plan (length sent.now)) }
     {
         let node = self.node();
         let event = match kind {
             EventKind::Restart => Event::Restart(node),
             EventKind::Tick => Event::Tick(node),
+            EventKind::Nudge => Event::Nudge {
+                number: node,
+                are_ticks_withheld: false,
+            },
             EventKind::Compact => Event::Compact(node),
             EventKind::Client => Event::Client(node, request(&mut self.draws, self.drawn / 4)),
             EventKind::Deliver => Event::Deliver(self.datagram_number(sent.len())),
@@ -179,16 +189,16 @@ impl Schedule {
         Ok(event)
     }
 
-    /// Draws the next event of a world in which these datagrams were sent. Fails only when out of memory.
+    /// Draws the next event of the plan in a world in which these datagrams were sent. Fails only when out of memory.
     pub fn next_event(
         &mut self,
         alloc: Global,
-        groups: bool,
+        plan: Plan,
         sent: &[Datagram],
     ) -> Result<Event, NoMemory>
-        ensures { IfOk result (IsDrawn groups (length sent.now)) }
+        ensures { IfOk result (IsDrawn plan (length sent.now)) }
     {
-        let kind = self.kind(groups);
+        let kind = self.kind(plan);
         let event = self.event(alloc, kind, sent)?;
         self.drawn = self.drawn.saturating_add(1);
         Ok(event)

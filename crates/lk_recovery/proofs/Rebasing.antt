@@ -45,7 +45,7 @@ use Rattle.lk_node.specs.BorneOut.{text}
 use Rattle.lk_node.proofs.Nodes.{contains_more, window_is}
 use Rattle.lk_recovery.proofs.Growing.{grown_base}
 use Rattle.lk_recovery.specs.Compacting.{AllStandAt, IsSameStore}
-use Rattle.lk_recovery.specs.Rebased.{HasSwitchedFiles, StaysSafe, LeavesDisks}
+use Rattle.lk_recovery.specs.Rebased.{HasSwitchedFiles, KeepsOrBegins, StaysSafe, LeavesDisks}
 use Rattle.lk_recovery.specs.Remembering.{ReplicaRemembers}
 use Rattle.lk_recovery.proofs.Images.{known_rest, grown_fit, held_fit, EntriesCover, entries_fit, cover_entries}
 use Rattle.lk_recovery.proofs.Images.{entries_cover, cover_disks, none_asked, cover_more}
@@ -133,21 +133,25 @@ module _ (m : Meaning) (genesis : Genesis) (n : ℕ) (node : NodeValue) (old new
     ),
   )
 
+  -- the node's acceptor covers what every image covers
+  pub node_covers : (y : NodeMessage) → AllCover m genesis n (disks old) y → Covers node.acceptor.state y
+  node_covers y c =
+      let ks : EntriesCover genesis n y keeps.entries =
+      of_every (EntriesCover genesis n y) old keeps.entries (plain keeps.loose) (header_of genesis n)
+      (text m genesis []) keeps.holds (cover_entries m genesis n (disks old) y c) in
+      let same : acceptor_of ks.1.0 ≡ node.acceptor.state =
+      ap acceptor_of (one_standing keeps.entries ks.1.0 keeps.standing ks.1.1 keeps.stands) ∙ keeps.remembers in
+      subst (λ (a : AcceptorState). Covers a y) same ks.1.2
+
   -- after any exit of a rebase every image covers what every image covered
   pub rebase_covers : KeepsOrIs (disks new) keeps.entries (plain keeps.loose) base → (y : NodeMessage)
       → AllCover m genesis n (disks old) y → AllCover m genesis n (disks new) y
   rebase_covers left y c =
-      let every = cover_entries m genesis n (disks old) y c in
-      let ks : EntriesCover genesis n y keeps.entries =
-      of_every (EntriesCover genesis n y) old keeps.entries (plain keeps.loose) (header_of genesis n)
-      (text m genesis []) keeps.holds every in
-      let same : acceptor_of ks.1.0 ≡ node.acceptor.state =
-      ap acceptor_of (one_standing keeps.entries ks.1.0 keeps.standing ks.1.1 keeps.stands) ∙ keeps.remembers in
       entries_cover m genesis n (disks new) y
       (rebase_every (EntriesCover genesis n y) (λ e. Unit {0}) old new keeps.entries
       (plain keeps.loose) keeps.loose base (header_of genesis n) (text m genesis []) keeps.holds refl left
       (cover_more genesis n y) (none_asked keeps.loose)
-      (base_covers y (subst (λ (a : AcceptorState). Covers a y) same ks.1.2)) every)
+      (base_covers y (node_covers y c)) (cover_entries m genesis n (disks old) y c))
 
   -- where it was made every image covers what the node does
   pub rebase_syncs : HoldsEntries new (Base base ∷ []) [] → (y : NodeMessage) → Covers node.acceptor.state y
@@ -370,6 +374,12 @@ goes_fits m h n node store lawful left g =
     record { lawful = lawful; holding = g.holding; shown = g.shown; fits = g.fits; left = left }
 
 -- ---- what a rebase comes to
+
+-- whatever waited for a sync
+pub or_begins : (node : NodeValue) (old : StoreValue) (ks ls : List Stored) (new : StoreValue)
+    → KeepsOrBegins node old ks ls new → KeepsOrIs (disks new) ks ls (next_base old (standing_of node))
+or_begins node old ks ls new (inl keeps) = λ image left. inl (keeps image left)
+or_begins node old ks ls new (inr based) = based.1
 
 module _ (m : Meaning) (node : NodeValue) (old new : StoreValue)
     (may : FitsBase (standing_of node)) (close : HoldsNear node)

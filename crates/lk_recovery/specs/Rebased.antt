@@ -1,5 +1,5 @@
 -- What holds after a rebase of a node and its store, at Ok and after an error.
-use Rattle.std.specs.Prelude.{◌≡◌, ℕ, ◌+◌, ◌<◌, ◌≤◌, false, [], length}
+use Rattle.std.specs.Prelude.{◌≡◌, ◌⊎◌, ℕ, ◌+◌, ◌<◌, ◌≤◌, false, List, [], length}
 use Rattle.lk_types.specs.Limits.{max_base, max_count}
 use Rattle.lk_disk.specs.Disk.{Disk, contents}
 use Rattle.lk_disk.specs.declared.device.Side.{Side}
@@ -7,7 +7,8 @@ use Rattle.lk_disk.specs.Meters.{CallsSucceed}
 use Rattle.lk_log.specs.Causes.{rebase_calls}
 use Rattle.lk_log.specs.Rooms.{StaysWithin}
 use Rattle.lk_log.specs.StoreValue.{StoreValue, disks}
-use Rattle.lk_log.specs.Stores.{KeepsItsFile, FitsBase}
+use Rattle.lk_log.specs.Stores.{FitsBase, KeepsAtLeast, KeepsItsFile, KeepsOrIs, next_base}
+use Rattle.lk_store_format.specs.declared.stored.Stored.{Stored}
 use Rattle.lk_state.specs.Meanings.{Meaning}
 use Rattle.lk_agreement_laws.specs.Acceptors.{Covers}
 use Rattle.lk_agreement_laws.specs.Datagrams.{NodeMessage}
@@ -58,6 +59,13 @@ pub record HasSwitchedFiles (m : Meaning) (Metered : Type 0) (node : NodeValue) 
       → Covers node.acceptor.state x → AllCover m genesis n (disks after) x
   pub stands : (genesis : Genesis) (n : ℕ) (held : Holding) → ReplicaHolds m node store genesis n held
       → AllStandAt m genesis n (disks after) (executed new.learner) held.paxos.done
+
+-- each image that a stop may leave of the store has what was synced and a prefix of the rest; or it may have the node's
+-- Base alone instead, which fits into a file
+abbrev pub KeepsOrBegins : NodeValue → StoreValue → List Stored → List Stored → StoreValue → Type 0
+KeepsOrBegins node store ks ls after =
+    KeepsAtLeast after ks ls
+    ⊎ (FitsBase (standing_of node) × KeepsOrIs (disks after) ks ls (next_base store (standing_of node)))
 
 -- each image that a stop may leave of the store fits each history that the node fitted, and covers what every image
 -- covered; neither file has grown, except up to the size of a Base

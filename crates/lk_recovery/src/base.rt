@@ -3,12 +3,10 @@ ghost use Rattle.std.specs.Prelude.{◌≡◌, ◌+◌, ◌≤◌, ◌<◌, leng
 ghost use Rattle.lk_types.specs.Limits.{max_count};
 ghost use Rattle.lk_disk.specs.Disk.{contents};
 ghost use Rattle.lk_store_format.specs.declared.stored.Stored.{Stored};
-ghost use Rattle.lk_log.specs.StoreValue.{disks};
-ghost use Rattle.lk_log.specs.Stores.{HoldsEntries, KeepsItsFile, KeepsOrIs, next_base};
-ghost use Rattle.lk_node.specs.NewBases.{standing_of};
+ghost use Rattle.lk_log.specs.Stores.{HoldsEntries, KeepsItsFile};
 ghost use Rattle.lk_node.specs.Reaching.{HoldsNear};
 ghost use Rattle.lk_recovery.specs.Compacting.{IsDue, IsSameStore};
-ghost use Rattle.lk_recovery.specs.Rebased.{MatchesBase, HasSwitchedFiles, StaysSafe, IsNotRebased};
+ghost use Rattle.lk_recovery.specs.Rebased.{MatchesBase, HasSwitchedFiles, IsNotRebased, KeepsOrBegins, StaysSafe};
 ghost use Rattle.lk_node_interface.specs.Faults.{fault_number, CountsFailures, SucceedsOr, WantsNoMemory};
 
 use lk_disk::LogDisk;
@@ -32,9 +30,9 @@ pub fn write_base<M: Machine, D: LogDisk + Drop>(
     // However it ends, every image that a stop may leave fits and covers what every image covered before, and neither
     // file has grown, except up to the size of a Base.
     ensures disks { D.is_honest → StaysSafe M.meaning node.old store.old store.new }
-    // However it ends, every image has what it had before, or the Base alone.
+    // However it ends, and whatever waited for a sync, every image has what it had before, or the Base alone.
     ensures every_image { D.is_honest → (ks ls : List Stored) → HoldsEntries store.old ks ls
-        → KeepsOrIs (disks store.new) ks ls (next_base store.old (standing_of node.old)) }
+        → KeepsOrBegins node.old store.old ks ls store.new }
     // What the node holds above what it has executed lies near.
     ensures near { HoldsNear node.old }
     ensures halted { node.new.halted ≡ node.old.halted }

@@ -63,14 +63,14 @@ put_then false false old new is syncs ks ls h =
 put_then false true old new is syncs ks ls h = (λ no. absurd (cc no), λ yes. syncs ks ls h)
 
 counted : (r s : Bool) (n : ℕ)
-    → (if r then 0 + 4 else (n + 0)) + (if (if r then false else (false || s)) then 1 else 0)
+    → (if r then 4 else (n + 0)) + (if (if r then false else (false || s)) then 1 else 0)
     ≡ (if r then 4 else (n + (if s then 1 else 0)))
 counted true s n = omega arith
 counted false true n = omega arith
 counted false false n = omega arith
 
 -- its calls, and that of the sync
-one_calls : (out : OutboxValue) → gather_calls false out + sync_calls (needs_sync_after false out) ≡ write_calls out
+one_calls : (out : OutboxValue) → gather_calls out + sync_calls (needs_sync_after false out) ≡ write_calls out
 one_calls out = counted out.rebase out.sync (calls_for out.entries)
 
 three : (k a b c : ℕ) → a + b ≡ c → (k + a) + b ≡ k + c
@@ -105,11 +105,11 @@ module _ (m : Meaning) (IsText : List ℕ → Type 0) (Metered : Type 0) (old mi
 
   -- the device's calls before the sync
   abbrev calls : Metered → ℕ
-  calls metered = (one.room.calls metered).0 + gather_calls one.needs_sync one.out
+  calls metered = (one.room.calls metered).0 + gather_calls one.out
 
   passes : (metered : Metered) → CallsSucceed old.store.meter mid.store.meter (calls metered)
   passes metered = let k = one.room.calls metered in
-      passes_on k.0 k.2 (gather_calls one.needs_sync one.out) (one.steps.calls metered)
+      passes_on k.0 k.2 (gather_calls one.out) (one.steps.calls metered)
 
   module _ (synced : IsGroupSynced Metered mid g.needs_sync new)
       (room : StaysWithin 0 (disks mid.store) (disks new.store)) where
@@ -135,8 +135,7 @@ module _ (m : Meaning) (IsText : List ℕ → Type 0) (Metered : Type 0) (old mi
         let k = one.room.calls metered in
         let sum : calls metered + sync_calls g.needs_sync ≡ k.0 + write_calls one.out =
         ap (λ (w : Bool). calls metered + sync_calls w) waits
-        ∙ ap (λ (w : Bool). (k.0 + gather_calls w one.out) + sync_calls (needs_sync_after false one.out)) none_waits_yet
-        ∙ three k.0 (gather_calls false one.out) (sync_calls (needs_sync_after false one.out)) (write_calls one.out)
+        ∙ three k.0 (gather_calls one.out) (sync_calls (needs_sync_after false one.out)) (write_calls one.out)
         (one_calls one.out) in (
           k.0,
           record { due = λ due. k.1.due due; rests = λ other. k.1.rests other },

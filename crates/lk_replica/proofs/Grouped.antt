@@ -28,7 +28,7 @@ use Rattle.lk_store_format.proofs.Mixed.{format-append}
 use Rattle.lk_store_format.proofs.Spelling.{spelled-append, spelled_long, all-append}
 use Rattle.lk_log.specs.Images.{Image, IsLive, MayLeaveBoth, seen}
 use Rattle.lk_log.specs.StoreValue.{StoreValue, pick, disks}
-use Rattle.lk_log.specs.Stores.{HoldsEntries, IsOlder, KeepsAtLeast, KeepsItsFile, FitsBase, next_base}
+use Rattle.lk_log.specs.Stores.{HoldsEntries, IsOlder, KeepsAtLeast, FitsBase, next_base}
 use Rattle.lk_log.proofs.StoreLaws.{all_stand, header_more, plain_append, holds_keeps, live_unique, one_standing}
 use Rattle.lk_log.proofs.StoreLaws.{seen_left, synced_live, of_every}
 use Rattle.lk_state.specs.Meanings.{Meaning}
@@ -99,7 +99,7 @@ as_synced_holds s ks ls h =
     }
 
 -- where all is synced each image has all of it
-whole_keeps : (s : StoreValue) (ks more : List Stored) → HoldsEntries s (ks ++ more) [] → KeepsAtLeast s ks more
+pub whole_keeps : (s : StoreValue) (ks more : List Stored) → HoldsEntries s (ks ++ more) [] → KeepsAtLeast s ks more
 whole_keeps s ks more h image left = (
   length more,
   subst (λ (l : List Stored). IsLive image (ks ++ l)) (sym (take-length more))
@@ -527,16 +527,6 @@ settled_keeps whose old new true a synced k = record {
   remembers = entries_are k.standing k.loose ∙ k.remembers;
 }
 
--- where nothing waited, a sync has left the files as they were
-pub unsynced_same : (needs_sync : Bool) (old new : StoreValue) → SyncsIfNeeded needs_sync old new → needs_sync ≡ false
-    → AreSame (disks old) (disks new)
-unsynced_same false old new same is s = ap (λ (k : StoreValue). disks k s) same
-unsynced_same true old new synced is s = absurd (cc is)
-
-pub same_on : (old mid new : StoreValue) (needs_sync : Bool) → (needs_sync ≡ false → AreSame (disks old) (disks mid))
-    → AreSame (disks mid) (disks new) → needs_sync ≡ false → AreSame (disks old) (disks new)
-same_on old mid new needs_sync first same none s = same s ∙ first none s
-
 -- what a sync of something that waited has made of what the node holds
 abbrev settled_shown : (m : Meaning) (node : NodeValue) (old new : StoreValue) (genesis : Genesis) (n : ℕ) (x : Holding)
     → SyncsIfNeeded true old new → HoldsInGroup m node old true genesis n x → ReplicaHolds m node new genesis n x
@@ -933,45 +923,18 @@ pub settled_once : (m n : Meter) (needs_sync : Bool) → needs_sync ≡ true →
 settled_once m n true is calls = calls
 settled_once m n false is calls = absurd (cc is)
 
-pub gathered_put : (m n : Meter) (needs_sync : Bool) (o : OutboxValue) (entries : List Entry) → entries ≡ o.entries
-    → o.rebase ≡ false → CallsSucceed m n (put_calls entries false) → CallsSucceed m n (gather_calls needs_sync o)
-gathered_put m n needs_sync o entries these not_so calls =
-    subst (λ (b : Bool). CallsSucceed m n (if b then sync_calls needs_sync + rebase_calls else put_calls o.entries
-    false))
-    (sym not_so) (subst (λ (es : List Entry). CallsSucceed m n (put_calls es false)) these calls)
+pub gathered_put : (m n : Meter) (o : OutboxValue) (entries : List Entry) → entries ≡ o.entries
+    → o.rebase ≡ false → CallsSucceed m n (put_calls entries false) → CallsSucceed m n (gather_calls o)
+gathered_put m n o entries these not_so calls =
+    subst (λ (b : Bool). CallsSucceed m n (if b then rebase_calls else put_calls o.entries false)) (sym not_so)
+    (subst (λ (es : List Entry). CallsSucceed m n (put_calls es false)) these calls)
 
-pub gathered_base : (l m n : Meter) (needs_sync : Bool) (o : OutboxValue) → o.rebase ≡ true
-    → CallsSucceed l m (sync_calls needs_sync) → CallsSucceed m n rebase_calls
-    → CallsSucceed l n (gather_calls needs_sync o)
-gathered_base l m n needs_sync o so first then_calls =
-    subst (λ (b : Bool). CallsSucceed l n (if b then sync_calls needs_sync + rebase_calls else put_calls o.entries
-    false))
-    (sym so) (passes_on (sync_calls needs_sync) first rebase_calls then_calls)
+pub gathered_base : (m n : Meter) (o : OutboxValue) → o.rebase ≡ true → CallsSucceed m n rebase_calls
+    → CallsSucceed m n (gather_calls o)
+gathered_base m n o so calls =
+    subst (λ (b : Bool). CallsSucceed m n (if b then rebase_calls else put_calls o.entries false)) (sym so) calls
 
--- ---- a Base that is written after a sync
-
-pub settled_writes : (old mid after : StoreValue) (needs_sync : Bool) (t : StandingValue)
-    → SyncsIfNeeded needs_sync old mid
-    → KeepsItsFile old mid → ((ks ls : List Stored) → HoldsEntries mid ks ls
-    → HoldsEntries after (Base (next_base mid t) ∷ []) [])
-    → (ks ls : List Stored) → HoldsEntries old ks ls → HoldsEntries after (Base (next_base old t) ∷ []) []
-settled_writes old mid after needs_sync t syncs_all same writes ks ls h =
-    let b : next_base mid t ≡ next_base old t =
-    λ i. record { generation = same.1 i + 1; format = 2; header = same.3 i; standing = t } in
-    subst (λ (x : BaseValue). HoldsEntries after (Base x ∷ []) []) b (by_waits needs_sync syncs_all)
-  where
-    by_waits : (w : Bool) → SyncsIfNeeded w old mid → HoldsEntries after (Base (next_base mid t) ∷ []) []
-    by_waits true synced = writes (ks ++ ls) [] (synced ks ls h)
-    by_waits false is = writes ks ls (subst (λ (s : StoreValue). HoldsEntries s ks ls) (sym is) h)
-
-pub settled_rebases : (node new : NodeValue) (old mid after : StoreValue) (needs_sync : Bool)
-    → SyncsIfNeeded needs_sync old mid → KeepsItsFile old mid → Rebases node mid new after → Rebases node old new after
-settled_rebases node new old mid after needs_sync syncs_all same r =
-    record {
-      becomes = r.becomes;
-      generation = omega (arith, r.generation, same.1);
-      writes = settled_writes old mid after needs_sync (standing_of node) syncs_all same r.writes;
-    }
+-- ---- the room for a step
 
 -- that of a store that was asked how long its live file is
 pub same_rebases : (m : Meaning) (node new : NodeValue) (old mid after : StoreValue) → IsSameStore old mid
@@ -991,8 +954,6 @@ same_rebases m node new old mid after same r = record {
       (r.writes ks ls (same_holds m old mid same ks ls h));
 }
 
--- ---- the room for a step
-
 -- none had to be made
 pub no_room_made : (Metered : Type 0) (node : NodeValue) (old new : StoreValue) (needs_sync : Bool)
     → (IsDue node old → ⊥) → IsSameStore old new → (Metered → CallsSucceed old.meter new.meter 0)
@@ -1005,31 +966,23 @@ no_room_made Metered node old new needs_sync none same calls = record {
 }
 
 -- it was made by a rebase
-pub room_made : (m : Meaning) (Metered : Type 0) (node new : NodeValue) (old asked mid after : StoreValue)
-    (needs_sync : Bool) → IsDue node old → IsSameStore old asked → SyncsIfNeeded needs_sync asked mid
-    → KeepsItsFile asked mid → Rebases node mid new after
-    → (Metered → CallsSucceed old.meter asked.meter 0) → (Metered
-    → CallsSucceed asked.meter mid.meter (sync_calls needs_sync))
-    → (Metered → CallsSucceed mid.meter after.meter rebase_calls)
+pub room_made : (m : Meaning) (Metered : Type 0) (node new : NodeValue) (old asked after : StoreValue)
+    (needs_sync : Bool) → IsDue node old → IsSameStore old asked → Rebases node asked new after
+    → (Metered → CallsSucceed old.meter asked.meter 0) → (Metered → CallsSucceed asked.meter after.meter rebase_calls)
     → MakesRoom Metered node old needs_sync new after false
-room_made m Metered node new old asked mid after needs_sync due same syncs_all file rebases first then_calls last =
+room_made m Metered node new old asked after needs_sync due same rebases first then_calls =
     record {
       rebases = record {
-        due = λ is. same_rebases m node new old asked after same
-            (settled_rebases node new asked mid after needs_sync syncs_all file rebases);
+        due = λ is. same_rebases m node new old asked after same rebases;
         rests = λ other. absurd (other due);
       };
       synced = λ is. refl;
       rests = λ other. absurd (other due);
-      calls = λ metered.
-          let k : ℕ = sync_calls needs_sync + rebase_calls in
-          let all = passes_on 0 (first metered) k
-          (passes_on (sync_calls needs_sync) (then_calls metered) rebase_calls (last metered)) in
-          let none : 0 + k ≡ k = omega arith in (
-            k,
-            record { due = λ is. refl; rests = λ other. absurd (other due) },
-            subst (λ (j : ℕ). CallsSucceed old.meter after.meter j) none all,
-          );
+      calls = λ metered. (
+        rebase_calls,
+        record { due = λ is. refl; rests = λ other. absurd (other due) },
+        passes_on 0 (first metered) rebase_calls (then_calls metered),
+      );
     }
 
 -- where nothing waited for a sync, nothing waits

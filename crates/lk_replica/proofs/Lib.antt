@@ -9,5 +9,6 @@ mod Compactions
 mod Going
 pub mod Replicas
 mod Grouped
+mod Based
 mod Alone
 pub mod TakenTogether

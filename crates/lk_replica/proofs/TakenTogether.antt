@@ -281,11 +281,11 @@ module _ (m : Meaning) (IsText : List ℕ → Type 0) (begun_as : ReplicaValue) 
       (alive : now.failed ≡ false) where
     -- the calls of the device by which room was made, and of the step
     abbrev calls : ℕ
-    calls = (exact.room.calls tt).0 + gather_calls exact.needs_sync exact.out
+    calls = (exact.room.calls tt).0 + gather_calls exact.out
 
     passes : CallsSucceed old.store.meter now.store.meter calls
     passes = let k = exact.room.calls tt in
-        passes_on k.0 k.2 (gather_calls exact.needs_sync exact.out) (exact.steps.calls tt)
+        passes_on k.0 k.2 (gather_calls exact.out) (exact.steps.calls tt)
 
     pub one_taken : TakenSoFar m IsText begun_as all now (record new { notes = [] }) (steps ++ step ∷ []) rest
     one_taken = record {

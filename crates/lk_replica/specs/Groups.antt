@@ -25,7 +25,7 @@ use Rattle.lk_node_interface.specs.declared.input.Input.{Input}
 use Rattle.lk_node_interface.specs.declared.note.Note.{Note}
 use Rattle.lk_node.specs.Steps.{Steps}
 use Rattle.lk_types.specs.Limits.{max_count}
-use Rattle.lk_recovery.specs.Compacting.{IsDue, Rebases, RebasesWhereDue}
+use Rattle.lk_recovery.specs.Compacting.{CallsWhereDue, IsDue, Rebases, RebasesWhereDue}
 use Rattle.lk_node_interface.specs.Faults.{failures_by, RefusedAfter, IsNumberOfCalls}
 use Rattle.lk_replica.specs.Posts.{AreOf}
 use Rattle.lk_recovery.specs.Rooms.{GrowsByStep, GrowsFromBase, max_after}
@@ -49,7 +49,7 @@ abbrev pub as_released : Bool → StoreValue → StoreValue
 as_released true s = as_synced s
 as_released false s = s
 
--- whether something waits for a sync after one more step: a rebase has synced everything
+-- whether something waits for a sync after one more step: a Base holds everything, and is synced
 abbrev pub needs_sync_after : Bool → OutboxValue → Bool
 needs_sync_after needs_sync out = if out.rebase then false else (needs_sync || out.sync)
 
@@ -233,23 +233,18 @@ pub record StepKeepsGroup (m : Meaning) (Heard : History → Type 0) (node : Nod
 abbrev pub sync_calls : Bool → ℕ
 sync_calls needs_sync = if needs_sync then 1 else 0
 
--- how many it takes to make room: those of a rebase if that is due, after a sync if something waits for that
-pub record CallsOfRoom (node : NodeValue) (store : StoreValue) (needs_sync : Bool) (k : ℕ) : Type 0 where
-  pub due : IsDue node store → k ≡ sync_calls needs_sync + rebase_calls
-  pub rests : (IsDue node store → ⊥) → k ≡ 0
-
--- Room was made for a step: a rebase was made if that was due, after a sync if something waited for that; after a
--- rebase nothing waits. A device that counts its calls (`Metered`) has had no others.
+-- Room was made for a step: a rebase was made if that was due, after which nothing waits for a sync. A device that
+-- counts its calls (`Metered`) has had no others: what waited was not synced first.
 pub record MakesRoom (Metered : Type 0) (node : NodeValue) (store : StoreValue) (needs_sync : Bool) (new : NodeValue)
     (after : StoreValue) (still : Bool) : Type 0 where
   pub rebases : RebasesWhereDue node store new after
   pub synced : IsDue node store → still ≡ false
   pub rests : (IsDue node store → ⊥) → still ≡ needs_sync
-  pub calls : Metered → (k : ℕ) × CallsOfRoom node store needs_sync k × CallsSucceed store.meter after.meter k
+  pub calls : Metered → (k : ℕ) × CallsWhereDue node store k × CallsSucceed store.meter after.meter k
 
--- how many calls a step writes by: those of its entries, or of a Base, after a sync if something waited for that
-abbrev pub gather_calls : Bool → OutboxValue → ℕ
-gather_calls needs_sync out = if out.rebase then sync_calls needs_sync + rebase_calls else put_calls out.entries false
+-- how many calls a step writes by: those of its entries, unsynced, or of a Base
+abbrev pub gather_calls : OutboxValue → ℕ
+gather_calls out = if out.rebase then rebase_calls else put_calls out.entries false
 
 -- the outbox's entries follow what the store held, and nothing more is synced
 abbrev pub Appends : StoreValue → OutboxValue → StoreValue → Type 0
@@ -258,15 +253,14 @@ Appends old out new = (ks ls : List Stored) → HoldsEntries old ks ls → Holds
 -- a step was taken, and what its outbox says is written, unsynced, by which neither file grows by more than a step, and
 -- the same one stays live; in the calls that this takes of a device that counts them (`Metered`)
 pub record StepsToFile (m : Meaning) (IsText : List ℕ → Type 0) (Metered : Type 0) (node : NodeValue)
-    (store : StoreValue) (needs_sync : Bool) (i : Input) (out : OutboxValue) (new : NodeValue)
-    (after : StoreValue) : Type 0 where
+    (store : StoreValue) (i : Input) (out : OutboxValue) (new : NodeValue) (after : StoreValue) : Type 0 where
   pub stepped : NodeValue
   pub steps : Steps m IsText node i stepped out
   pub rebases : out.rebase ≡ true → Rebases stepped store new after
   pub puts : out.rebase ≡ false → (new ≡ stepped) × Appends store out after
   pub grows : out.rebase ≡ false → GrowsByStep (disks store) (disks after)
   pub file : out.rebase ≡ false → KeepsItsFile store after
-  pub calls : Metered → CallsSucceed store.meter after.meter (gather_calls needs_sync out)
+  pub calls : Metered → CallsSucceed store.meter after.meter (gather_calls out)
 
 -- One more input of a group was taken: room was made for it, a step was taken, and its outbox is written, unsynced; its
 -- notes and letters follow those of the steps before it, the group waits for a sync exactly if something that it has
@@ -279,7 +273,7 @@ pub record IsGathered (m : Meaning) (IsText : List ℕ → Type 0) (Metered : Ty
   pub needs_sync : Bool
   pub room : MakesRoom Metered node store before.needs_sync mid between needs_sync
   pub out : OutboxValue
-  pub steps : StepsToFile m IsText Metered mid between needs_sync i out new after
+  pub steps : StepsToFile m IsText Metered mid between i out new after
   pub adds : now ≡ with_step needs_sync out before
 
 -- What waited for a sync is synced, in one call, and nothing else was done.

@@ -1,5 +1,5 @@
 -- What a call of `take` has done, exactly, and what it leaves on the disks, even after an error.
-use Rattle.std.specs.Prelude.{◌≡◌, ℕ, ◌+◌, ◌<◌, ◌≤◌, ⊤, true, false, if◌then◌else◌, Option, Result, Ok, Err, List, []}
+use Rattle.std.specs.Prelude.{◌≡◌, ℕ, ◌+◌, ◌<◌, ◌≤◌, ⊤, true, false, if◌then◌else◌, Result, Ok, Err, List, []}
 use Rattle.std.specs.Prelude.{◌++◌, Bool, Contains, Vec, IfErr, IsErrAnd, OnOk}
 use Rattle.std.specs.Global.{Global}
 use Rattle.lk_disk.specs.Meters.{CallsSucceed}

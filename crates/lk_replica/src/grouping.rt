@@ -1,6 +1,6 @@
 // Steps of a group: their entries are written unsynced, and synced once before their letters are sent.
-ghost use Rattle.std.specs.Prelude.{◌≡◌, ℕ, ◌-◌, ◌<◌, ◌≤◌, ◌||◌, List, [], ◌++◌, length, true, false, Contains, IfOk};
-ghost use Rattle.std.specs.Prelude.{IfErr, IsOk, OnOk, OnErr, IsErrAnd, IsErrOf, ⊤};
+ghost use Rattle.std.specs.Prelude.{◌≡◌, ℕ, ◌-◌, ◌<◌, ◌≤◌, ◌||◌, Bool, List, [], ◌++◌, length, true, false, Contains};
+ghost use Rattle.std.specs.Prelude.{IfErr, IfOk, IsOk, OnOk, OnErr, IsErrAnd, IsErrOf, ⊤};
 ghost use Rattle.lk_types.specs.Limits.{max_base, max_count};
 ghost use Rattle.lk_disk.specs.Disk.{contents};
 ghost use Rattle.lk_disk.specs.Meters.{CallsSucceed};
@@ -24,10 +24,10 @@ ghost use Rattle.lk_replica.specs.Groups.{with_step, SyncsIfNeeded, RemembersInG
 ghost use Rattle.lk_replica.specs.Groups.{GroupLeavesFit, RoomKeepsGroup, StepKeepsGroup, StepLeavesInGroup};
 ghost use Rattle.lk_replica.specs.Groups.{FitsOnceSynced, LeavesFitOnceSynced};
 ghost use Rattle.lk_replica.specs.Posts.{AreOf, IsDelivered};
-ghost use Rattle.lk_recovery.specs.Rebased.{StaysAlive};
+ghost use Rattle.lk_recovery.specs.Rebased.{IsNotWritten, StaysAlive};
 ghost use Rattle.lk_recovery.specs.Rooms.{GrowsFromBase, max_after};
 ghost use Rattle.lk_replica.specs.Taking.{BeginsGroup, EndsGroup, IsCutShort};
-ghost use Rattle.lk_replica.specs.Writing.{HasGathered, StaysWritten, LeavesGathered, IsNotGathered, IsNotSynced};
+ghost use Rattle.lk_replica.specs.Writing.{HasGathered, StaysWritten, LeavesGathered, IsNotSynced};
 
 use crate::delivering::deliver;
 use crate::replica::Replica;
@@ -195,26 +195,24 @@ pub fn sync_or_flush<D: LogDisk + Drop>(
     Ok(())
 }
 
-// Writes the entries of an outbox of the node, unsynced; or, if it asks for a rebase, the node's Base in their place,
-// after a sync if something waits for one. Sends nothing.
+// Writes the entries of an outbox of the node, unsynced; or, if it asks for a rebase, the node's Base in their place.
+// The Base holds whatever waits for a sync, so that is not synced first. Sends nothing.
 fn write_to_file<M: Machine, D: LogDisk + Drop>(
     node: &mut Node<M>,
     store: &mut Store<D>,
     outbox: &Outbox,
-    needs_sync: bool,
 ) -> Result<(), ReplicaFault>
     requires { store.old.format ≡ 2 }
     ensures done { D.is_honest
-        → OnOk result (HasGathered M.meaning D.is_metered node.old store.old needs_sync outbox.now node.new store.new) }
+        → OnOk result (HasGathered M.meaning D.is_metered node.old store.old outbox.now node.new store.new) }
     ensures goes { OnOk result (StaysWritten node.old store.old outbox.now node.new store.new) }
-    ensures disks { D.is_honest → LeavesGathered M.meaning node.old store.old needs_sync outbox.now store.new }
-    ensures refused { IfErr result (IsNotGathered D.is_honest D.is_metered store.old needs_sync store.new) }
+    ensures disks { D.is_honest → LeavesGathered node.old store.old outbox.now store.new }
+    ensures refused { IfErr result (IsNotWritten D.is_honest D.is_metered store.old store.new) }
     ensures halted { node.new.halted ≡ node.old.halted }
     ensures format { store.new.format ≡ 2 }
     ensures cause { CountsFailures store.old.failures store.new.failures result }
 {
     if outbox.rebase {
-        sync_or_flush(store, needs_sync)?;
         write_base(node, store)?;
         return Ok(());
     }
@@ -223,37 +221,37 @@ fn write_to_file<M: Machine, D: LogDisk + Drop>(
 }
 
 // Gives an input to the node, and writes the entries of its outbox unsynced; or, if the outbox asks for a rebase (a
-// snapshot was installed), the node's Base in their place, after a sync if something waits for one. Sends nothing.
+// snapshot was installed), the node's Base in their place, whatever waits for a sync. Sends nothing.
 fn step_to_file<M: Machine, D: LogDisk + Drop>(
     node: &mut Node<M>,
     store: &mut Store<D>,
     input: Input,
-    needs_sync: bool,
 ) -> Result<Outbox, ReplicaFault>
     requires { store.old.format ≡ 2 }
-    ensures keeps { D.is_honest
+    ensures keeps { D.is_honest → (needs_sync : Bool)
         → IfOk result (λ o. StepKeepsGroup M.meaning
         (λ h. InputFits h input.entry) node.old store.old needs_sync o node.new store.new) }
-    ensures disks { D.is_honest
+    ensures disks { D.is_honest → (needs_sync : Bool)
         → StepLeavesInGroup M.meaning
         (λ h. InputFits h input.entry) max_after node.old store.old needs_sync (disks store.new) }
     ensures runs { NothingToRun node.old → OnOk result (NothingToRun node.new) }
     ensures exact { D.is_honest
-        → IfOk result (λ o. StepsToFile M.meaning M.IsText D.is_metered node.old store.old needs_sync
-        input.entry o node.new store.new) }
+        → IfOk result (λ o. StepsToFile M.meaning M.IsText D.is_metered node.old store.old input.entry o
+        node.new store.new) }
     ensures alive { IfOk result (λ o. (store.new.failed ≡ false) × (node.new.halted ≡ false)) }
     ensures refused { IfErr result
         (IsCutShort D.is_honest D.is_metered 1 node.old store.old node.new store.new (KeepsItsFile store.old store.new)
-        (needs_sync ≡ false → AreSame (disks store.old) (disks store.new))) }
+        (AreSame (disks store.old) (disks store.new))) }
     ensures format { store.new.format ≡ 2 }
     ensures cause { CountsFailures store.old.failures store.new.failures result }
 {
     let outbox = node.step(input)?;
-    write_to_file(node, store, &outbox, needs_sync)?;
+    write_to_file(node, store, &outbox)?;
     Ok(outbox)
 }
 
-// Rebases if due, after a sync if something waits for one. Returns whether something still waits: not after a rebase.
+// Rebases if due. The Base holds whatever waits for a sync, so that is not synced first. Returns whether something
+// still waits: not after a rebase.
 fn make_room<M: Machine, D: LogDisk + Drop>(
     node: &mut Node<M>,
     store: &mut Store<D>,
@@ -269,7 +267,7 @@ fn make_room<M: Machine, D: LogDisk + Drop>(
     ensures alive { OnOk result (StaysAlive node.old store.old node.new store.new) }
     ensures refused { IfErr result
         (IsCutShort D.is_honest D.is_metered 1 node.old store.old node.new store.new (KeepsItsFile store.old store.new)
-        (needs_sync ≡ false → AreSame (disks store.old) (disks store.new))) }
+        (AreSame (disks store.old) (disks store.new))) }
     // If a rebase is due at generation 2^48, it fails with `Failed`, even if it is out of memory, or with `Device` if
     // the device fails.
     ensures last { D.is_honest → max_count ≤ store.old.generation → IsDue node.old store.old
@@ -284,7 +282,6 @@ fn make_room<M: Machine, D: LogDisk + Drop>(
     if !due {
         return Ok(needs_sync);
     }
-    sync_or_flush(store, needs_sync)?;
     write_base(node, store)?;
     Ok(false)
 }
@@ -327,14 +324,15 @@ fn step_in_group<M: Machine, D: LogDisk + Drop>(
     ensures cause { CountsFailures store.old.failures store.new.failures result }
 {
     let needs_sync = make_room(node, store, group.needs_sync)?;
-    let outbox = step_to_file(node, store, input, needs_sync)?;
+    let outbox = step_to_file(node, store, input)?;
     group.add(needs_sync, outbox)?;
     Ok(())
 }
 
 impl<M: Machine, D: LogDisk + Drop> Replica<M, D> {
     /// Takes an input into a group. Nothing is sent before `release`, and the step's entries are synced only there,
-    /// unless a Base is written: before the step if a rebase is due, after it for an installed snapshot.
+    /// unless a Base is written, which holds them: before the step if a rebase is due, after it for an installed
+    /// snapshot.
     ///
     /// It fails as `take` does, but never with `Send`, and after that every call fails with `Failed` (11): nothing of
     /// the group is sent.

@@ -1,5 +1,5 @@
 -- The lines of world mode after its first: how each is spelled, and which events it asks for.
-use Rattle.std.specs.Prelude.{◌≡◌, ◌≢◌, ◌≤◌, ◌⊎◌, ℕ, List, [], ◌∷◌, ◌++◌, Ok, codes}
+use Rattle.std.specs.Prelude.{◌≡◌, ◌≢◌, ◌≤◌, ◌⊎◌, ℕ, List, [], ◌∷◌, ◌++◌, true, false, Ok, codes}
 use Rattle.std.specs.Fmt.{decimal}
 use Rattle.hex.specs.Hex.{decode_of}
 use Rattle.lk_types.specs.Limits.{max_count, max_node, max_client}
@@ -44,9 +44,10 @@ AsksForTicks words o = ((n : ℕ) × IsNodeWord n words × (o ≡ Ticks n 1))
     ⊎ ((n : ℕ) × (times : ℕ) × (word : List ℕ) × NodeLeads n word words
     × IsWord 1 10000 times word × (o ≡ Ticks n times))
 
--- `N`
+-- `N`, or `N withheld`, which says that ticks are
 abbrev pub AsksToNudge : List ℕ → Instruction → Type 0
-AsksToNudge words o = (n : ℕ) × IsNodeWord n words × (o ≡ Once (event.Nudge n))
+AsksToNudge words o = ((n : ℕ) × IsNodeWord n words × (o ≡ Once (event.Nudge n false)))
+    ⊎ ((n : ℕ) × (word : List ℕ) × NodeLeads n word words × (word ≡ codes "withheld") × (o ≡ Once (event.Nudge n true)))
 
 -- `N`
 abbrev pub AsksToCompact : List ℕ → Instruction → Type 0
@@ -56,17 +57,32 @@ AsksToCompact words o = (n : ℕ) × IsNodeWord n words × (o ≡ Once (event.Co
 abbrev pub AsksToDeliver : List ℕ → Instruction → Type 0
 AsksToDeliver words o = (k : ℕ) × IsWord 1 max_count k words × (o ≡ Once (event.Deliver k))
 
--- `t`, or `K`
-abbrev pub IsInputWord : GroupInput → List ℕ → Type 0
-IsInputWord input.Tick word = word ≡ codes "t"
-IsInputWord (input.Deliver k) word = IsWord 1 max_count k word
+-- `t`, `nudge`, `nudge withheld`, or `K`
+abbrev pub SpellsInput : GroupInput → List ℕ → Type 0
+SpellsInput input.Tick words = words ≡ codes "t"
+SpellsInput (input.Nudge false) words = words ≡ codes "nudge"
+SpellsInput (input.Nudge true) words = words ≡ codes "nudge withheld"
+SpellsInput (input.Deliver k) words = IsWord 1 max_count k words
 
--- parts of a group in words, one or more, separated by spaces
+-- inputs of a group in words, one or more, separated by spaces
 pub data SpellsInputs : List ℕ → List GroupInput → Type 0 where
-  one : (t : GroupInput) (word : List ℕ) → IsInputWord t word → SpellsInputs word (t ∷ [])
-  more : (t : GroupInput) (word rest : List ℕ) (inputs : List GroupInput) → IsInputWord t word
+  one : (t : GroupInput) (words : List ℕ) → SpellsInput t words → SpellsInputs words (t ∷ [])
+  more : (t : GroupInput) (words rest : List ℕ) (inputs : List GroupInput) → SpellsInput t words
       → SpellsInputs rest inputs
-      → SpellsInputs (word ++ 32 ∷ rest) (t ∷ inputs)
+      → SpellsInputs (words ++ 32 ∷ rest) (t ∷ inputs)
+
+-- whatever inputs the words spell, these words of them are the first, and what follows the space after it is the rest
+pub record FirstInput (first rest words : List ℕ) : Type 0 where
+  pub parts : words ≡ first ++ 32 ∷ rest
+  pub are : (inputs : List GroupInput) → SpellsInputs words inputs
+      → (t : GroupInput) × (others : List GroupInput) × (inputs ≡ t ∷ others) × SpellsInput t first
+      × SpellsInputs rest others
+
+-- whatever inputs the words spell, it is one
+abbrev pub OneInput : List ℕ → Type 0
+OneInput words =
+    (inputs : List GroupInput) → SpellsInputs words inputs
+    → (t : GroupInput) × (inputs ≡ t ∷ []) × SpellsInput t words
 
 -- the node takes these together
 abbrev pub Groups : ℕ → List GroupInput → Event → Type 0

@@ -3,8 +3,8 @@
 ghost use Rattle.std.specs.Prelude.{◌≡◌, ◌++◌, ◌∷◌, [], IfOk, OnOk, string_bytes};
 ghost use Rattle.std.specs.Fmt.{decimal};
 ghost use Rattle.hex.specs.Hex.{encode_lower};
-ghost use Rattle.lk_script_lines.specs.EventLines.{then_numbers, op_words, then_inputs, line_of};
-ghost use Rattle.lk_sim.specs.declared.event.Event.TheVariants.{Client};
+ghost use Rattle.lk_script_lines.specs.EventLines.{then_numbers, op_words, then_inputs, then_withheld, line_of};
+ghost use Rattle.lk_sim.specs.declared.event.Event.TheVariants.{Client, Nudge};
 
 use lk_sim::{Event, GroupInput};
 use lk_types::{NoMemory, NodeNo, Op, Request};
@@ -86,15 +86,33 @@ fn add_client(
     add_op(alloc, text, &request.op)
 }
 
-// Appends the inputs of a group, each after a space: `t` for a tick, or the number of a datagram.
+// Returns the word that says that ticks are withheld, after a space, or nothing.
+fn withheld_word(are_ticks_withheld: bool) -> &'static str
+    ensures { result.now ≡ then_withheld are_ticks_withheld }
+{
+    if are_ticks_withheld { " withheld" } else { "" }
+}
+
+// Appends an input of a group after a space: `t` for a tick, `nudge`, `nudge withheld`, or the number of a datagram.
+fn add_input(alloc: Global, text: &mut Vec<u8>, input: GroupInput) -> Result<(), NoMemory>
+    ensures { OnOk result (text.new.items ≡ text.old.items ++ then_inputs (input ∷ [])) }
+{
+    match input {
+        GroupInput::Tick => add(text, " t"),
+        GroupInput::Nudge { are_ticks_withheld } => {
+            add(text, " nudge")?;
+            add(text, withheld_word(are_ticks_withheld))
+        }
+        GroupInput::Deliver(k) => add_numbers(alloc, text, &[k as u64]),
+    }
+}
+
+// Appends the inputs of a group, each after a space.
 fn add_inputs(alloc: Global, text: &mut Vec<u8>, inputs: &[GroupInput]) -> Result<(), NoMemory>
     ensures { OnOk result (text.new.items ≡ text.old.items ++ then_inputs inputs.now) }
 {
     for input in inputs {
-        match input {
-            GroupInput::Tick => add(text, " t")?,
-            GroupInput::Deliver(k) => add_numbers(alloc, text, &[*k as u64])?,
-        }
+        add_input(alloc, text, *input)?;
     }
     Ok(())
 }
@@ -106,6 +124,19 @@ fn add_verb(alloc: Global, text: &mut Vec<u8>, verb: &str, node: NodeNo) -> Resu
     add_words(alloc, text, verb, &[u64::from(node.get())])
 }
 
+// Appends `nudge N`, or `nudge N withheld`.
+fn add_nudge(
+    alloc: Global,
+    text: &mut Vec<u8>,
+    node: NodeNo,
+    are_ticks_withheld: bool,
+) -> Result<(), NoMemory>
+    ensures { OnOk result (text.new.items ≡ text.old.items ++ line_of (Nudge node are_ticks_withheld)) }
+{
+    add_verb(alloc, text, "nudge", node)?;
+    add(text, withheld_word(are_ticks_withheld))
+}
+
 // Appends the line of an event, without its line feed.
 fn add_event(alloc: Global, text: &mut Vec<u8>, event: &Event) -> Result<(), NoMemory>
     ensures { OnOk result (text.new.items ≡ text.old.items ++ line_of event.now) }
@@ -114,7 +145,10 @@ fn add_event(alloc: Global, text: &mut Vec<u8>, event: &Event) -> Result<(), NoM
         Event::Start(node) => add_verb(alloc, text, "start", *node),
         Event::Restart(node) => add_verb(alloc, text, "restart", *node),
         Event::Tick(node) => add_verb(alloc, text, "tick", *node),
-        Event::Nudge(node) => add_verb(alloc, text, "nudge", *node),
+        Event::Nudge {
+            number,
+            are_ticks_withheld,
+        } => add_nudge(alloc, text, *number, *are_ticks_withheld),
         Event::Compact(node) => add_verb(alloc, text, "compact", *node),
         Event::Client(node, request) => add_client(alloc, text, u64::from(node.get()), request),
         Event::Deliver(k) => add_words(alloc, text, "deliver", &[*k as u64]),

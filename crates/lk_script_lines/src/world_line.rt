@@ -1,9 +1,11 @@
 //! Reads the lines of world mode after its first: a verb, and the words that it takes.
 
-ghost use Rattle.std.specs.Prelude.{◌≡◌, ◌≢◌, ◌≤◌, ℕ, List, [], Ok, Some, IfSome, IsNone, IfOk, IsErrOf};
+ghost use Rattle.std.specs.Prelude.{◌≡◌, ◌≢◌, ◌≤◌, ℕ, true, false, List, [], Ok, Some, IfSome, IsNone, codes};
+ghost use Rattle.std.specs.Prelude.{IfOk, IsErrOf};
 ghost use Rattle.hex.specs.Hex.{decode_of};
 ghost use Rattle.lk_types.specs.Limits.{max_node};
 ghost use Rattle.lk_members.specs.Effects.{RequestValue};
+ghost use Rattle.lk_sim.specs.declared.event.Event.TheVariants as event;
 ghost use Rattle.lk_script_lines.specs.declared.instruction.Instruction.TheVariants as instruction;
 ghost use Rattle.lk_script_lines.specs.declared.instruction.Instruction.{Instruction as InstructionValue};
 ghost use Rattle.lk_script_lines.specs.WorldLines.{IsNodeWord, AsksToStart, AsksToRestart, AsksForTicks, AsksToCompact};
@@ -86,15 +88,44 @@ fn read_tick(words: &[u8]) -> Option<Instruction>
     Some(Instruction::Ticks(node, times as u16))
 }
 
-// Reads the word of `nudge N`.
+// Whether the word is `withheld`.
+fn is_withheld(word: &[u8]) -> bool
+    ensures is { result ≡ true → word.now ≡ codes "withheld" }
+    ensures other { result ≡ false → word.now ≡ codes "withheld" → ⊥ }
+{
+    match word {
+        b"withheld" => true,
+        _ => false,
+    }
+}
+
+// Returns the number of the node that is nudged, and whether the word `withheld` follows it.
+fn nudged(words: &[u8]) -> Option<(u64, bool)>
+    ensures some { IfSome result
+        (λ p. (1 ≤ p.0) × (p.0 ≤ max_node) × AsksToNudge words.now (instruction.Once (event.Nudge p.0 p.1))) }
+    ensures none { IsNone result → (o : InstructionValue) → AsksToNudge words.now o → ⊥ }
+{
+    if let Some((number, word)) = first_number(words, 1, LAST_NODE) {
+        if !is_withheld(word) {
+            return None;
+        }
+        return Some((number, true));
+    }
+    let number = number_of(words, 1, LAST_NODE)?;
+    Some((number, false))
+}
+
+// Reads the words of `nudge N` or `nudge N withheld`.
 fn read_nudge(words: &[u8]) -> Option<Instruction>
     ensures some { IfSome result (AsksToNudge words.now) }
     ensures none { IsNone result → (o : InstructionValue) → AsksToNudge words.now o → ⊥ }
 {
-    let Some(node) = node_of(words) else {
-        return None;
-    };
-    Some(Instruction::Once(Event::Nudge(node)))
+    let (number, are_ticks_withheld) = nudged(words)?;
+    let number = NodeNo::of(number as u32).unwrap();
+    Some(Instruction::Once(Event::Nudge {
+        number,
+        are_ticks_withheld,
+    }))
 }
 
 // Reads the word of `compact N`.

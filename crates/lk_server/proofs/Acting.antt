@@ -5,9 +5,9 @@ use Rattle.lk_transport.specs.Addresses.{AddressBook, IsSameNetwork}
 use Rattle.lk_transport.specs.Inquiring.{AsksOne, LearnsKept, ReadmitsKept}
 use Rattle.lk_transport.specs.Posts.{SendState}
 use Rattle.lk_transport.specs.declared.received_probe.ReceivedProbe.{ReceivedProbe}
-use Rattle.lk_server.specs.ProbeHandling.{HandlesProbes}
+use Rattle.lk_server.specs.ProbeHandling.{HandlesProbes, ListensFor, ListensIf}
 use Rattle.lk_server.specs.Probes.{RepliesToKept}
-use Rattle.lk_server.specs.Servers.{ServerValue, send_state_at}
+use Rattle.lk_server.specs.Servers.{ServerValue, periods, send_state_at}
 use Rattle.lk_server_replica.specs.declared.probed_state.ProbedState.{ProbedState}
 
 -- an answer leaves what is to come
@@ -17,7 +17,7 @@ answer_still {R} Shows observable None old new same t = ap (λ (s : ServerValue 
 answer_still Shows observable (Some a) old new one t = one.still t
 
 module _ {R : Type 0} (Shows : R → ProbedState → Type 0) (observable : Type 0) (asked : Option ReceivedProbe)
-    (reported : Option Reported) (now : ℕ) (old replied readmitted learned new : ServerValue R) where
+    (reported : Option Reported) (now : ℕ) (old replied readmitted learned questioned new : ServerValue R) where
   -- it answers, readmits, learns and asks
   pub acted : RepliesToKept Shows observable asked old replied
       → replied ≡ record old {
@@ -28,21 +28,31 @@ module _ {R : Type 0} (Shows : R → ProbedState → Type 0) (observable : Type 
       → ReadmitsKept asked replied.addresses readmitted.addresses
       → IsSameNetwork replied.addresses readmitted.addresses
       → readmitted ≡ record replied { addresses = readmitted.addresses }
-      → LearnsKept reported readmitted.addresses learned.addresses
+      → LearnsKept readmitted.node reported readmitted.addresses learned.addresses
       → IsSameNetwork readmitted.addresses learned.addresses
       → learned ≡ record readmitted { addresses = learned.addresses }
-      → now ≡ learned.ticks → AsksOne observable now learned.node learned.addresses new.addresses
-      (send_state_at learned.loopback learned) (send_state_at new.loopback new)
-      → IsSameNetwork learned.addresses new.addresses
-      → (observable → new.incoming ≡ learned.incoming)
-      → new ≡ record learned {
+      → now ≡ periods learned → AsksOne observable now learned.node learned.addresses questioned.addresses
+      (send_state_at learned.loopback learned) (send_state_at questioned.loopback questioned)
+      → IsSameNetwork learned.addresses questioned.addresses
+      → (observable → questioned.incoming ≡ learned.incoming)
+      → questioned ≡ record learned {
+        addresses = questioned.addresses;
+        sent = questioned.sent;
+        socket_failures = questioned.socket_failures;
+        incoming = questioned.incoming;
+      }
+      → ListensIf Shows observable reported questioned new
+      → IsSameNetwork questioned.addresses new.addresses
+      → (observable → new.incoming ≡ questioned.incoming)
+      → new ≡ record questioned {
         addresses = new.addresses;
         sent = new.sent;
         socket_failures = new.socket_failures;
         incoming = new.incoming;
       }
       → HandlesProbes Shows observable asked reported old new
-  acted replies answered_so readmits heard readmitted_so learns known learned_so loopback asks kept still new_so =
+  acted replies answered_so readmits heard readmitted_so learns known learned_so loopback asks kept still asked_so
+      listens held quiet new_so =
       let book : replied.addresses ≡ old.addresses = ap (λ (s : ServerValue R). s.addresses) answered_so in
       let again : learned ≡ record replied { addresses = learned.addresses } = learned_so
       ∙ ap (λ (s : ServerValue R). record s { addresses = learned.addresses }) readmitted_so in
@@ -57,31 +67,51 @@ module _ {R : Type 0} (Shows : R → ProbedState → Type 0) (observable : Type 
         incoming = replied.incoming;
       } =
       again ∙ ap (λ (s : ServerValue R). record s { addresses = learned.addresses }) answered_so in
-      let time : now ≡ old.ticks = loopback ∙ ap (λ (s : ServerValue R). s.ticks) since in
-      let asked_at : AsksOne observable old.ticks learned.node learned.addresses new.addresses
-      (send_state_at learned.loopback learned) (send_state_at new.loopback new) =
-      subst (λ (n : ℕ). AsksOne observable n learned.node learned.addresses new.addresses
+      let time : now ≡ periods old = loopback ∙ ap (λ (s : ServerValue R). periods s) since in
+      let asked_at : AsksOne observable (periods old) learned.node learned.addresses questioned.addresses
+      (send_state_at learned.loopback learned) (send_state_at questioned.loopback questioned) =
+      subst (λ (n : ℕ). AsksOne observable n learned.node learned.addresses questioned.addresses
       (send_state_at learned.loopback learned)
-      (send_state_at new.loopback new)) time asks in
+      (send_state_at questioned.loopback questioned)) time asks in
+      let before : readmitted.node ≡ old.node = ap (λ (s : ServerValue R). s.node) readmitted_so
+      ∙ ap (λ (s : ServerValue R). s.node) answered_so in
+      let then : questioned ≡ record old {
+        addresses = questioned.addresses;
+        sent = questioned.sent;
+        socket_failures = questioned.socket_failures;
+        incoming = questioned.incoming;
+      } =
+      asked_so ∙ ap (λ (s : ServerValue R). record s {
+        addresses = questioned.addresses;
+        sent = questioned.sent;
+        socket_failures = questioned.socket_failures;
+        incoming = questioned.incoming;
+      }) since in
       record {
         replied = replied;
         replies = replies;
         readmitted = readmitted.addresses;
         readmits = subst (λ (b : AddressBook). ReadmitsKept asked b readmitted.addresses) book readmits;
         learned = learned.addresses;
-        learns = learns;
-        asks = subst₂ (λ (n : ℕ) (t : SendState). AsksOne observable old.ticks n learned.addresses new.addresses t
-            (send_state_at new.loopback new)) node tray asked_at;
+        learns = subst (λ (n : ℕ). LearnsKept n reported readmitted.addresses learned.addresses) before learns;
+        questioned = questioned.addresses;
+        between = send_state_at questioned.loopback questioned;
+        asks = subst₂ (λ (n : ℕ) (t : SendState). AsksOne observable (periods old) n learned.addresses
+            questioned.addresses t (send_state_at questioned.loopback questioned)) node tray asked_at;
+        keys = kept.1 ∙ known.1 ∙ heard.1 ∙ ap (λ (b : AddressBook). b.seals) book;
+        listens = subst (λ (s : ServerValue R). ListensFor Shows observable reported s questioned.addresses
+            new.addresses (send_state_at questioned.loopback questioned) (send_state_at new.loopback new) s.pace)
+            then listens;
         network = (
-          kept.0 ∙ known.0 ∙ heard.0 ∙ ap (λ (b : AddressBook). b.hosts) book,
-          kept.1 ∙ known.1 ∙ heard.1 ∙ ap (λ (b : AddressBook). b.seals) book,
+          held.0 ∙ kept.0 ∙ known.0 ∙ heard.0 ∙ ap (λ (b : AddressBook). b.hosts) book,
+          held.1 ∙ kept.1 ∙ known.1 ∙ heard.1 ∙ ap (λ (b : AddressBook). b.seals) book,
         );
-        still = λ t. still t ∙ ap (λ (s : ServerValue R). s.incoming) again
+        still = λ t. quiet t ∙ still t ∙ ap (λ (s : ServerValue R). s.incoming) again
             ∙ answer_still Shows observable asked old replied replies t;
         same = new_so ∙ ap (λ (s : ServerValue R). record s {
           addresses = new.addresses;
           sent = new.sent;
           socket_failures = new.socket_failures;
           incoming = new.incoming;
-        }) since;
+        }) then;
       }

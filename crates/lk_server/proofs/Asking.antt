@@ -15,7 +15,7 @@ use Rattle.lk_transport.specs.ReceiveBuffers.{BufferValue}
 use Rattle.lk_transport.specs.Streams.{listed}
 use Rattle.lk_transport.specs.Inquiring.{IsReportedBy}
 use Rattle.lk_transport.specs.Kept.{BringNothing, BringsFirst, IsFirstOf, KeepsFirst, KeepsFirstOf, KeepsProbes}
-use Rattle.lk_transport.specs.Kept.{KeepsOf}
+use Rattle.lk_transport.specs.Kept.{KeepsOf, OnlyLastBrings}
 use Rattle.lk_transport.specs.Posts.{is_probe_or_report}
 use Rattle.lk_transport.specs.declared.received_probe.ReceivedProbe.{ReceivedProbe}
 
@@ -34,9 +34,9 @@ tells_aside r bytes spelled = ap is_probe_or_report spelled.1
 asks_nothing : (s : Seals) (d : SocketAddr × List ℕ) → is_probe_or_report (heard s d.1) ≡ false → BringsProbe s d None
 asks_nothing s d apart p asks = let both : false ≡ true = sym apart ∙ is_aside p (heard s d.1) asks.spelled in cc both
 
-tells_nothing : (n : ℕ) (s : Seals) (d : SocketAddr × List ℕ) → is_probe_or_report (heard s d.1) ≡ false
-    → IsReportedBy n s d None
-tells_nothing n s d apart r spelled answers =
+tells_nothing : (s : Seals) (d : SocketAddr × List ℕ) → is_probe_or_report (heard s d.1) ≡ false
+    → IsReportedBy s d None
+tells_nothing s d apart sealed r spelled answers =
     let both : false ≡ true = sym apart ∙ tells_aside r (heard s d.1) spelled in cc both
 
 module _ {K : Type 0} (Brings : SocketAddr × List ℕ → Option K → Type 0) where
@@ -97,87 +97,114 @@ module _ {K : Type 0} (Brings : SocketAddr × List ℕ → Option K → Type 0) 
   first_more xs ys None None None one two = none_more xs ys one two
   first_more xs ys None None (Some k) one two = then_first xs ys k one two
 
+  -- where none is kept in the end none was brought
+  brought_none : (xs : List (SocketAddr × List ℕ)) (old mid : Option K) → KeepsFirstOf Brings old xs mid → old ≡ None
+      → mid ≡ None → BringNothing Brings xs
+  brought_none xs (Some k) mid kept was is = absurd (cc was)
+  brought_none xs None (Some k) kept was is = absurd (cc is)
+  brought_none xs None None kept was is = kept
+
+-- none of these but the last brings one
+last_more : (s : Seals) (xs ys : List (SocketAddr × List ℕ)) → BringNothing (BringsProbe s) xs
+    → BringNothing (IsReportedBy s) xs → OnlyLastBrings s ys → OnlyLastBrings s (xs ++ ys)
+last_more s [] ys asks tells last = last
+last_more s (x ∷ []) [] asks tells last = tt
+last_more s (x ∷ []) (y ∷ ys) asks tells last = ((asks.0, tells.0), last)
+last_more s (x ∷ x2 ∷ xs) ys asks tells last =
+    ((asks.0, tells.0), last_more s (x2 ∷ xs) ys asks.1 tells.1 last)
+
 -- ---- what a buffer keeps
 
--- more frames, of the same node by the same seals
-pub keeps_more : (n m : ℕ) (s t : Seals) (xs ys : List (SocketAddr × List ℕ)) (old mid new : BufferValue) → m ≡ n
-    → t ≡ s → KeepsOf n s xs old mid → KeepsOf m t ys mid new → KeepsOf n s (xs ++ ys) old new
-keeps_more n m s t xs ys old mid new node seals one two =
-    let next : KeepsOf n s ys mid new = subst₂ (λ (k : ℕ) (z : Seals). KeepsOf k z ys mid new) node seals two in
+-- more frames, by the same seals
+pub keeps_more : (s t : Seals) (xs ys : List (SocketAddr × List ℕ)) (old mid new : BufferValue)
+    → t ≡ s → KeepsOf s xs old mid → KeepsOf t ys mid new
+    → (old.asked ≡ None → old.reported ≡ None → (mid.asked ≡ None) × (mid.reported ≡ None))
+    → KeepsOf s (xs ++ ys) old new
+keeps_more s t xs ys old mid new seals one two none =
+    let next : KeepsOf s ys mid new = subst (λ (z : Seals). KeepsOf z ys mid new) seals two in
     record {
       asked = first_more (BringsProbe s) xs ys old.asked mid.asked new.asked one.asked next.asked;
-      reported = first_more (IsReportedBy n s) xs ys old.reported mid.reported new.reported one.reported next.reported;
+      reported = first_more (IsReportedBy s) xs ys old.reported mid.reported new.reported one.reported next.reported;
+      last = λ unasked untold.
+          let still = none unasked untold in
+          last_more s xs ys (brought_none (BringsProbe s) xs old.asked mid.asked one.asked unasked still.0)
+          (brought_none (IsReportedBy s) xs old.reported mid.reported one.reported untold still.1)
+          (next.last still.0 still.1);
     }
 
 -- no frame more
-pub keeps_on : (n : ℕ) (s : Seals) (xs : List (SocketAddr × List ℕ)) (old mid new : BufferValue)
-    → KeepsOf n s xs old mid → new.asked ≡ mid.asked → new.reported ≡ mid.reported → KeepsOf n s xs old new
-keeps_on n s xs old mid new kept asked reported = record {
+pub keeps_on : (s : Seals) (xs : List (SocketAddr × List ℕ)) (old mid new : BufferValue)
+    → KeepsOf s xs old mid → new.asked ≡ mid.asked → new.reported ≡ mid.reported → KeepsOf s xs old new
+keeps_on s xs old mid new kept asked reported = record {
   asked = subst (λ (a : Option ReceivedProbe). KeepsFirstOf (BringsProbe s) old.asked xs a) (sym asked) kept.asked;
   reported =
-      subst (λ (r : Option Reported). KeepsFirstOf (IsReportedBy n s) old.reported xs r) (sym reported) kept.reported;
+      subst (λ (r : Option Reported). KeepsFirstOf (IsReportedBy s) old.reported xs r) (sym reported) kept.reported;
+  last = kept.last;
 }
 
 -- as it did
-pub keeps_still : (n : ℕ) (s : Seals) (old new : BufferValue) → new.asked ≡ old.asked
-    → new.reported ≡ old.reported → KeepsOf n s [] old new
-keeps_still n s old new asked reported =
-    keeps_on n s [] old old new
+pub keeps_still : (s : Seals) (old new : BufferValue) → new.asked ≡ old.asked
+    → new.reported ≡ old.reported → KeepsOf s [] old new
+keeps_still s old new asked reported =
+    keeps_on s [] old old new
     (record {
       asked = first_none (BringsProbe s) old.asked;
       reported = first_none
-          (IsReportedBy n s) old.reported;
+          (IsReportedBy s) old.reported;
+      last = λ unasked untold. tt;
     }) asked
     reported
 
 -- of a frame that a replica is given
-pub keeps_given : (n : ℕ) (s : Seals) (d : SocketAddr × List ℕ) (old new : BufferValue)
+pub keeps_given : (s : Seals) (d : SocketAddr × List ℕ) (old new : BufferValue)
     → is_probe_or_report (heard s d.1) ≡ false → new.asked ≡ old.asked → new.reported ≡ old.reported
-    → KeepsOf n s (d ∷ []) old new
-keeps_given n s d old new apart asked reported = keeps_on n s (d ∷ []) old old new (record {
+    → KeepsOf s (d ∷ []) old new
+keeps_given s d old new apart asked reported = keeps_on s (d ∷ []) old old new (record {
   asked = first_apart (BringsProbe s) old.asked d (asks_nothing s d apart);
-  reported = first_apart (IsReportedBy n s) old.reported d (tells_nothing n s d apart);
+  reported = first_apart (IsReportedBy s) old.reported d (tells_nothing s d apart);
+  last = λ unasked untold. tt;
 }) asked reported
 
 -- of one that stands beside the protocol
-pub keeps_beside : (n m : ℕ) (s t : Seals) (d : SocketAddr × List ℕ) (old mid new : BufferValue) → m ≡ n → t ≡ s
-    → mid.asked ≡ old.asked → mid.reported ≡ old.reported → mid.last ≡ Some d → KeepsProbes m t mid new
-    → KeepsOf n s (d ∷ []) old new
-keeps_beside n m s t d old mid new node seals asked reported is keeps =
-    let kept : KeepsProbes n s mid new = subst₂ (λ (k : ℕ) (z : Seals). KeepsProbes k z mid new) node seals keeps in
+pub keeps_beside : (s t : Seals) (d : SocketAddr × List ℕ) (old mid new : BufferValue) → t ≡ s
+    → mid.asked ≡ old.asked → mid.reported ≡ old.reported → mid.last ≡ Some d → KeepsProbes t mid new
+    → KeepsOf s (d ∷ []) old new
+keeps_beside s t d old mid new seals asked reported is keeps =
+    let kept : KeepsProbes s mid new = subst (λ (z : Seals). KeepsProbes z mid new) seals keeps in
     record {
       asked = first_one (BringsProbe s) old.asked new.asked d
           (subst₂ (λ (l : Option (SocketAddr × List ℕ)) (a : Option ReceivedProbe). KeepsFirst
           (BringsProbe s) l a new.asked) is asked kept.asked);
-      reported = first_one (IsReportedBy n s) old.reported new.reported d
+      reported = first_one (IsReportedBy s) old.reported new.reported d
           (subst₂ (λ (l : Option (SocketAddr × List ℕ)) (r : Option Reported). KeepsFirst
-          (IsReportedBy n s) l r new.reported) is reported kept.reported);
+          (IsReportedBy s) l r new.reported) is reported kept.reported);
+      last = λ unasked untold. tt;
     }
 
 -- of one that is neither a probe nor a report
-pub keeps_strange : (n : ℕ) (s : Seals) (d : SocketAddr × List ℕ) (old : BufferValue) → old.last ≡ Some d
-    → is_probe_or_report (heard s d.1) ≡ false → KeepsProbes n s old old
-keeps_strange n s d old is apart = record {
+pub keeps_strange : (s : Seals) (d : SocketAddr × List ℕ) (old : BufferValue) → old.last ≡ Some d
+    → is_probe_or_report (heard s d.1) ≡ false → KeepsProbes s old old
+keeps_strange s d old is apart = record {
   last = refl;
   asked = subst (λ (l : Option (SocketAddr × List ℕ)). KeepsFirst (BringsProbe s) l old.asked old.asked) (sym is)
       (first_still (BringsProbe s) old.asked d (asks_nothing s d apart));
-  reported = subst (λ (l : Option (SocketAddr × List ℕ)). KeepsFirst (IsReportedBy n s) l old.reported old.reported)
-      (sym is) (first_still (IsReportedBy n s) old.reported d (tells_nothing n s d apart));
+  reported = subst (λ (l : Option (SocketAddr × List ℕ)). KeepsFirst (IsReportedBy s) l old.reported old.reported)
+      (sym is) (first_still (IsReportedBy s) old.reported d (tells_nothing s d apart));
 }
 
 -- of what came last, where a replica is given nothing of it
-pub keeps_found : (n m : ℕ) (s t : Seals) (found : TurnInput) (old mid new : BufferValue) → m ≡ n → t ≡ s
+pub keeps_found : (s t : Seals) (found : TurnInput) (old mid new : BufferValue) → t ≡ s
     → mid.asked ≡ old.asked → mid.reported ≡ old.reported → (found ≡ Nothing → mid.last ≡ None)
     → (found ≡ Filtered → (d : SocketAddr × List ℕ) × (mid.last ≡ Some d))
-    → (found ≡ Filtered → KeepsProbes m t mid new)
-    → ((found ≡ Filtered → ⊥) → new ≡ mid) → (found ≡ Something → ⊥) → KeepsOf n s (listed mid.last) old new
-keeps_found n m s t Nothing old mid new node seals asked reported nothing beside kept rest apart =
+    → (found ≡ Filtered → KeepsProbes t mid new)
+    → ((found ≡ Filtered → ⊥) → new ≡ mid) → (found ≡ Something → ⊥) → KeepsOf s (listed mid.last) old new
+keeps_found s t Nothing old mid new seals asked reported nothing beside kept rest apart =
     let same = rest (λ is. cc is) in
-    subst (λ (l : List (SocketAddr × List ℕ)). KeepsOf n s l old new) (sym (ap listed (nothing refl)))
-    (keeps_still n s old new (ap (λ (b : BufferValue). b.asked) same ∙ asked)
+    subst (λ (l : List (SocketAddr × List ℕ)). KeepsOf s l old new) (sym (ap listed (nothing refl)))
+    (keeps_still s old new (ap (λ (b : BufferValue). b.asked) same ∙ asked)
     (ap (λ (b : BufferValue). b.reported) same ∙ reported))
-keeps_found n m s t Filtered old mid new node seals asked reported nothing beside kept rest apart =
+keeps_found s t Filtered old mid new seals asked reported nothing beside kept rest apart =
     let b = beside refl in
-    subst (λ (l : List (SocketAddr × List ℕ)). KeepsOf n s l old new) (sym (ap listed b.1))
-    (keeps_beside n m s t b.0 old mid new node seals asked reported b.1 (kept refl))
-keeps_found n m s t Something old mid new node seals asked reported nothing beside kept rest apart = absurd (apart refl)
+    subst (λ (l : List (SocketAddr × List ℕ)). KeepsOf s l old new) (sym (ap listed b.1))
+    (keeps_beside s t b.0 old mid new seals asked reported b.1 (kept refl))
+keeps_found s t Something old mid new seals asked reported nothing beside kept rest apart = absurd (apart refl)

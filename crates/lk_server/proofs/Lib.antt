@@ -5,5 +5,6 @@ mod Carrying
 mod FilteredOut
 mod Acting
 mod Gatherings
+mod PeriodEnds
 mod Turning
 mod Waiting

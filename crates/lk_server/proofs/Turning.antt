@@ -1,5 +1,6 @@
 -- A turn, by what was taken in it.
-use Rattle.std.proofs.Common.{◌≡◌, ◌≢◌, ◌++◌, ℕ, zero, suc, ◌≤◌, Bool, true, false, List, [], ◌∷◌, length, map, take}
+use Rattle.std.proofs.Common.{◌≡◌, ◌≢◌, ◌++◌, ℕ, zero, suc, ◌≤◌, ◌+◌, ◌%◌, min, Bool, true, false, List, [], ◌∷◌}
+use Rattle.std.proofs.Common.{length, map, take}
 use Rattle.std.proofs.Common.{drop, Option, Some, None, inl, inr, refl, ap, sym, ◌∙◌, subst, subst₂, append-nil}
 use Rattle.std.proofs.Common.{append_assoc, arith}
 use Rattle.std.specs.Prelude.{Result, Ok, Err, OnOk, OnErr}
@@ -10,7 +11,7 @@ use Rattle.lk_transport.specs.Addresses.{AddressBook, Filter, filter_of, IsSameF
 use Rattle.lk_server_replica.specs.Groups.{Sayings, Gatherings, GathersMore, SaysNoMore}
 use Rattle.lk_server.specs.Gatherings.{AreFound, Finds, AddsAll, EndsWithin, AddsLoopback, EndsLoopback}
 use Rattle.lk_server.specs.Gatherings.{AddsHeard, EndsHeard, AddsWaiting, AddsGroup, EndsGroup, DeliversAllLetters}
-use Rattle.lk_server.specs.Gatherings.{SaysNothing}
+use Rattle.lk_server.specs.Gatherings.{ChangesInGroup, SaysNothing}
 use Rattle.lk_pacing.specs.Paces.{MayFollow}
 use Rattle.lk_auth.specs.Seals.{heard}
 use Rattle.lk_transport.specs.Posts.{RecordsSenders, is_filtered_out, all_filtered}
@@ -19,7 +20,7 @@ use Rattle.lk_transport.proofs.Streaming.{receives_frames, come_none, come_first
 use Rattle.lk_server.specs.Servers.{ServerValue, DeliversLetters, DeliversNothing, HasReceived, IsSameServer, Turn}
 use Rattle.lk_server.specs.Servers.{LastTurn}
 use Rattle.lk_server.specs.Servers.{IsIdle, Given, GivenPrefix, LettersFirst, all_inputs, all_ticks, counted}
-use Rattle.lk_server.specs.Servers.{datagrams_in}
+use Rattle.lk_server.specs.Servers.{datagrams_in, one_more, MayWithhold, Withholding}
 use Rattle.lk_server.specs.Servers.{ReceivesGroup, one_more_tick}
 use Rattle.lk_pacing.specs.declared.turn_input.TurnInput.{TurnInput}
 use Rattle.lk_pacing.specs.declared.turn_input.TurnInput.TheVariants.{Nothing, Filtered, Something}
@@ -58,6 +59,63 @@ given_all pace received ds given may = record { whole = given; may = may; front 
 given_none : (pace : Pace) (received : ℕ) (ds : List (List ℕ)) → ds ≡ [] → Given pace received ds (None ∷ [])
 given_none pace received ds none = subst (λ (l : List (List ℕ)). Given pace received l (None ∷ [])) (sym none) refl
 
+-- by the clock no datagram brings a tick
+no_ticks : (pace : Pace) (received ticks : ℕ) (ds : List (List ℕ)) → pace ≡ Clock
+    → all_ticks ticks (all_inputs pace received ds) ≡ ticks
+no_ticks Clock received ticks [] is = refl
+no_ticks Clock received ticks (d ∷ ds) is = no_ticks Clock (one_more received) ticks ds is
+no_ticks Datagrams received ticks ds is = absurd (cc is)
+
+-- ---- ticks that are withheld
+
+-- a server may withhold one where another may that is in the same period
+may_from : {R : Type 0} (old mid : ServerValue R) → mid.pace ≡ old.pace → mid.addresses.deaf ≡ old.addresses.deaf
+    → mid.ticks ≡ old.ticks → mid.withheld ≡ old.withheld → MayWithhold mid → MayWithhold old
+may_from old mid pace deaf ticks withheld m = record {
+  withholds = record { clock = sym pace ∙ m.withholds.clock; deaf = sym deaf ∙ m.withholds.deaf };
+  no_nudge = subst₂ (λ (t w : ℕ). one_more_tick (min (t + w) 18446744073709551615) % 31 ≢ 0) ticks withheld m.no_nudge;
+}
+
+-- none was due
+pub none_withheld : {R : Type 0} (old new : ServerValue R) (ds : List (List ℕ)) → new.withheld ≡ old.withheld
+    → new.ticks ≡ all_ticks old.ticks (all_inputs old.pace old.received ds) → Withholding old new
+none_withheld old new ds withheld ticks =
+    inr (withheld, λ m. ticks ∙ no_ticks old.pace old.received old.ticks ds m.withholds.clock)
+
+-- one was
+one_withheld : {R : Type 0} (old mid new : ServerValue R) (ds : List (List ℕ)) → mid.pace ≡ old.pace
+    → mid.addresses.deaf ≡ old.addresses.deaf → mid.withheld ≡ old.withheld
+    → mid.ticks ≡ all_ticks old.ticks (all_inputs old.pace old.received ds)
+    → new ≡ record mid { withheld = one_more_tick mid.withheld } → MayWithhold mid → Withholding old new
+one_withheld {R} old mid new ds pace deaf withheld ticks same m =
+    let still : mid.ticks ≡ old.ticks =
+    ticks ∙ no_ticks old.pace old.received old.ticks ds (sym pace ∙ m.withholds.clock) in
+    inl (
+      may_from old mid pace deaf still withheld m,
+      ap (λ (s : ServerValue R). s.withheld) same ∙ ap (λ (n : ℕ). one_more_tick n) withheld,
+      ap (λ (s : ServerValue R). s.ticks) same ∙ still,
+    )
+
+-- one that was given had not to be withheld
+one_given : {R : Type 0} (old mid new : ServerValue R) (ds : List (List ℕ)) → mid.pace ≡ old.pace
+    → mid.addresses.deaf ≡ old.addresses.deaf → mid.withheld ≡ old.withheld
+    → mid.ticks ≡ all_ticks old.ticks (all_inputs old.pace old.received ds) → new.withheld ≡ mid.withheld
+    → (MayWithhold mid → ⊥) → Withholding old new
+one_given old mid new ds pace deaf withheld ticks kept none =
+    inr (
+      kept ∙ withheld,
+      λ m. absurd (none (may_from mid old (sym pace) (sym deaf)
+          (sym (ticks ∙ no_ticks old.pace old.received old.ticks ds m.withholds.clock)) (sym withheld) m)),
+    )
+
+-- and further on nothing is withheld
+withholding_on : {R : Type 0} (old mid new : ServerValue R) → new.ticks ≡ mid.ticks → new.withheld ≡ mid.withheld
+    → Withholding old mid → Withholding old new
+withholding_on old mid new ticks withheld w = elim w [
+  | inl one ↦ inl (one.0, withheld ∙ one.1, ticks ∙ one.2)
+  | inr none ↦ inr (withheld ∙ none.0, λ m. ticks ∙ none.1 m)
+]
+
 -- what comes after a first one is something
 pub some_datagrams : (s : Filter) (loopback : List LetterValue) (d : SocketAddr × List ℕ)
     (more : List (SocketAddr × List ℕ)) → loopback ≡ [] → is_filtered_out s d ≡ false
@@ -81,11 +139,19 @@ pub same_by : {R : Type 0} (old new : ServerValue R)
       failed = new.failed;
       received = new.received;
       ticks = new.ticks;
+      withheld = new.withheld;
       loopback = new.loopback;
       addresses = new.addresses;
       incoming = new.incoming;
     } → IsSameServer old new
 same_by old new others = record {
+  cluster = ap (λ (s : ServerValue _). s.cluster) others;
+  node = ap (λ (s : ServerValue _). s.node) others;
+  pace = ap (λ (s : ServerValue _). s.pace) others;
+}
+
+pub same_in_group : {R : Type 0} (old new : ServerValue R) → ChangesInGroup old new → IsSameServer old new
+same_in_group old new others = record {
   cluster = ap (λ (s : ServerValue _). s.cluster) others;
   node = ap (λ (s : ServerValue _). s.node) others;
   pace = ap (λ (s : ServerValue _). s.pace) others;
@@ -287,26 +353,43 @@ module _ {R : Type 0} (S : Sayings R) (G : Gatherings R) (observable : Type 0) w
 
   -- ---- the tick of a turn
 
-  -- none is due: what waits is all
-  pub without_tick : (frames : List (SocketAddr × List ℕ)) (group now : GroupValue) (old new : ServerValue R)
-      → AddsWaiting G observable frames group now old new → AddsGroup G observable frames group now old new
-  without_tick frames group now old new t =
+  -- none is given: what waits is all
+  given_none_more : (frames : List (SocketAddr × List ℕ)) (group now : GroupValue) (old mid new : ServerValue R)
+      → AddsWaiting G observable frames group now old mid → new ≡ record mid { withheld = new.withheld }
+      → Withholding old new → AddsGroup G observable frames group now old new
+  given_none_more frames group now old mid new t same w =
       let ds = datagrams_in (take 64 old.loopback) (all_filtered (filter_of old.addresses) frames) in
       record {
-        received = t.received;
+        received = received_on observable frames old mid new (λ telling. ap (λ (s : ServerValue R). s.incoming) same)
+            t.received;
         given = all_inputs old.pace old.received ds;
         may = given_some old.pace old.received ds t.some;
-        gathers = t.adds.gathers;
-        counted = t.adds.counted;
-        ticks = t.adds.ticks;
-        left = t.left;
-        heard = t.heard;
-        network = t.network;
+        gathers = subst (λ (r : R). GathersMore G (all_inputs old.pace old.received ds) group now old.replica r)
+            (sym (ap (λ (s : ServerValue R). s.replica) same)) t.adds.gathers;
+        counted = ap (λ (s : ServerValue R). s.received) same ∙ t.adds.counted;
+        ticks = ap (λ (s : ServerValue R). s.ticks) same ∙ t.adds.ticks;
+        withholds = w;
+        left = ap (λ (s : ServerValue R). s.loopback) same ∙ t.left;
+        heard = subst (λ (b : AddressBook). RecordsSenders old.cluster
+            (all_filtered (filter_of old.addresses) frames) old.addresses b)
+            (sym (ap (λ (s : ServerValue R). s.addresses) same)) t.heard;
+        network = subst (λ (b : AddressBook). IsSameFilter old.addresses b)
+            (sym (ap (λ (s : ServerValue R). s.addresses) same)) t.network;
       }
+
+  -- none is due
+  pub without_tick : (frames : List (SocketAddr × List ℕ)) (group now : GroupValue) (old new : ServerValue R)
+      → new.withheld ≡ old.withheld → AddsWaiting G observable frames group now old new
+      → AddsGroup G observable frames group now old new
+  without_tick frames group now old new withheld t =
+      given_none_more frames group now old new new t refl
+      (none_withheld old new (datagrams_in (take 64 old.loopback) (all_filtered (filter_of old.addresses) frames))
+      withheld t.adds.ticks)
 
   -- one is, behind what waits
   module _ (frames : List (SocketAddr × List ℕ)) (group one : GroupValue) (old mid new : ServerValue R)
       (clock : old.pace ≡ Clock) (t : AddsWaiting G observable frames group one old mid)
+      (kept : mid.withheld ≡ old.withheld) (none : MayWithhold mid → ⊥)
       (same : new ≡ record mid { replica = new.replica; failed = new.failed; ticks = new.ticks }) where
     abbrev waited : List (List ℕ)
     waited = datagrams_in (take 64 old.loopback) (all_filtered (filter_of old.addresses) frames)
@@ -349,6 +432,8 @@ module _ {R : Type 0} (S : Sayings R) (G : Gatherings R) (observable : Type 0) w
           (ticks first (given ++ all_inputs old.pace old.received waited) (t.adds.gathers first given was));
       counted = ap (λ (s : ServerValue R). s.received) same ∙ t.adds.counted;
       ticks = tick_counted timed;
+      withholds = one_given old mid new waited t.adds.pace (ap (λ (f : Filter). f.deaf) t.network.1) kept t.adds.ticks
+          (ap (λ (s : ServerValue R). s.withheld) same) none;
       left = tick_left;
       heard = tick_heard;
       network = tick_outside;
@@ -373,10 +458,20 @@ module _ {R : Type 0} (S : Sayings R) (G : Gatherings R) (observable : Type 0) w
       network = tick_outside;
     }
 
+  -- where nothing of these frames is taken, one receive is all
+  found_received : (found : TurnInput) (frames : List (SocketAddr × List ℕ)) (old mid : ServerValue R)
+      → old.loopback ≡ [] → Finds observable found frames old mid → HasReceived observable frames old mid
+  found_received found frames old mid loopback f = record {
+    alone = inl loopback;
+    few = found_few (filter_of old.addresses) found frames f.are;
+    waits = λ telling some. absurd (some loopback);
+    comes = λ telling empty. group_of_one frames old.incoming mid.incoming (f.comes telling);
+  }
+
   -- it is alone: a replica is given nothing of what came in these frames
   module _ (found : TurnInput) (frames : List (SocketAddr × List ℕ)) (group one : GroupValue)
       (old mid new : ServerValue R) (loopback : old.loopback ≡ []) (f : Finds observable found frames old mid)
-      (begun : one ≡ group)
+      (begun : one ≡ group) (none : MayWithhold mid → ⊥)
       (same : new ≡ record mid { replica = new.replica; failed = new.failed; ticks = new.ticks }) where
     none_taken : all_filtered (filter_of old.addresses) frames ≡ []
     none_taken = found_none (filter_of old.addresses) found frames f.are
@@ -392,14 +487,9 @@ module _ {R : Type 0} (S : Sayings R) (G : Gatherings R) (observable : Type 0) w
         ∙ ap (λ (o : List LetterValue). datagrams_in o []) (own_is n)
 
     alone_received : HasReceived observable frames old new
-    alone_received = record {
-      alone = inl loopback;
-      few = found_few (filter_of old.addresses) found frames f.are;
-      waits = λ telling some. absurd (some loopback);
-      comes = λ telling empty. subst (λ (s : Stream). ReceivesGroup frames old.incoming s)
-          (sym (ap (λ (s : ServerValue R). s.incoming) same))
-          (group_of_one frames old.incoming mid.incoming (f.comes telling));
-    }
+    alone_received =
+        received_on observable frames old mid new (λ telling. ap (λ (s : ServerValue R). s.incoming) same)
+        (found_received found frames old mid loopback f)
 
     alone_book : new.addresses ≡ old.addresses
     alone_book = ap (λ (s : ServerValue R). s.addresses) same ∙ ap (λ (s : ServerValue R). s.addresses) f.same
@@ -429,6 +519,9 @@ module _ {R : Type 0} (S : Sayings R) (G : Gatherings R) (observable : Type 0) w
       counted = ap (λ (s : ServerValue R). s.received) same ∙ ap (λ (s : ServerValue R). s.received) f.same
           ∙ sym (ap (λ (ds : List (List ℕ)). counted old.received ds) (no_datagrams 64));
       ticks = alone_counted timed;
+      withholds = one_given old mid new [] (ap (λ (s : ServerValue R). s.pace) f.same)
+          (ap (λ (s : ServerValue R). s.addresses.deaf) f.same) (ap (λ (s : ServerValue R). s.withheld) f.same)
+          (ap (λ (s : ServerValue R). s.ticks) f.same) (ap (λ (s : ServerValue R). s.withheld) same) none;
       left = alone_own ∙ sym (ap (λ (o : List LetterValue). drop 64 o) loopback);
       heard = alone_heard;
       network = alone_outside;
@@ -486,9 +579,49 @@ module _ {R : Type 0} (S : Sayings R) (G : Gatherings R) (observable : Type 0) w
         (frames : List (SocketAddr × List ℕ)) × AddsGroup G observable frames group now old new × Keeps frames
 
     -- no tick is due
-    pub untimely_takes : (group one : GroupValue) (old mid : ServerValue R) → HasWaiting group one old mid
-        → HasTaken group one old mid
-    untimely_takes group one old mid t = (t.0, without_tick t.0 group one old mid t.1, t.2)
+    pub untimely_takes : (group one : GroupValue) (old mid : ServerValue R) → mid.withheld ≡ old.withheld
+        → HasWaiting group one old mid → HasTaken group one old mid
+    untimely_takes group one old mid withheld t = (t.0, without_tick t.0 group one old mid withheld t.1, t.2)
+
+    -- one is, and is withheld
+    pub withheld_takes : (group one : GroupValue) (old mid new : ServerValue R) → mid.withheld ≡ old.withheld
+        → new ≡ record mid { withheld = one_more_tick mid.withheld } → MayWithhold mid
+        → HasWaiting group one old mid → HasTaken group one old new
+    withheld_takes group one old mid new withheld same m t = (
+      t.0,
+      given_none_more t.0 group one old mid new t.1
+          (subst (λ (n : ℕ). new ≡ record mid { withheld = n })
+          (sym (ap (λ (s : ServerValue R). s.withheld) same)) same)
+          (one_withheld old mid new
+          (datagrams_in (take 64 old.loopback) (all_filtered (filter_of old.addresses) t.0)) t.1.adds.pace
+          (ap (λ (f : Filter). f.deaf) t.1.network.1) withheld t.1.adds.ticks same m),
+      t.2,
+    )
+
+    -- the same where nothing of it was taken
+    pub withheld_rests : (found : TurnInput) (group one : GroupValue) (old mid new : ServerValue R)
+        → new ≡ record mid { withheld = one_more_tick mid.withheld } → MayWithhold mid
+        → HasFound found group one old mid
+        → (frames : List (SocketAddr × List ℕ)) × HasReceived observable frames old new
+        × IsIdle observable frames old new × Keeps frames
+    withheld_rests found group one old mid new same m n = (
+      n.1,
+      received_on observable n.1 old mid new (λ telling. ap (λ (s : ServerValue R). s.incoming) same)
+          (found_received found n.1 old mid n.0 n.2),
+      record {
+        loopback = n.0;
+        none = found_none (filter_of old.addresses) found n.1 n.2.are;
+        clock = λ empty. sym (ap (λ (s : ServerValue R). s.pace) n.2.same) ∙ m.withholds.clock;
+        comes = λ telling. subst (λ (s : Stream). ReceivesOne n.1 old.incoming s)
+            (sym (ap (λ (s : ServerValue R). s.incoming) same)) (n.2.comes telling);
+        withholds = one_withheld old mid new [] (ap (λ (s : ServerValue R). s.pace) n.2.same)
+            (ap (λ (s : ServerValue R). s.addresses.deaf) n.2.same) (ap (λ (s : ServerValue R). s.withheld) n.2.same)
+            (ap (λ (s : ServerValue R). s.ticks) n.2.same) same m;
+        same = ap (λ (s : ServerValue R). record s { incoming = old.incoming; withheld = old.withheld }) same
+            ∙ ap (λ (s : ServerValue R). record s { withheld = old.withheld }) n.2.same;
+      },
+      n.4,
+    )
 
     pub untimely_rests : (found : TurnInput) (due : Bool) (group one : GroupValue) (old mid : ServerValue R)
         → mid.pace ≡ old.pace → due ≡ false → (mid.pace ≡ Datagrams → found ≡ Nothing → due ≡ true)
@@ -497,21 +630,24 @@ module _ {R : Type 0} (S : Sayings R) (G : Gatherings R) (observable : Type 0) w
         × IsIdle observable frames old mid × Keeps frames
     untimely_rests found due group one old mid pace isnt nothing n = (
       n.1,
-      alone_received found n.1 group one old mid mid n.0 n.2 n.3 refl,
+      found_received found n.1 old mid n.0 n.2,
       record {
         loopback = n.0;
         none = found_none (filter_of old.addresses) found n.1 n.2.are;
         clock =
             λ empty. sym pace ∙ by_clock (filter_of old.addresses) mid.pace found n.1 due isnt nothing n.2.are empty;
         comes = n.2.comes;
-        same = n.2.same;
+        withholds = none_withheld old mid [] (ap (λ (s : ServerValue R). s.withheld) n.2.same)
+            (ap (λ (s : ServerValue R). s.ticks) n.2.same);
+        same = ap (λ (s : ServerValue R). record s { withheld = old.withheld }) n.2.same;
       },
       n.4,
     )
 
     -- one is
     module _ (due : Bool) (group one : GroupValue) (old mid new : ServerValue R) (pace : mid.pace ≡ old.pace)
-        (is_so : due ≡ true) (same : new ≡ record mid { replica = new.replica; failed = new.failed; ticks = new.ticks })
+        (is_so : due ≡ true) (kept : mid.withheld ≡ old.withheld) (unheld : MayWithhold mid → ⊥)
+        (same : new ≡ record mid { replica = new.replica; failed = new.failed; ticks = new.ticks })
         (timed : new.ticks ≡ one_more_tick mid.ticks) where
       pub tick_turn : (found : TurnInput) (now : GroupValue) → (found ≡ Something → HasWaiting group one old mid)
           → ((found ≡ Something → ⊥) → HasFound found group one old mid)
@@ -521,13 +657,13 @@ module _ {R : Type 0} (S : Sayings R) (G : Gatherings R) (observable : Type 0) w
           let t = adds refl in (
             t.0,
             tick_behind t.0 group one old mid new
-                (sym pace ∙ clock_of mid.pace due is_so (λ is. given is refl)) t.1 same now timed ticks,
+                (sym pace ∙ clock_of mid.pace due is_so (λ is. given is refl)) t.1 kept unheld same now timed ticks,
             t.2,
           )
       tick_turn Nothing now adds none given ticks = let n = none (λ is. cc is) in
-          (n.1, tick_alone Nothing n.1 group one old mid new n.0 n.2 n.3 same now timed ticks, n.4)
+          (n.1, tick_alone Nothing n.1 group one old mid new n.0 n.2 n.3 unheld same now timed ticks, n.4)
       tick_turn Filtered now adds none given ticks = let n = none (λ is. cc is) in
-          (n.1, tick_alone Filtered n.1 group one old mid new n.0 n.2 n.3 same now timed ticks, n.4)
+          (n.1, tick_alone Filtered n.1 group one old mid new n.0 n.2 n.3 unheld same now timed ticks, n.4)
 
       pub tick_turn_ends : (found : TurnInput) → (found ≡ Something → HasWaiting group one old mid)
           → ((found ≡ Something → ⊥) → HasFound found group one old mid)
@@ -538,12 +674,12 @@ module _ {R : Type 0} (S : Sayings R) (G : Gatherings R) (observable : Type 0) w
           let t = adds refl in (
             t.0,
             tick_ends_behind t.0 group one old mid new
-                (sym pace ∙ clock_of mid.pace due is_so (λ is. given is refl)) t.1 same timed silent,
+                (sym pace ∙ clock_of mid.pace due is_so (λ is. given is refl)) t.1 kept unheld same timed silent,
           )
       tick_turn_ends Nothing adds none given silent = let n = none (λ is. cc is) in
-          (n.1, tick_ends_alone Nothing n.1 group one old mid new n.0 n.2 n.3 same timed silent)
+          (n.1, tick_ends_alone Nothing n.1 group one old mid new n.0 n.2 n.3 unheld same timed silent)
       tick_turn_ends Filtered adds none given silent = let n = none (λ is. cc is) in
-          (n.1, tick_ends_alone Filtered n.1 group one old mid new n.0 n.2 n.3 same timed silent)
+          (n.1, tick_ends_alone Filtered n.1 group one old mid new n.0 n.2 n.3 unheld same timed silent)
 
   -- ---- what is handed on
 
@@ -570,22 +706,24 @@ module _ {R : Type 0} (S : Sayings R) (G : Gatherings R) (observable : Type 0) w
       → DeliversAllLetters S G observable now mid new
       → mid.sent ≡ old.sent → mid.socket_failures ≡ old.socket_failures → IsSameServer old mid
       → new.addresses ≡ mid.addresses → new.received ≡ mid.received → new.ticks ≡ mid.ticks
-      → IsSameServer mid new → new.failed ≡ false
+      → new.withheld ≡ mid.withheld → IsSameServer mid new → new.failed ≡ false
       → Turn S observable (all_filtered (filter_of old.addresses) frames) old new
-  turn_of frames group now old mid new begins t hands sent failures first book received untimed then lives = record {
-    letters_first = received_first observable frames old mid t.received;
-    given = t.given;
-    may = t.may;
-    hands_on = subst (λ (loopback : List LetterValue). DeliversLetters S observable t.given loopback old new)
-        t.left
-        (hands old t.given (t.gathers old.replica [] begins) (sym sent) (sym failures));
-    counted = received ∙ t.counted;
-    ticks = untimed ∙ t.ticks;
-    heard = subst (λ (b : AddressBook). RecordsSenders old.cluster
-        (all_filtered (filter_of old.addresses) frames) old.addresses b) (sym book) t.heard;
-    same = same_further old mid new first.cluster first.node first.pace then;
-    alive = lives;
-  }
+  turn_of frames group now old mid new begins t hands sent failures first book received untimed unheld then
+      lives = record {
+        letters_first = received_first observable frames old mid t.received;
+        given = t.given;
+        may = t.may;
+        hands_on = subst (λ (loopback : List LetterValue). DeliversLetters S observable t.given loopback old new)
+            t.left
+            (hands old t.given (t.gathers old.replica [] begins) (sym sent) (sym failures));
+        counted = received ∙ t.counted;
+        ticks = untimed ∙ t.ticks;
+        withholds = withholding_on old mid new untimed unheld t.withholds;
+        heard = subst (λ (b : AddressBook). RecordsSenders old.cluster
+            (all_filtered (filter_of old.addresses) frames) old.addresses b) (sym book) t.heard;
+        same = same_further old mid new first.cluster first.node first.pace then;
+        alive = lives;
+      }
 
   -- the end of the group has ended it
   pub last_of : (frames : List (SocketAddr × List ℕ)) (group now : GroupValue) (old mid new : ServerValue R)

@@ -9,10 +9,10 @@ use Rattle.lk_transport.specs.Addresses.{Filter, filter_of, IsSameFilter}
 use Rattle.lk_transport.specs.Posts.{RecordsSenders, is_filtered_out, all_filtered}
 use Rattle.lk_transport.specs.Streams.{ReceivesOne, ComeWithin}
 use Rattle.lk_server.specs.Servers.{ServerValue, all_inputs, all_ticks, counted, datagrams_in, Given, GivenPrefix}
-use Rattle.lk_server.specs.Servers.{HasReceived, IsPrefix, TakesLetters, DeliversLetters}
+use Rattle.lk_server.specs.Servers.{HasReceived, IsPrefix, TakesLetters, DeliversLetters, Withholding}
 
 -- a replica is given nothing of these frames: there is none, or one, which is a probe or a report, or came from a node
--- of another genesis
+-- of another genesis, or is a request while the server is deaf
 abbrev pub AreFound : Filter → TurnInput → List (SocketAddr × List ℕ) → Type 0
 AreFound s Nothing frames = frames ≡ []
 AreFound s Filtered frames = (frame : SocketAddr × List ℕ) × (frames ≡ frame ∷ []) × (is_filtered_out s frame ≡ true)
@@ -76,6 +76,19 @@ ChangesInGroup old new =
       incoming = new.incoming;
     }
 
+abbrev pub ChangesInTurn : {R : Type 0} → ServerValue R → ServerValue R → Type 0
+ChangesInTurn old new =
+    new ≡ record old {
+      replica = new.replica;
+      failed = new.failed;
+      received = new.received;
+      ticks = new.ticks;
+      withheld = new.withheld;
+      loopback = new.loopback;
+      addresses = new.addresses;
+      incoming = new.incoming;
+    }
+
 module _ {R : Type 0} (Gathers : Gatherings R) where
   -- these datagrams were taken into the group one after another, each counted, and where ticks go by datagrams a tick
   -- after every 64th, which is counted too
@@ -114,7 +127,7 @@ module _ {R : Type 0} (Gathers : Gatherings R) where
     pub heard : RecordsSenders old.cluster (all_filtered (filter_of old.addresses) frames) old.addresses new.addresses
     pub network : IsSameFilter old.addresses new.addresses
 
-  -- what is taken in a turn: what waits, and a tick where one is due
+  -- what is taken in a turn: what waits, and a tick where one is due and not withheld
   pub record AddsGroup (observable : Type 0) (frames : List (SocketAddr × List ℕ)) (group now : GroupValue)
       (old new : ServerValue R) : Type 0 where
     pub received : HasReceived observable frames old new
@@ -125,6 +138,7 @@ module _ {R : Type 0} (Gathers : Gatherings R) where
     pub counted : new.received
         ≡ counted old.received (datagrams_in (take 64 old.loopback) (all_filtered (filter_of old.addresses) frames))
     pub ticks : new.ticks ≡ all_ticks old.ticks given
+    pub withholds : Withholding old new
     pub left : new.loopback ≡ drop 64 old.loopback
     pub heard : RecordsSenders old.cluster (all_filtered (filter_of old.addresses) frames) old.addresses new.addresses
     pub network : IsSameFilter old.addresses new.addresses

@@ -5,11 +5,32 @@ use Rattle.lk_transport.specs.Addresses.{AddressBook, IsSameNetwork}
 use Rattle.lk_transport.specs.Inquiring.{AsksOne, LearnsKept, ReadmitsKept}
 use Rattle.lk_transport.specs.declared.received_probe.ReceivedProbe.{ReceivedProbe}
 use Rattle.lk_server.specs.Probes.{RepliesToKept}
-use Rattle.lk_server.specs.Servers.{ServerValue, send_state_at}
+use Rattle.lk_server.specs.Servers.{ServerValue, periods, send_state_at}
+use Rattle.lk_pacing.specs.declared.pace.Pace.{Pace}
+use Rattle.lk_pacing.specs.declared.pace.Pace.TheVariants.{Datagrams, Clock}
+use Rattle.lk_transport.specs.Listening.{Listens}
+use Rattle.lk_transport.specs.Posts.{SendState}
 use Rattle.lk_server_replica.specs.declared.probed_state.ProbedState.{ProbedState}
 
+-- where ticks go by the clock: the report that was kept counts as a reply, the members that the replica shows are
+-- probed if that is due, and then the server is deaf exactly if it does not hear a majority of them; by datagrams
+-- nothing happens
+abbrev pub ListensFor : {R : Type 0} (Shows : R → ProbedState → Type 0) (observable : Type 0)
+    (reported : Option Reported) (old : ServerValue R) → AddressBook → AddressBook → SendState → SendState → Pace
+    → Type 0
+ListensFor Shows observable reported old book new before after Datagrams = (new ≡ book) × (after ≡ before)
+ListensFor Shows observable reported old book new before after Clock =
+    (shown : ProbedState) × Shows old.replica shown
+    × Listens observable old.node (periods old) reported shown.members book new before after
+
+abbrev pub ListensIf : {R : Type 0} (Shows : R → ProbedState → Type 0) (observable : Type 0)
+    (reported : Option Reported) → ServerValue R → ServerValue R → Type 0
+ListensIf Shows observable reported old new =
+    ListensFor Shows observable reported old old.addresses new.addresses (send_state_at old.loopback old)
+    (send_state_at new.loopback new) old.pace
+
 -- the probe that was kept is answered, and a node of the same genesis that asks by it is heard again; what the report
--- tells that was kept is learned; and then one question is sent where one is due at the server's count of ticks.
+-- tells that was kept is learned; then one question is sent where one is due in this period; and last it listens.
 -- Nothing else is sent, and nothing else changes; nor does what is to come, if the socket tells that. `Shows` is what a
 -- replica shows
 pub record HandlesProbes {R : Type 0} (Shows : R → ProbedState → Type 0) (observable : Type 0)
@@ -19,9 +40,14 @@ pub record HandlesProbes {R : Type 0} (Shows : R → ProbedState → Type 0) (ob
   pub readmitted : AddressBook
   pub readmits : ReadmitsKept asked old.addresses readmitted
   pub learned : AddressBook
-  pub learns : LearnsKept reported readmitted learned
-  pub asks : AsksOne observable old.ticks old.node learned new.addresses
-      (send_state_at replied.loopback replied) (send_state_at new.loopback new)
+  pub learns : LearnsKept old.node reported readmitted learned
+  pub questioned : AddressBook
+  pub between : SendState
+  pub asks : AsksOne observable (periods old) old.node learned questioned
+      (send_state_at replied.loopback replied) between
+  pub keys : questioned.seals ≡ old.addresses.seals
+  pub listens : ListensFor Shows observable reported old questioned new.addresses between
+      (send_state_at new.loopback new) old.pace
   pub network : IsSameNetwork old.addresses new.addresses
   pub still : observable → new.incoming ≡ old.incoming
   pub same : new ≡ record old {

@@ -1,17 +1,19 @@
 -- The report of a node, and how a server answers a probe with it.
-use Rattle.std.specs.Prelude.{◌≡◌, ℕ, List, Option, Some, None}
+use Rattle.std.specs.Prelude.{◌≡◌, ℕ, Bool, List, Option, Some, None, if◌then◌else◌}
 use Rattle.lk_probe.specs.Grammar.{SpellsReport, IsReportFor}
 use Rattle.lk_probe.specs.declared.probe.Probe.{Probe}
 use Rattle.lk_probe.specs.declared.probe.Report.{Report}
+use Rattle.lk_probe.specs.declared.reach.Reach.{Reach}
 use Rattle.lk_probe.specs.declared.status.Status.{Status}
-use Rattle.lk_server.specs.Servers.{ServerValue, send_state_at}
+use Rattle.lk_server.specs.Servers.{ServerValue, heard_by, periods, send_state_at}
 use Rattle.lk_transport.specs.declared.received_probe.ReceivedProbe.{ReceivedProbe}
 use Rattle.lk_server_replica.specs.declared.probed_state.ProbedState.{ProbedState}
-use Rattle.lk_transport.specs.Askers.{Replies}
+use Rattle.std.specs.declared.net.socket_addr.SocketAddr.{SocketAddr}
+use Rattle.lk_transport.specs.Askers.{IsReplyAddress, Replies}
 
 -- ---- what a node tells
 
--- a status tells what a replica shows, the digest of the genesis, and that count of ticks. The rest the server has
+-- a status tells what a replica shows, the digest of the genesis, and that count of periods. The rest the server has
 -- counted
 pub record ReportsStatus (digest : List ℕ) (count : ℕ) (shown : ProbedState) (s : Status) : Type 0 where
   pub genesis : s.identity.genesis ≡ digest
@@ -24,25 +26,38 @@ pub record ReportsStatus (digest : List ℕ) (count : ℕ) (shown : ProbedState)
 
 -- ---- how it answers
 
--- these bytes are a report of that node that answers the probe, and tells what the replica shows and that count of
--- ticks. By the laws of lk_probe it is as long as the probe
-pub record IsReportTo (node : ℕ) (genesis : List ℕ) (count : ℕ) (shown : ProbedState) (p : Probe)
+-- a report has a reach exactly if the probe asks for one, and it tells this count of members that are heard
+pub record ReportsReach (asks : Bool) (heard : Option ℕ) (reach : Option Reach) : Type 0 where
+  pub told : Reach
+  pub count : told.heard ≡ heard
+  pub is : reach ≡ (if asks then Some told else None)
+
+-- these bytes are a report of that node that answers the probe in its form, and tells what the replica shows, that
+-- count of ticks, and this count of members that are heard. By the laws of lk_probe it is as long as the probe
+pub record IsReportTo (node : ℕ) (genesis : List ℕ) (count : ℕ) (heard : Option ℕ) (shown : ProbedState) (p : Probe)
     (bytes : List ℕ) : Type 0 where
   pub report : Report
   pub spelled : SpellsReport report bytes
   pub is_for : IsReportFor p report
   pub node_told : report.node ≡ node
   pub told : ReportsStatus genesis count shown report.status
+  pub reached : ReportsReach p.asks_reach heard report.reach
 
--- the probe was answered, by the server's own count of ticks, and nothing else is sent or changed; nor is what is to
--- come, if the socket tells that. `Shows` is what a replica shows
+-- the probe was answered, by the server's own count of periods and with whom it hears in this one, where a member gets
+-- its letters, or else where the probe came from; nothing else is sent or changed, nor is what is to come, if the
+-- socket tells that. `Shows` is what a replica shows
 pub record RepliesToProbe {R : Type 0} (Shows : R → ProbedState → Type 0) (observable : Type 0) (a : ReceivedProbe)
     (old new : ServerValue R) : Type 0 where
   pub shown : ProbedState
   pub shows : Shows old.replica shown
   pub bytes : List ℕ
-  pub reports : IsReportTo old.node old.addresses.seals.genesis old.ticks shown a.probe bytes
-  pub replies : Replies observable old.addresses.seals a bytes (send_state_at old.loopback old)
+  pub reports : IsReportTo old.node old.addresses.seals.genesis (periods old) (heard_by shown.members old) shown a.probe
+      bytes
+  pub located : ProbedState
+  pub locates : Shows old.replica located
+  pub address : SocketAddr
+  pub is_there : IsReplyAddress old.addresses located.members a address
+  pub replies : Replies observable old.addresses.seals a address bytes (send_state_at old.loopback old)
       (send_state_at new.loopback new)
   pub still : observable → new.incoming ≡ old.incoming
   pub same : new ≡ record old { sent = new.sent; socket_failures = new.socket_failures; incoming = new.incoming }

@@ -1,12 +1,17 @@
 -- The input that a server gives to its replica, and the fate of the letters.
-use Rattle.std.specs.Prelude.{◌≡◌, ◌≢◌, ◌⊎◌, ◌≤◌, Bool, true, false, ◌+◌, ◌*◌, ◌%◌, ◌^◌, ℕ, List, [], ◌∷◌, ◌++◌}
-use Rattle.std.specs.Prelude.{length, map, min, take, drop, Option, Some, None, if◌then◌else◌}
+use Rattle.std.specs.Prelude.{◌≡◌, ◌≢◌, ◌⊎◌, ◌↔◌, ◌≤◌, Bool, true, false, ◌+◌, ◌*◌, ◌%◌, ◌^◌, ℕ, List, [], ◌∷◌, ◌++◌}
+use Rattle.std.specs.Prelude.{IsTrue, length, map, min, take, drop, Option, Some, None, if◌then◌else◌}
 use Rattle.std.specs.declared.net.socket_addr.SocketAddr.{SocketAddr}
 use Rattle.lk_types.specs.Ranges.{IsClient}
+use Rattle.lk_types.specs.declared.member.Member.{Member}
 use Rattle.lk_node_interface.specs.Letters.{LetterValue}
+use Rattle.lk_node_interface.specs.declared.input.Input.{Input}
+use Rattle.lk_node_interface.specs.declared.input.Input.TheVariants.{Tick, Nudge, Datagram}
+use Rattle.lk_replica.specs.Groups.{GroupValue}
 use Rattle.lk_replica.specs.Posts.{CarriesAll}
 use Rattle.lk_transport.specs.Addresses.{AddressBook, filter_of, client_at, node_at}
-use Rattle.lk_pacing.specs.Paces.{ticks_after, MayFollow}
+use Rattle.lk_hearing.specs.Probes.{count_heard, nothing_sent}
+use Rattle.lk_pacing.specs.Paces.{is_clock, ticks_after, MayFollow}
 use Rattle.lk_transport.specs.Posts.{RecordsSenders, SendState, Becomes, all_filtered}
 use Rattle.lk_transport.specs.Streams.{Stream, Receives, ReceivesOne, ComeWithin, frames_in}
 use Rattle.lk_transport.specs.declared.network.Network.{Network}
@@ -24,9 +29,10 @@ pub record ServerValue (R : Type 0) : Type 0 where
   pub loopback : List LetterValue
   -- from where others wrote, the hosts, the keys, and which genesis is known at which address
   pub addresses : AddressBook
-  -- how many datagrams came, and how many ticks its replica was given
+  -- how many datagrams came, how many ticks its replica was given, and how many were withheld
   pub received : ℕ
   pub ticks : ℕ
+  pub withheld : ℕ
   -- whether a call has ended the replica
   pub failed : Bool
   -- what its socket has sent, and how many of its sends failed
@@ -43,11 +49,15 @@ pub record IsConfiguredAs {R : Type 0} (c n : ℕ) (p : Pace) (known : Network) 
   pub hosts : s.addresses.hosts ≡ known.hosts
   pub seals : s.addresses.seals ≡ known.seals
 
--- nobody has written to it yet, not even itself, and it has counted no tick
+-- nobody has written to it yet, not even itself, it has counted no tick and probed nobody, and is deaf if its ticks go
+-- by the clock
 pub record HasHeardNobody {R : Type 0} (s : ServerValue R) : Type 0 where
   pub loopback : s.loopback ≡ []
   pub received : s.received ≡ 0
   pub ticks : s.ticks ≡ 0
+  pub withheld : s.withheld ≡ 0
+  pub hearing : s.addresses.hearing ≡ nothing_sent
+  pub deaf : s.addresses.deaf ≡ is_clock s.pace
   pub clients : (c : ℕ) → IsClient c → client_at s.addresses c ≡ None
   pub nodes : (n : ℕ) → node_at s.addresses n ≡ None
 
@@ -96,6 +106,44 @@ ticks_behind ticks (Some bytes) = ticks
 abbrev pub all_ticks : ℕ → List (Option (List ℕ)) → ℕ
 all_ticks ticks [] = ticks
 all_ticks ticks (one ∷ more) = all_ticks (ticks_behind ticks one) more
+
+-- how many periods have ended, which no count of 64 bits exceeds: each ended with a tick, given or withheld
+abbrev pub periods : {R : Type 0} → ServerValue R → ℕ
+periods s = min (s.ticks + s.withheld) 18446744073709551615
+
+-- how many of these members it hears in this period, itself included; nothing where ticks go by datagrams
+abbrev pub heard_by : {R : Type 0} → List Member → ServerValue R → Option ℕ
+heard_by ms s =
+    if is_clock s.pace then Some (count_heard s.node (periods s) s.addresses.hearing.asked ms) else None
+
+-- it withholds ticks: they go by the clock, and it is deaf
+pub record WithholdsTicks {R : Type 0} (s : ServerValue R) : Type 0 where
+  pub clock : s.pace ≡ Clock
+  pub deaf : s.addresses.deaf ≡ true
+
+-- it may withhold what ends this period: it withholds ticks, and the period is no 31st, which ends with a nudge
+pub record MayWithhold {R : Type 0} (s : ServerValue R) : Type 0 where
+  pub withholds : WithholdsTicks s
+  pub no_nudge : one_more_tick (periods s) % 31 ≢ 0
+
+-- what ends the period that was just counted: in each 31st a nudge that says whether ticks are withheld, else a tick
+abbrev pub EndsPeriod : {R : Type 0} → ServerValue R → Input → Type 0
+EndsPeriod s Tick = periods s % 31 ≢ 0
+EndsPeriod s (Nudge withheld) = (periods s % 31 ≡ 0) × (IsTrue withheld ↔ WithholdsTicks s)
+EndsPeriod s (Datagram bytes) = ⊥
+
+-- a period is counted, and the replica has taken what ends it, as its `gather` takes it
+pub record TakesPeriodEnd {R : Type 0} (Takes : R → GroupValue → Input → R → GroupValue → Type 0)
+    (group now : GroupValue) (old new : ServerValue R) : Type 0 where
+  pub input : Input
+  pub ends : EndsPeriod (record old { ticks = one_more_tick old.ticks }) input
+  pub takes : Takes old.replica group input new.replica now
+
+-- between these states one tick was withheld, or none was, and none was given that had to be withheld
+abbrev pub Withholding : {R : Type 0} → ServerValue R → ServerValue R → Type 0
+Withholding old new =
+    (MayWithhold old × (new.withheld ≡ one_more_tick old.withheld) × (new.ticks ≡ old.ticks))
+    ⊎ ((new.withheld ≡ old.withheld) × (MayWithhold old → new.ticks ≡ old.ticks))
 
 -- a replica may be given this in a turn: these datagrams, one after another, and ticks as they may follow; where there
 -- are none a tick
@@ -185,6 +233,12 @@ pub record TakesLetters (count : ℕ) (loopback : List LetterValue) : Type 0 whe
   pub at_most : count ≤ 64
   pub some : count ≡ 0 → loopback ≡ []
 
+-- it has counted no datagram and no tick, given or withheld
+pub record KeepsCounts {R : Type 0} (old new : ServerValue R) : Type 0 where
+  pub received : new.received ≡ old.received
+  pub ticks : new.ticks ≡ old.ticks
+  pub withheld : new.withheld ≡ old.withheld
+
 -- it is the server of the same node, and its ticks go by the same
 pub record IsSameServer {R : Type 0} (old new : ServerValue R) : Type 0 where
   pub cluster : new.cluster ≡ old.cluster
@@ -192,8 +246,8 @@ pub record IsSameServer {R : Type 0} (old new : ServerValue R) : Type 0 where
   pub pace : new.pace ≡ old.pace
 
 -- Where letters of the node to itself wait, it takes the first 64 of them, in order, and nothing of the socket; else
--- what came. Its replica was given just that as one group, and a tick where one was due, and each tick was counted;
--- whoever sent what came was heard, and it goes on
+-- what came. Its replica was given just that as one group, and a tick where one was due and not withheld, and each tick
+-- was counted; whoever sent what came was heard, and it goes on
 pub record Turn {R : Type 0} (Says : R → List (Option (List ℕ)) → List LetterValue → R → Type 0) (observable : Type 0)
     (came : List (SocketAddr × List ℕ)) (old new : ServerValue R) : Type 0 where
   pub letters_first : LettersFirst observable came old
@@ -202,6 +256,7 @@ pub record Turn {R : Type 0} (Says : R → List (Option (List ℕ)) → List Let
   pub hands_on : DeliversLetters Says observable given (drop 64 old.loopback) old new
   pub counted : new.received ≡ counted old.received (datagrams_in (take 64 old.loopback) came)
   pub ticks : new.ticks ≡ all_ticks old.ticks given
+  pub withholds : Withholding old new
   pub heard : RecordsSenders old.cluster came old.addresses new.addresses
   pub same : IsSameServer old new
   pub alive : new.failed ≡ false
@@ -224,15 +279,17 @@ pub record LastTurn {R : Type 0} (Says : R → List (Option (List ℕ)) → List
   pub ended : new.failed ≡ true
 
 -- An idle turn: no letter of the node to itself waited, one receive found these frames, one or none, which say nothing
--- to the replica. It was given nothing, nothing was sent, and nothing is changed but what is to come: that is now what
--- follows that receive. By datagrams a turn in which no frame comes is never idle: it is a tick
+-- to the replica. It was given nothing, nothing was sent, and nothing is changed but what is to come, which is now what
+-- follows that receive, and the count of ticks that were withheld. By datagrams a turn in which no frame comes is never
+-- idle: it is a tick
 pub record IsIdle {R : Type 0} (observable : Type 0) (frames : List (SocketAddr × List ℕ))
     (old new : ServerValue R) : Type 0 where
   pub loopback : old.loopback ≡ []
   pub none : all_filtered (filter_of old.addresses) frames ≡ []
   pub clock : frames ≡ [] → old.pace ≡ Clock
   pub comes : observable → ReceivesOne frames old.incoming new.incoming
-  pub same : record new { incoming = old.incoming } ≡ old
+  pub withholds : Withholding old new
+  pub same : record new { incoming = old.incoming; withheld = old.withheld } ≡ old
 
 -- a turn in which these frames came: its replica was given what was taken of them, or what waited, or a tick; or the
 -- turn is idle

@@ -5,15 +5,17 @@
 //! `add_datagram` counts a datagram, and `add_input` gives it to the replica.
 
 ghost use Rattle.std.specs.Prelude.{◌≡◌, ℕ, List, ◌∷◌, [], Some, None, true, false, OnOk, OnErr, IfOk, IfSome, IsNone};
+ghost use Rattle.std.specs.Prelude.{◌↔◌, IsTrue};
 ghost use Rattle.std.specs.declared.net.socket_addr.SocketAddr.{SocketAddr as Address};
 ghost use Rattle.lk_node_interface.specs.Letters.{LetterValue};
 ghost use Rattle.lk_node.specs.Calls.{heard_by};
 ghost use Rattle.lk_server_replica.specs.Groups.{GathersMore, SaysNoMore};
 ghost use Rattle.lk_server.specs.Gatherings.{Finds, AddsAll, EndsWithin, AddsLoopback, EndsLoopback, AddsWaiting};
-ghost use Rattle.lk_server.specs.Gatherings.{AddsGroup};
+ghost use Rattle.lk_server.specs.Gatherings.{AddsGroup, ChangesInTurn};
 ghost use Rattle.lk_server.specs.Gatherings.{EndsGroup, ChangesAtDatagram, ChangesAtLetter, ChangesInGroup};
 ghost use Rattle.lk_transport.specs.Kept.{KeepsOf};
-ghost use Rattle.lk_server.specs.Servers.{HasReceived, IsIdle, one_more_tick};
+ghost use Rattle.lk_server.specs.Servers.{EndsPeriod, HasReceived, IsIdle, MayWithhold, TakesPeriodEnd};
+ghost use Rattle.lk_server.specs.Servers.{WithholdsTicks, one_more_tick};
 
 use crate::group_fault::GroupFault;
 use crate::server::Server;
@@ -28,12 +30,13 @@ use lk_transport::receive_buffer::ReceiveBuffer;
 use lk_transport::socket::DatagramSocket;
 use lk_wire::Datagram;
 use log::Log;
-use std::time::{Clock, Duration};
+use std::time::Clock;
 
 // A group has at most this many datagrams after its first.
 pub(crate) const FURTHER: u64 = 63;
 
-// Of so many ticks the last is a nudge. The number is prime, so that no duel of candidates keeps in step with it.
+// Of so many periods the last ends with a nudge. The number is prime, so that no duel of candidates keeps in step with
+// it.
 const TICKS_A_NUDGE: u64 = 31;
 
 impl<R: ServerReplica, S: DatagramSocket + Drop> Server<R, S> {
@@ -46,15 +49,17 @@ impl<R: ServerReplica, S: DatagramSocket + Drop> Server<R, S> {
         self.post.next_loopback()
     }
 
-    // Limits how long a receive waits for the next datagram; it may take up to 10 ms longer.
-    fn set_timeout(&mut self, time: Duration)
+    // Limits how long a receive waits for the next datagram to the rest of the period; it may take up to 10 ms longer.
+    // Mixes a reading of the clock into the tokens of its probes.
+    fn set_timeout<C: Clock>(&mut self, tick_timer: &mut TickTimer<C>)
         ensures { self.new ≡ self.old }
     {
-        self.post.set_timeout(time);
+        self.post.set_timeout(tick_timer.left());
+        self.tokens.stir(tick_timer.reading());
     }
 
-    // Gives a tick or a datagram to the replica as a part of the group. Logs what changed, and records an installed
-    // snapshot for the events.
+    // Gives a tick, a nudge or a datagram to the replica as a part of the group. Logs what changed, and records an
+    // installed snapshot for the events.
     fn add_input<L: Log>(
         &mut self,
         input: Input,
@@ -64,6 +69,8 @@ impl<R: ServerReplica, S: DatagramSocket + Drop> Server<R, S> {
     ) -> Result<(), GroupFault>
         ensures gathers { OnOk result
             (GathersMore R.Gathers (heard_by input.entry ∷ []) group.old group.new self.old.replica self.new.replica) }
+        ensures takes { OnOk result
+            (R.Takes self.old.replica group.old input.entry self.new.replica group.new) }
         ensures silent { OnErr result
             (SaysNoMore R.Says R.Gathers (heard_by input.entry ∷ []) group.old self.old.replica self.new.replica) }
         ensures others { self.new ≡ record self.old { replica = self.new.replica; failed = self.new.failed } }
@@ -83,8 +90,30 @@ impl<R: ServerReplica, S: DatagramSocket + Drop> Server<R, S> {
         }
     }
 
+    // Whether ticks are withheld: they go by the clock, and the server is deaf.
+    fn are_ticks_withheld(&self) -> bool
+        ensures { IsTrue result ↔ WithholdsTicks self.now }
+    {
+        self.pace.is_clock() && self.post.is_deaf()
+    }
+
+    // Returns what ends the period that was just counted: each 31st time a nudge, which says whether ticks are
+    // withheld, else a tick.
+    fn period_end(&self) -> Input<'static>
+        ensures ends { EndsPeriod self.now result }
+        ensures timed { heard_by result ≡ None }
+    {
+        if self.now() % TICKS_A_NUDGE != 0 {
+            return Input::Tick;
+        }
+        Input::Nudge {
+            are_ticks_withheld: self.are_ticks_withheld(),
+        }
+    }
+
     // Adds a tick to the group, each 31st time a nudge in its place, and counts it.
     pub(crate) fn add_tick<L: Log>(&mut self, group: &mut Group, log: &L) -> Result<(), GroupFault>
+        ensures takes { OnOk result (TakesPeriodEnd R.Takes group.old group.new self.old self.new) }
         ensures gathers { OnOk result
             (GathersMore R.Gathers (None ∷ []) group.old group.new self.old.replica self.new.replica) }
         ensures silent { OnErr result
@@ -96,10 +125,8 @@ impl<R: ServerReplica, S: DatagramSocket + Drop> Server<R, S> {
         ensures broken { OnErr result (self.new.failed ≡ true) }
     {
         self.ticks = self.ticks.saturating_add(1);
-        if self.ticks % TICKS_A_NUDGE == 0 {
-            return self.add_input(Input::Nudge, &Arrival::Tick, group, log);
-        }
-        self.add_input(Input::Tick, &Arrival::Tick, group, log)
+        let input = self.period_end();
+        self.add_input(input, &Arrival::Tick, group, log)
     }
 
     // Counts a datagram and adds it to the group, with a tick after it if one is due by that count.
@@ -174,12 +201,12 @@ impl<R: ServerReplica, S: DatagramSocket + Drop> Server<R, S> {
             (λ found. found ≡ TurnInput.Something
             → (frames : List (Address × List ℕ))
             × AddsWaiting R.Gathers S.is_observable frames group.old group.new self.old self.new
-            × KeepsOf self.old.node self.old.addresses.seals frames buffer.old buffer.new) }
+            × KeepsOf self.old.addresses.seals frames buffer.old buffer.new) }
         ensures none { IfOk result
             (λ found. (found ≡ TurnInput.Something → ⊥)
             → (self.old.loopback ≡ []) × (frames : List (Address × List ℕ))
             × Finds S.is_observable found frames self.old self.new × (group.new ≡ group.old)
-            × KeepsOf self.old.node self.old.addresses.seals frames buffer.old buffer.new) }
+            × KeepsOf self.old.addresses.seals frames buffer.old buffer.new) }
         ensures ends { OnErr result
             ((frames : List (Address × List ℕ))
             × EndsGroup R.Says R.Gathers S.is_observable frames group.old self.old self.new) }
@@ -193,8 +220,23 @@ impl<R: ServerReplica, S: DatagramSocket + Drop> Server<R, S> {
         Ok(TurnInput::Something)
     }
 
-    // Adds what waits to the group, or what comes before the next tick, and after it a tick if one is due. Returns
-    // whether anything was added.
+    // Whether the next tick is withheld: ticks are, and no nudge is due.
+    fn withholds(&self) -> bool
+        ensures { IsTrue result ↔ MayWithhold self.now }
+    {
+        let next = self.now().saturating_add(1);
+        self.are_ticks_withheld() && next % TICKS_A_NUDGE != 0
+    }
+
+    // Counts a tick that its replica is not given.
+    fn withhold_tick(&mut self)
+        ensures { self.new ≡ record self.old { withheld = one_more_tick self.old.withheld } }
+    {
+        self.withheld = self.withheld.saturating_add(1);
+    }
+
+    // Adds what waits to the group, or what comes before the next tick, and after it a tick if one is due. A deaf
+    // server withholds it. Returns whether anything was added.
     pub(crate) fn fill_group<C: Clock, L: Log>(
         &mut self,
         buffer: &mut ReceiveBuffer,
@@ -205,20 +247,24 @@ impl<R: ServerReplica, S: DatagramSocket + Drop> Server<R, S> {
         ensures adds { IfOk result
             (λ some. some ≡ true → (frames : List (Address × List ℕ))
             × AddsGroup R.Gathers S.is_observable frames group.old group.new self.old self.new
-            × KeepsOf self.old.node self.old.addresses.seals frames buffer.old buffer.new) }
+            × KeepsOf self.old.addresses.seals frames buffer.old buffer.new) }
         ensures idle { IfOk result
             (λ some. some ≡ false → (frames : List (Address × List ℕ))
             × HasReceived S.is_observable frames self.old self.new × IsIdle S.is_observable frames self.old self.new
-            × KeepsOf self.old.node self.old.addresses.seals frames buffer.old buffer.new) }
+            × KeepsOf self.old.addresses.seals frames buffer.old buffer.new) }
         ensures ends { OnErr result
             ((frames : List (Address × List ℕ))
             × EndsGroup R.Says R.Gathers S.is_observable frames group.old self.old self.new) }
-        ensures others { ChangesInGroup self.old self.new }
+        ensures others { ChangesInTurn self.old self.new }
         ensures broken { OnErr result (self.new.failed ≡ true) }
     {
-        self.set_timeout(tick_timer.left());
+        self.set_timeout(tick_timer);
         let found = self.add_pending(buffer, tick_timer, group, log)?;
         if !self.pace.is_due(found, tick_timer) {
+            return Ok(found.is_something());
+        }
+        if self.withholds() {
+            self.withhold_tick();
             return Ok(found.is_something());
         }
         self.add_tick(group, log)?;

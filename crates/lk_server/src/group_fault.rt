@@ -1,12 +1,12 @@
 //! Why a group ended a replica.
 
 ghost use Rattle.std.specs.Prelude.{◌≡◌};
-ghost use Rattle.lk_transport.specs.Faults.{replica_fault};
+ghost use Rattle.lk_program_fault.specs.Faults.{replica_fault};
 ghost use Rattle.lk_server.specs.GroupFaults.{program_fault};
 ghost use Rattle.lk_server_replica.specs.Refusals.{IsOfGroups};
 
 use lk_node_interface::ReplicaFault;
-use lk_transport::fault::ProgramFault;
+use lk_program_fault::ProgramFault;
 
 /// Why a group ended a replica. Nothing of it is sent.
 #[derive(Clone, Copy, Debug)]

@@ -1,24 +1,28 @@
 //! How a server handles probes after a turn: it replies to one, and finds out which genesis each node that writes to it
 //! was started with.
 
-ghost use Rattle.std.specs.Prelude.{◌≡◌, None};
+ghost use Rattle.std.specs.Prelude.{◌≡◌, None, not};
 ghost use Rattle.lk_probe.specs.Neighbours.{bound_in};
 ghost use Rattle.lk_transport.specs.Addresses.{IsSameNetwork};
+ghost use Rattle.lk_hearing.specs.Probes.{count_heard, hears_majority};
+ghost use Rattle.lk_server_replica.specs.declared.probed_state.ProbedState.{ProbedState as ProbedStateValue};
 ghost use Rattle.lk_transport.specs.Inquiring.{AsksOne, LearnsKept, ReadmitsKept};
-ghost use Rattle.lk_server.specs.ProbeHandling.{HandlesProbes};
-ghost use Rattle.lk_server.specs.Servers.{send_state_at};
+ghost use Rattle.lk_transport.specs.Listening.{HearsKept, ProbesRound};
+ghost use Rattle.lk_server.specs.ProbeHandling.{HandlesProbes, ListensIf};
+ghost use Rattle.lk_server.specs.Servers.{periods, send_state_at};
 
 use crate::server::Server;
 use crate::watching::log_stranger;
 use lk_probe::neighbours::{Neighbour, Origin};
+use lk_probe::reported::Reported;
 use lk_server_replica::ServerReplica;
 use lk_transport::receive_buffer::ReceiveBuffer;
 use lk_transport::received_probe::ReceivedProbe;
 use lk_transport::socket::DatagramSocket;
-use lk_types::NodeNo;
+use lk_types::{Member, NodeNo};
 use log::Log;
 
-// A minute in ticks of 100 ms. Where ticks go by datagrams they may be faster.
+// A minute in periods of 100 ms. Where ticks go by datagrams they may be faster.
 const MINUTE: u64 = 600;
 
 impl<R: ServerReplica, S: DatagramSocket + Drop> Server<R, S> {
@@ -32,14 +36,14 @@ impl<R: ServerReplica, S: DatagramSocket + Drop> Server<R, S> {
         }
     }
 
-    // Logs a warning, and records an event, that it hears a node of another genesis: once in 600 ticks at most.
+    // Logs a warning, and records an event, that it hears a node of another genesis: once in 600 periods at most.
     pub(crate) fn warn_of_stranger<L: Log>(&mut self, node: NodeNo, log: &L)
         ensures { self.new ≡ self.old }
     {
         match self.stranger_warned {
-            Some(ticks) if self.ticks.saturating_sub(ticks) < MINUTE => {}
+            Some(periods) if self.now().saturating_sub(periods) < MINUTE => {}
             _ => {
-                self.stranger_warned = Some(self.ticks);
+                self.stranger_warned = Some(self.now());
                 self.events.stranger = Some(node);
                 log_stranger(log, node);
             }
@@ -69,18 +73,16 @@ impl<R: ServerReplica, S: DatagramSocket + Drop> Server<R, S> {
         }
     }
 
-    // Takes the kept report out of the buffer, if there is one, records the genesis of its node, and warns if it is
-    // another.
-    fn learn<L: Log>(&mut self, buffer: &mut ReceiveBuffer, log: &L)
-        ensures learns { LearnsKept buffer.old.reported self.old.addresses self.new.addresses }
-        ensures kept { buffer.new ≡ record buffer.old { reported = None } }
+    // Records the genesis of the node of a report, if there is one, and warns if it is another.
+    fn learn<L: Log>(&mut self, reported: &Option<Reported>, log: &L)
+        ensures learns { LearnsKept self.old.node reported.now self.old.addresses self.new.addresses }
         ensures network { IsSameNetwork self.old.addresses self.new.addresses }
         ensures others { self.new ≡ record self.old { addresses = self.new.addresses } }
     {
-        let Some(reported) = buffer.pop_reported() else {
+        let Some(reported) = reported else {
             return;
         };
-        let learned = self.post.learn(&reported);
+        let learned = self.post.learn(reported);
         self.warn_if_stranger(learned, log);
     }
 
@@ -103,11 +105,94 @@ impl<R: ServerReplica, S: DatagramSocket + Drop> Server<R, S> {
         }
     }
 
-    // Returns how many ticks its replica was given since its start.
-    fn now(&self) -> u64
-        ensures { result ≡ self.now.ticks }
+    // Returns how many periods have ended since its start: each ended with a tick or a nudge, or with a tick withheld.
+    pub(crate) fn now(&self) -> u64
+        ensures { result ≡ periods self.now }
     {
-        self.ticks
+        self.ticks.saturating_add(self.withheld)
+    }
+
+    /// Whether it was found to hear too few members: then ticks are withheld, and clients' requests are dropped.
+    pub fn is_deaf(&self) -> bool
+        ensures { result ≡ self.now.addresses.deaf }
+    {
+        self.post.is_deaf()
+    }
+
+    /// Returns how many of the members of the next position it hears, itself included.
+    pub fn count_heard(&self) -> u8
+        ensures { (shown : ProbedStateValue) × R.Shows self.now.replica shown
+            × (result ≡ count_heard self.now.node (periods self.now) self.now.addresses.hearing.asked shown.members) }
+    {
+        let shown = self.replica.show();
+        shown.members.facts();
+        self.post.count_heard(shown.members.as_slice(), self.now()) as u8
+    }
+
+    // Counts the kept report as a reply to a probe, if there is one.
+    fn hear(&mut self, reported: &Option<Reported>, now: u64)
+        ensures hears { HearsKept now reported.now self.old.addresses self.new.addresses }
+        ensures network { IsSameNetwork self.old.addresses self.new.addresses }
+        ensures others { self.new ≡ record self.old { addresses = self.new.addresses } }
+    {
+        if let Some(reported) = reported {
+            self.post.note_reply(reported, now);
+        }
+    }
+
+    // Probes the other members, if that is due in this period. A failed send is counted.
+    fn probe_members(&mut self, members: &[Member], now: u64)
+        ensures probes { ProbesRound S.is_observable self.old.node now members.now
+            self.old.addresses self.new.addresses
+            (send_state_at self.old.loopback self.old) (send_state_at self.new.loopback self.new) }
+        ensures network { IsSameNetwork self.old.addresses self.new.addresses }
+        ensures still { S.is_observable → self.new.incoming ≡ self.old.incoming }
+        ensures others { self.new
+            ≡ record self.old {
+              addresses = self.new.addresses;
+              sent = self.new.sent;
+              socket_failures = self.new.socket_failures;
+              incoming = self.new.incoming;
+            } }
+    {
+        let lost = self.post.probe_round(members, now, &mut self.tokens);
+        self.unsent = self.unsent.saturating_add(lost);
+    }
+
+    // Finds out whether it hears a majority of these members: without one it is deaf.
+    fn judge(&mut self, members: &[Member], now: u64)
+        ensures { self.new ≡ record self.old {
+          addresses = record self.old.addresses {
+            deaf = not (hears_majority self.old.node now self.old.addresses.hearing.asked members.now);
+          };
+        } }
+    {
+        let hears = self.post.hears_majority(members, now);
+        self.post.set_deaf(!hears);
+    }
+
+    // Where ticks go by the clock: counts the kept report, probes the members of the next position if that is due, and
+    // finds out whether it hears a majority of them.
+    fn listen(&mut self, reported: &Option<Reported>)
+        ensures listens { ListensIf R.Shows S.is_observable reported.now self.old self.new }
+        ensures network { IsSameNetwork self.old.addresses self.new.addresses }
+        ensures still { S.is_observable → self.new.incoming ≡ self.old.incoming }
+        ensures others { self.new
+            ≡ record self.old {
+              addresses = self.new.addresses;
+              sent = self.new.sent;
+              socket_failures = self.new.socket_failures;
+              incoming = self.new.incoming;
+            } }
+    {
+        if !self.pace.is_clock() {
+            return;
+        }
+        let now = self.now();
+        let shown = self.replica.show();
+        self.hear(reported, now);
+        self.probe_members(shown.members.as_slice(), now);
+        self.judge(shown.members.as_slice(), now);
     }
 
     // Returns the first node of another genesis that this one has followed: one that sent it a Prepare, an Accept, a
@@ -120,19 +205,22 @@ impl<R: ServerReplica, S: DatagramSocket + Drop> Server<R, S> {
 
     /// Handles probes after the letters of a turn. It replies to the probe that the buffer keeps; if the node that sent
     /// it has this genesis, that node's datagrams are taken again. It learns from the report that the buffer keeps, and
-    /// probes one node if that is due. Returns the first node of another genesis that this one has followed, if there
-    /// is one; the caller then ends the node.
+    /// asks one node for its genesis if that is due. Where ticks go by the clock it probes the members if that is due,
+    /// and finds out whether it hears a majority of them. Returns the first node of another genesis that this one has
+    /// followed, if there is one; the caller then ends the node.
     pub fn handle_probes<L: Log>(&mut self, buffer: &mut ReceiveBuffer, log: &L) -> Option<Origin>
         ensures acts { HandlesProbes R.Shows S.is_observable buffer.old.asked buffer.old.reported self.old self.new }
         ensures kept { buffer.new ≡ record buffer.old { asked = None; reported = None } }
         ensures bound { result ≡ bound_in self.new.addresses.neighbours }
     {
         let asked = buffer.pop_probe();
+        let reported = buffer.pop_reported();
         self.report_to(&asked);
         self.readmit(&asked);
-        self.learn(buffer, log);
+        self.learn(&reported, log);
         let now = self.now();
         self.probe_next(now);
+        self.listen(&reported);
         self.followed_stranger()
     }
 }

@@ -1,23 +1,25 @@
 //! Composes a node's report, and replies to a probe with it.
 
-ghost use Rattle.std.specs.Prelude.{◌≡◌};
+ghost use Rattle.std.specs.Prelude.{◌≡◌, ◌≤◌, length};
+ghost use Rattle.lk_types.specs.Limits.{max_members};
 ghost use Rattle.lk_server.specs.Probes.{RepliesToKept, IsReportTo, ReportsStatus};
+ghost use Rattle.lk_server.specs.Servers.{heard_by, periods};
+ghost use Rattle.lk_transport.specs.Askers.{IsReplyAddress};
 ghost use Rattle.lk_server_replica.specs.declared.probed_state.ProbedState.{ProbedState as ProbedStateValue};
 
 use crate::server::Server;
-use lk_probe::{Identity, LENGTH, PROGRAM, Status, Traffic};
-use lk_server_replica::{ServerReplica, TableVersion};
+use lk_probe::{Identity, PROGRAM, ProbeDatagram, Reach, Status, Traffic};
+use lk_server_replica::{ProbedState, ServerReplica, TableVersion};
 use lk_transport::received_probe::ReceivedProbe;
 use lk_transport::socket::DatagramSocket;
+use lk_types::Member;
+use std::net::SocketAddr;
 
 impl<R: ServerReplica, S: DatagramSocket + Drop> Server<R, S> {
-    /// Returns what it reports of its node: what the replica shows, the digest of the genesis, its count of ticks and
-    /// what else it has counted itself, and the version of the lock table, as it was last read.
-    pub fn status(&self) -> Status
-        ensures { (shown : ProbedStateValue) × R.Shows self.now.replica shown
-            × ReportsStatus self.now.addresses.seals.genesis self.now.ticks shown result }
+    // Returns what it reports of its node, whose replica shows this.
+    fn status_of(&self, shown: ProbedState) -> Status
+        ensures { ReportsStatus self.now.addresses.seals.genesis (periods self.now) shown result }
     {
-        let shown = self.replica.show();
         Status {
             identity: Identity {
                 genesis: self.post.genesis(),
@@ -31,10 +33,39 @@ impl<R: ServerReplica, S: DatagramSocket + Drop> Server<R, S> {
                 waiting: shown.waiting,
                 unread: self.ignored.unread(),
                 unsent: self.unsent,
-                ticks: self.ticks,
+                ticks: self.now(),
             },
             members: shown.members,
         }
+    }
+
+    /// Returns what it reports of its node: what the replica shows, the digest of the genesis, its count of periods and
+    /// what else it has counted itself, and the version of the lock table, as it was last read.
+    pub fn status(&self) -> Status
+        ensures { (shown : ProbedStateValue) × R.Shows self.now.replica shown
+            × ReportsStatus self.now.addresses.seals.genesis (periods self.now) shown result }
+    {
+        self.status_of(self.replica.show())
+    }
+
+    // Returns how many of these members it hears, itself included; `None` where ticks go by datagrams, and it does not
+    // find that out.
+    fn heard_of(&self, members: &[Member]) -> Option<u8>
+        requires { length members.now ≤ max_members }
+        ensures { result ≡ heard_by members.now self.now }
+    {
+        if !self.pace.is_clock() {
+            return None;
+        }
+        Some(self.post.count_heard(members, self.now()) as u8)
+    }
+
+    // Returns whom it hears of the members that its replica shows, and what its socket does with bundles.
+    fn reach_of(&self, shown: &ProbedState) -> Reach
+        ensures { result.heard ≡ heard_by shown.now.members self.now }
+    {
+        shown.members.facts();
+        self.post.reach(self.heard_of(shown.members.as_slice()))
     }
 
     // Returns the version of the lock table, which it reads if that is unknown.
@@ -45,19 +76,32 @@ impl<R: ServerReplica, S: DatagramSocket + Drop> Server<R, S> {
         }
     }
 
-    // Returns the bytes of the report that replies to a probe: the server's status, with what its replica shows now.
-    fn report(&self, asked: &ReceivedProbe) -> [u8; LENGTH]
+    // Returns the report that replies to a probe: the server's status, with what its replica shows now, and whom it
+    // hears now, if the probe asks for that.
+    fn report(&self, asked: &ReceivedProbe) -> ProbeDatagram
         ensures { (shown : ProbedStateValue) × R.Shows self.now.replica shown
-            × IsReportTo self.now.node self.now.addresses.seals.genesis self.now.ticks shown asked.now.probe result }
+            × IsReportTo self.now.node self.now.addresses.seals.genesis (periods self.now)
+            (heard_by shown.members self.now) shown asked.now.probe result }
     {
-        asked
-            .probe
-            .report(self.post.node(), self.status())
-            .datagram()
+        let shown = self.replica.show();
+        let reach = self.reach_of(&shown);
+        let status = self.status_of(shown);
+        let report = asked.probe.report(self.post.node(), status, reach);
+        report.datagram()
     }
 
-    /// Sends the report that replies to a probe to where the probe came from, if there is one. Reads the lock table's
-    /// version first if that is unknown. A failed send is counted.
+    // Returns where the report that replies to a probe goes: to a member where its letters go, else to where the probe
+    // came from.
+    fn address_for(&self, asked: &ReceivedProbe) -> SocketAddr
+        ensures { (shown : ProbedStateValue) × R.Shows self.now.replica shown
+            × IsReplyAddress self.now.addresses shown.members asked.now result }
+    {
+        let shown = self.replica.show();
+        self.post.reply_address(shown.members.as_slice(), asked)
+    }
+
+    /// Sends the report that replies to a probe, if there is one: to a member where its letters go, else to where the
+    /// probe came from. Reads the lock table's version first if that is unknown. A failed send is counted.
     pub fn report_to(&mut self, asked: &Option<ReceivedProbe>)
         ensures replies { RepliesToKept R.Shows S.is_observable asked.now self.old self.new }
         ensures others { self.new
@@ -72,7 +116,9 @@ impl<R: ServerReplica, S: DatagramSocket + Drop> Server<R, S> {
         };
         self.table = self.known_table();
         let report = self.report(asked);
-        if self.post.reply(asked, &report).is_err() {
+        let address = self.address_for(asked);
+        let report = report.as_slice();
+        if self.post.reply(asked, address, report).is_err() {
             self.unsent = self.unsent.saturating_add(1);
         }
     }

@@ -8,7 +8,7 @@ ghost use Rattle.lk_transport.specs.Posts.{all_filtered};
 ghost use Rattle.lk_transport.specs.Kept.{KeepsOf};
 ghost use Rattle.lk_server_replica.specs.Refusals.{IsOfGroups};
 ghost use Rattle.lk_server.specs.Servers.{DeliversLetters, DeliversNothing, HasHeardNobody, HasReceived, IsSameServer};
-ghost use Rattle.lk_server.specs.Servers.{LastTurn};
+ghost use Rattle.lk_server.specs.Servers.{KeepsCounts, LastTurn};
 ghost use Rattle.lk_server.specs.Servers.{Runs, IsConfiguredAs, HasSocket, TurnOrIdle, Turn, one_more_tick};
 
 use crate::group_fault::GroupFault;
@@ -16,6 +16,7 @@ use crate::ignored::IgnoredCounts;
 use crate::notes::log_notes;
 use crate::turn_events::TurnEvents;
 use crate::watching::log_sends;
+use lk_hearing::token_source::TokenSource;
 use lk_node_interface::ReplicaFault;
 use lk_pacing::pace::Pace;
 use lk_pacing::sync_pause::SyncPause;
@@ -48,14 +49,17 @@ pub struct Server<R: ServerReplica, S: DatagramSocket + Drop> {
     pub(crate) ignored: IgnoredCounts,
     // what has happened since the last `drain_events`
     pub(crate) events: TurnEvents,
-    // the ticks that its replica was given, and the sends that failed, since its start
+    // the ticks that its replica was given, those that were withheld, and the sends that failed, since its start
     pub(crate) ticks: u64,
+    pub(crate) withheld: u64,
     pub(crate) unsent: u64,
     // the version of the lock table, as it was last read
     pub(crate) table: TableVersion,
     // its recent syncs, which decide how long it pauses before the next
     pub(crate) sync_pause: SyncPause,
-    // the count of ticks at its last warning of a node of another genesis
+    // it draws the tokens of its probes
+    pub(crate) tokens: TokenSource,
+    // the count of periods at its last warning of a node of another genesis
     pub(crate) stranger_warned: Option<u64>,
 }
 
@@ -73,6 +77,7 @@ impl<R: ServerReplica, S: DatagramSocket + Drop> Model for Server<R, S> {
       addresses = s.post.addresses;
       received = s.received;
       ticks = s.ticks;
+      withheld = s.withheld;
       failed = R.failed s.replica;
       sent = s.post.sent;
       socket_failures = s.post.socket_failures;
@@ -81,7 +86,8 @@ impl<R: ServerReplica, S: DatagramSocket + Drop> Model for Server<R, S> {
 }
 
 impl<R: ServerReplica, S: DatagramSocket + Drop> Server<R, S> {
-    /// Makes the server of a replica of this cluster. It has received nothing yet.
+    /// Makes the server of a replica of this cluster. It has received nothing yet. If its ticks go by the clock, it is
+    /// deaf until it has heard a majority of the members.
     pub fn new(
         alloc: Global,
         cluster: u64,
@@ -96,19 +102,23 @@ impl<R: ServerReplica, S: DatagramSocket + Drop> Server<R, S> {
         ensures socket { HasSocket (S.sent socket) (S.failures socket) (S.incoming socket) result }
         ensures unheard { HasHeardNobody result }
     {
+        let mut post = SocketPost::new(alloc, node, network, socket);
+        post.set_deaf(pace.is_clock());
         Server {
             alloc,
             cluster,
             pace,
             replica,
-            post: SocketPost::new(alloc, node, network, socket),
+            post,
             received: 0,
             ignored: IgnoredCounts::new(),
             events: TurnEvents::NOTHING,
             ticks: 0,
+            withheld: 0,
             unsent: 0,
             table: TableVersion::Unread,
             sync_pause: SyncPause::NONE,
+            tokens: TokenSource::new(),
             stranger_warned: None,
         }
     }
@@ -151,8 +161,7 @@ impl<R: ServerReplica, S: DatagramSocket + Drop> Server<R, S> {
         ensures silent { OnErr result (SaysNothing R.Says R.Gathers group.now self.old self.new) }
         ensures addresses { self.new.addresses ≡ self.old.addresses }
         ensures same { IsSameServer self.old self.new }
-        ensures received { self.new.received ≡ self.old.received }
-        ensures ticks { self.new.ticks ≡ self.old.ticks }
+        ensures counts { KeepsCounts self.old self.new }
         ensures still { S.is_observable → self.new.incoming ≡ self.old.incoming }
         ensures alive { OnOk result (self.new.failed ≡ false) }
         ensures broken { OnErr result (self.new.failed ≡ true) }
@@ -160,6 +169,7 @@ impl<R: ServerReplica, S: DatagramSocket + Drop> Server<R, S> {
     {
         self.post.start_group();
         let released = self.replica.release(group, &mut self.post);
+        self.post.end_group();
         self.events.sends = self.post.send_summary();
         self.unsent = self.unsent.saturating_add(self.events.sends.lost);
         log_sends(log, &self.events.sends, self.post.cause());
@@ -175,8 +185,7 @@ impl<R: ServerReplica, S: DatagramSocket + Drop> Server<R, S> {
         ensures silent { OnErr result (SaysNothing R.Says R.Gathers group.now self.old self.new) }
         ensures addresses { self.new.addresses ≡ self.old.addresses }
         ensures same { IsSameServer self.old self.new }
-        ensures received { self.new.received ≡ self.old.received }
-        ensures ticks { self.new.ticks ≡ self.old.ticks }
+        ensures counts { KeepsCounts self.old self.new }
         ensures still { S.is_observable → self.new.incoming ≡ self.old.incoming }
         ensures alive { OnOk result (self.new.failed ≡ false) }
         ensures broken { OnErr result (self.new.failed ≡ true) }
@@ -222,7 +231,7 @@ impl<R: ServerReplica, S: DatagramSocket + Drop> Server<R, S> {
             (λ came. came ≡ true → (frames : List (Address × List ℕ))
             × HasReceived S.is_observable frames self.old self.new
             × Turn R.Says S.is_observable (all_filtered (filter_of self.old.addresses) frames) self.old self.new
-            × KeepsOf self.old.node self.old.addresses.seals frames buffer.old buffer.new) }
+            × KeepsOf self.old.addresses.seals frames buffer.old buffer.new) }
         ensures ends { OnErr result
             ((frames : List (Address × List ℕ)) × HasReceived S.is_observable frames self.old self.new
             × LastTurn R.Says S.is_observable (all_filtered (filter_of self.old.addresses) frames) self.old self.new) }
@@ -230,7 +239,7 @@ impl<R: ServerReplica, S: DatagramSocket + Drop> Server<R, S> {
             (λ came. came ≡ false → (self.old.loopback ≡ [])
             × (found : TurnInput) × (frames : List (Address × List ℕ))
             × Finds S.is_observable found frames self.old self.new
-            × KeepsOf self.old.node self.old.addresses.seals frames buffer.old buffer.new) }
+            × KeepsOf self.old.addresses.seals frames buffer.old buffer.new) }
         // Where nodes live and the keys do not change.
         ensures network { IsSameNetwork self.old.addresses self.new.addresses }
     {
@@ -262,7 +271,7 @@ pub fn node_turn<R: ServerReplica, S: DatagramSocket + Drop, C: Clock, L: Log>(
     ensures turn { OnOk result
         ((frames : List (Address × List ℕ)) × HasReceived S.is_observable frames server.old server.new
         × TurnOrIdle R.Says S.is_observable frames server.old server.new
-        × KeepsOf server.old.node server.old.addresses.seals frames buffer.old buffer.new) }
+        × KeepsOf server.old.addresses.seals frames buffer.old buffer.new) }
     // After an error nothing of the group is sent.
     ensures ends { OnErr result
         ((frames : List (Address × List ℕ)) × HasReceived S.is_observable frames server.old server.new

@@ -86,7 +86,8 @@ impl<R: ServerReplica, S: DatagramSocket + Drop> Server<R, S> {
     }
 
     // Opens the frame in the buffer, if there is one, and adds its datagram to the group. The buffer keeps the first
-    // probe and the first report instead, and what comes from the address of a node of another genesis is dropped.
+    // probe and the first report instead. What comes from the address of a node of another genesis is dropped, and a
+    // client's request while the server is deaf.
     // Returns what was found.
     fn add_received<L: Log>(
         &mut self,
@@ -112,7 +113,7 @@ impl<R: ServerReplica, S: DatagramSocket + Drop> Server<R, S> {
             × (is_filtered_out (filter_of self.old.addresses) frame ≡ false)
             × EndsHeard R.Says R.Gathers (frame ∷ []) group.old self.old self.new) }
         ensures kept { IfOk result
-            (λ found. found ≡ TurnInput.Filtered → KeepsProbes self.old.node self.old.addresses.seals buffer.old
+            (λ found. found ≡ TurnInput.Filtered → KeepsProbes self.old.addresses.seals buffer.old
             buffer.new) }
         ensures rest { IfOk result (λ found. (found ≡ TurnInput.Filtered → ⊥) → buffer.new ≡ buffer.old) }
         ensures spares { OnErr result (buffer.new ≡ buffer.old) }
@@ -125,13 +126,16 @@ impl<R: ServerReplica, S: DatagramSocket + Drop> Server<R, S> {
         let datagram = self.post.open(frame);
         if is_probe_or_report(datagram) {
             let asked = self.post.read_probe(from, frame, datagram);
-            let reported = self.post.read_report(from, datagram);
+            let reported = self.post.read_report(from, frame, datagram);
             buffer.keep_probe(asked);
             buffer.keep_report(reported);
             return Ok(TurnInput::Filtered);
         }
         if let Some(node) = self.post.stranger(from) {
             self.warn_of_stranger(node, log);
+            return Ok(TurnInput::Filtered);
+        }
+        if self.post.drops(datagram) {
             return Ok(TurnInput::Filtered);
         }
         let viewed = Datagram::of(datagram);
@@ -151,11 +155,12 @@ impl<R: ServerReplica, S: DatagramSocket + Drop> Server<R, S> {
             (λ found. found ≡ TurnInput.Something
             → (frame : Address × List ℕ) × (is_filtered_out (filter_of self.old.addresses) frame ≡ false)
             × AddsFromSocket R.Gathers S.is_observable 1 (frame ∷ []) group.old group.new self.old self.new
-            × KeepsOf self.old.node self.old.addresses.seals (frame ∷ []) buffer.old buffer.new) }
+            × KeepsOf self.old.addresses.seals (frame ∷ []) buffer.old buffer.new
+            × (buffer.new.asked ≡ buffer.old.asked) × (buffer.new.reported ≡ buffer.old.reported)) }
         ensures none { IfOk result
             (λ found. (found ≡ TurnInput.Something → ⊥)
             → (frames : List (Address × List ℕ)) × Finds S.is_observable found frames self.old self.new
-            × (group.new ≡ group.old) × KeepsOf self.old.node self.old.addresses.seals frames buffer.old buffer.new) }
+            × (group.new ≡ group.old) × KeepsOf self.old.addresses.seals frames buffer.old buffer.new) }
         ensures ends { OnErr result
             ((frame : Address × List ℕ) × (is_filtered_out (filter_of self.old.addresses) frame ≡ false)
             × EndsSocket R.Says R.Gathers S.is_observable 1 (frame ∷ []) group.old self.old self.new) }
@@ -178,7 +183,7 @@ impl<R: ServerReplica, S: DatagramSocket + Drop> Server<R, S> {
         ensures adds { IfOk result
             (λ came. came ≡ true → (frame : Address × List ℕ)
             × AddsFromSocket R.Gathers S.is_observable 2 (frame ∷ []) group.old group.new self.old self.new
-            × KeepsOf self.old.node self.old.addresses.seals (frame ∷ []) buffer.old buffer.new) }
+            × KeepsOf self.old.addresses.seals (frame ∷ []) buffer.old buffer.new) }
         // What it has received then is nothing, at once and after a pause.
         ensures none { IfOk result
             (λ came. came ≡ false → (S.is_observable → ComeWithin 2 [] self.old.incoming self.new.incoming)
@@ -202,7 +207,7 @@ impl<R: ServerReplica, S: DatagramSocket + Drop> Server<R, S> {
     }
 
     // Adds up to 63 further datagrams to the group, in order: those that already wait or come in a pause, as long
-    // as the group has something to send.
+    // as the group has something to send, and up to the first probe or report that is kept.
     fn add_further_datagrams<C: Clock, L: Log>(
         &mut self,
         buffer: &mut ReceiveBuffer,
@@ -214,7 +219,7 @@ impl<R: ServerReplica, S: DatagramSocket + Drop> Server<R, S> {
             ((frames : List (Address × List ℕ)) × (length frames ≤ 63)
             × AddsFromSocket R.Gathers S.is_observable (2 * length frames + 2) frames group.old group.new
             self.old self.new
-            × KeepsOf self.old.node self.old.addresses.seals frames buffer.old buffer.new) }
+            × KeepsOf self.old.addresses.seals frames buffer.old buffer.new) }
         ensures ends { OnErr result
             ((frames : List (Address × List ℕ)) × (length frames ≤ 63)
             × EndsSocket R.Says R.Gathers S.is_observable (2 * length frames + 2) frames group.old
@@ -223,6 +228,9 @@ impl<R: ServerReplica, S: DatagramSocket + Drop> Server<R, S> {
         ensures broken { OnErr result (self.new.failed ≡ true) }
     {
         'datagrams: for _ in 0..FURTHER {
+            if buffer.has_kept() {
+                return Ok(());
+            }
             if !self.add_next_datagram(buffer, tick_timer, group, log)? {
                 return Ok(());
             }
@@ -243,12 +251,12 @@ impl<R: ServerReplica, S: DatagramSocket + Drop> Server<R, S> {
             (λ found. found ≡ TurnInput.Something
             → (frames : List (Address × List ℕ))
             × AddsWaiting R.Gathers S.is_observable frames group.old group.new self.old self.new
-            × KeepsOf self.old.node self.old.addresses.seals frames buffer.old buffer.new) }
+            × KeepsOf self.old.addresses.seals frames buffer.old buffer.new) }
         ensures none { IfOk result
             (λ found. (found ≡ TurnInput.Something → ⊥)
             → (self.old.loopback ≡ []) × (frames : List (Address × List ℕ))
             × Finds S.is_observable found frames self.old self.new × (group.new ≡ group.old)
-            × KeepsOf self.old.node self.old.addresses.seals frames buffer.old buffer.new) }
+            × KeepsOf self.old.addresses.seals frames buffer.old buffer.new) }
         ensures ends { OnErr result
             ((frames : List (Address × List ℕ))
             × EndsGroup R.Says R.Gathers S.is_observable frames group.old self.old self.new) }

@@ -3,7 +3,8 @@
 ghost use Rattle.std.specs.Prelude.{◌≡◌, ℕ, List, [], ◌∷◌, Option, Bool, true, false, IfOk, OnOk, OnErr, IfErr, IfSome};
 ghost use Rattle.lk_node_interface.specs.Letters.{LetterValue};
 ghost use Rattle.lk_node.specs.Calls.{heard_by};
-ghost use Rattle.lk_replica.specs.Groups.{GroupValue};
+ghost use Rattle.lk_node_interface.specs.declared.input.Input.{Input as InputValue};
+ghost use Rattle.lk_replica.specs.Groups.{GroupValue, IsGathered};
 ghost use Rattle.lk_replica.specs.Posts.{GivesLetters, TellsSends};
 ghost use Rattle.lk_state.specs.Packed.{packed};
 ghost use Rattle.lk_server_replica.specs.Sayings.{GathersOf, SaysOf};
@@ -28,13 +29,16 @@ pub trait ServerReplica: Sized + Drop {
     /// Whether a failed call has ended it.
     ghost failed: { Self → Bool };
 
-    /// The effect of a group: the replica before, its input (the bytes of a datagram, or nothing for a tick), the
-    /// letters that it produces, and the replica after.
+    /// The effect of a group: the replica before, its inputs (the bytes of a datagram, or nothing for a tick or a
+    /// nudge), the letters that they produce, and the replica after.
     ghost Says: { Self → List (Option (List ℕ)) → List LetterValue → Self → Type 0 };
 
     /// The middle of a group: the replica when the group began, its input since, the group so far, and the replica
     /// now.
     ghost Gathers: { Self → List (Option (List ℕ)) → GroupValue → Self → Type 0 };
+
+    /// A call of `gather` that succeeded: the replica and the group before it, its input, and both after it.
+    ghost Takes: { Self → GroupValue → InputValue → Self → GroupValue → Type 0 };
 
     /// Whether it may show this state to a probe.
     ghost Shows: { Self → ProbedStateValue → Type 0 };
@@ -46,12 +50,14 @@ pub trait ServerReplica: Sized + Drop {
     fn new_group(&self, alloc: Global) -> Group
         ensures empty { Gathers self.now [] result self.now };
 
-    /// Takes a tick or a datagram into a group, as `Replica::gather` does. Nothing is sent before `release`, and
-    /// nothing of a rejected group ever is. Any error ends the replica.
+    /// Takes a tick, a nudge or a datagram into a group, as `Replica::gather` does. Nothing is sent before `release`,
+    /// and nothing of a rejected group ever is. Any error ends the replica.
     fn gather(&mut self, input: Input, group: &mut Group) -> Result<(), ReplicaFault>
         // The group goes on with one input more.
         ensures gathers { OnOk result
             (GathersMore Gathers (heard_by input.entry ∷ []) group.old group.new self.old self.new) }
+        // It has taken exactly this input: a tick is no nudge.
+        ensures takes { OnOk result (Takes self.old group.old input.entry self.new group.new) }
         // The group ends, and has said nothing.
         ensures silent { OnErr result
             (SaysNoMore Says Gathers (heard_by input.entry ∷ []) group.old self.old self.new) }
@@ -97,6 +103,9 @@ impl<M: Machine, D: LogDisk + Drop> ServerReplica for Replica<M, D> {
 
     ghost Gathers = { λ start given group now. D.is_honest
         → GathersOf M.meaning M.IsText D.is_metered start given group now };
+
+    ghost Takes = { λ old before input new now. D.is_honest
+        → IsGathered M.meaning M.IsText D.is_metered old.node old.store before input new.node new.store now };
 
     ghost Shows = { IsShown };
 

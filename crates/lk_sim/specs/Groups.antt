@@ -1,6 +1,5 @@
 -- The steps of a group in a world: what a node takes together, and what they add to the trace.
-use Rattle.std.specs.Prelude.{◌≡◌, ℕ, ◌++◌, List, [], ◌∷◌, Option, Some, None, Contains, Vec}
-use Rattle.std.specs.Global.{Global}
+use Rattle.std.specs.Prelude.{◌≡◌, ◌++◌, List, [], ◌∷◌, Option, Some, None, Contains}
 use Rattle.lk_node_interface.specs.declared.input.Input.{Input}
 use Rattle.lk_node_interface.specs.declared.input.Input.TheVariants.{Tick, Nudge, Datagram as Heard}
 use Rattle.lk_node_interface.specs.declared.note.Note.{Note}
@@ -8,6 +7,8 @@ use Rattle.lk_node.specs.Histories.{Datagram}
 use Rattle.lk_replica.specs.Together.{Said}
 use Rattle.lk_sim.specs.Refusals.{datagram_at}
 use Rattle.lk_sim_nodes.specs.Told.{NotesReplies}
+use Rattle.lk_sim.specs.declared.copied_input.CopiedInput.{CopiedInput}
+use Rattle.lk_sim.specs.declared.copied_input.CopiedInput.TheVariants as copied_input
 use Rattle.lk_sim.specs.declared.event.GroupInput.{GroupInput}
 use Rattle.lk_sim.specs.declared.event.GroupInput.TheVariants as group_input
 
@@ -18,20 +19,22 @@ abbrev pub bringing : Option Datagram → Input
 bringing None = Tick
 bringing (Some d) = Heard d.bytes
 
--- what an input of a group gives: a tick, or the datagram's bytes
+-- what an input of a group gives: a tick, a nudge, or the datagram's bytes
 abbrev pub given_by : List Datagram → GroupInput → Input
 given_by sent group_input.Tick = Tick
+given_by sent (group_input.Nudge withheld) = Nudge withheld
 given_by sent (group_input.Deliver k) = bringing (datagram_at sent k)
 
--- these bytes, as they are copied, or a tick where there are none
-abbrev pub copied : Option (Vec ℕ Global) → Input
-copied None = Tick
-copied (Some bytes) = Heard bytes.items
+-- the input of which this is a copy
+abbrev pub input_of : CopiedInput → Input
+input_of copied_input.Tick = Tick
+input_of (copied_input.Nudge withheld) = Nudge withheld
+input_of (copied_input.Datagram bytes) = Heard bytes.items
 
 -- a tick, a nudge, or a datagram that was sent
 abbrev pub WasSentTo : List Datagram → Input → Type 0
 WasSentTo sent Tick = Unit {0}
-WasSentTo sent Nudge = Unit {0}
+WasSentTo sent (Nudge withheld) = Unit {0}
 WasSentTo sent (Heard bytes) = (d : Datagram) × Contains sent d × (bytes ≡ d.bytes)
 
 -- each of these inputs is a tick, a nudge, or a datagram that was sent

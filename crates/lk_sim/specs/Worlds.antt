@@ -48,7 +48,12 @@ pub record WorldInvariant {R : Type 0} (Shows : R → Genesis → ℕ → Holdin
   -- what was answered is borne out by what had been asked by then
   pub in_time : InTime m genesis sent trace
 
--- the same of the parts of a world
+-- the same of what is seen of a world
+abbrev pub KeepsInvariant : {R : Type 0} → (R → Genesis → ℕ → Holding → Type 0) → (R → Side → Disk)
+    → Meaning → Scene R → Type 0
+KeepsInvariant Shows disks m w = WorldInvariant Shows disks m w.genesis w.seats w.sent w.trace
+
+-- and of its parts
 abbrev pub PartsKeepInvariant : {R : Type 0} → (R → Genesis → ℕ → Holding → Type 0) → (R → Side → Disk)
     → Meaning → WorldParts R → Type 0
 PartsKeepInvariant Shows disks m p = WorldInvariant Shows disks m p.genesis p.seats.items p.sent.items p.trace.items

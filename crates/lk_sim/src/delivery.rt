@@ -49,16 +49,21 @@ pub fn tick<R: MemoryReplica>(parts: &mut WorldParts<R>, number: NodeNo) -> Resu
     Ok(())
 }
 
-/// Nudges a node that is up.
-pub fn nudge<R: MemoryReplica>(parts: &mut WorldParts<R>, number: NodeNo) -> Result<(), Refused>
+/// Nudges a node that is up, and says whether its ticks are withheld.
+pub fn nudge<R: MemoryReplica>(
+    parts: &mut WorldParts<R>,
+    number: NodeNo,
+    are_ticks_withheld: bool,
+) -> Result<(), Refused>
     requires { PartsKeepInvariant R.Shows (disks_by R.behaves) R.meaning parts.old }
     ensures holds { PartsKeepInvariant R.Shows (disks_by R.behaves) R.meaning parts.new }
-    ensures ok { OnOk result (IsExecuted R.behaves (scene_of parts.old) (event.Nudge number) (scene_of parts.new)) }
-    ensures err { IfErr result
-        (λ e. IsRefused R.behaves (scene_of parts.old) (event.Nudge number) e (scene_of parts.new)) }
+    ensures ok { OnOk result
+        (IsExecuted R.behaves (scene_of parts.old) (event.Nudge number are_ticks_withheld) (scene_of parts.new)) }
+    ensures err { IfErr result (λ e. IsRefused
+        R.behaves (scene_of parts.old) (event.Nudge number are_ticks_withheld) e (scene_of parts.new)) }
 {
     let i = find_ready(parts, number)?;
-    give(parts, i, Input::Nudge, None)?;
+    give(parts, i, Input::Nudge { are_ticks_withheld }, None)?;
     Ok(())
 }
 

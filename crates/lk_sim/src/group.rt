@@ -4,11 +4,12 @@ ghost use Rattle.lk_replica.specs.Behaviours.{disks_by};
 ghost use Rattle.lk_replica.specs.Together.{parts_of};
 ghost use Rattle.lk_sim_nodes.specs.Seats.{IsUpAt};
 ghost use Rattle.lk_sim.specs.Events.{IsGivenTogether, IsHalted, IsNotGrouped, LeftByGroup};
-ghost use Rattle.lk_sim.specs.Groups.{AreNotesOf, WereSentTo, copied, given_by};
-ghost use Rattle.lk_sim.specs.Refusals.{AreFor, IsFor, MayGroup};
+ghost use Rattle.lk_sim.specs.Groups.{AreNotesOf, WereSentTo, bringing, given_by, input_of};
+ghost use Rattle.lk_sim.specs.Refusals.{AreFor, IsFor, MayGroup, datagram_at};
 ghost use Rattle.lk_sim.specs.Concluded.{HasAddedSteps, HasGivenUp, HasConcludedSteps};
 ghost use Rattle.lk_sim.specs.Worlds.{PartsKeepInvariant, scene_of};
 
+use crate::copied_input::CopiedInput;
 use crate::datagrams::{datagram, has_room};
 use crate::event::GroupInput;
 use crate::giving::append_both;
@@ -103,7 +104,7 @@ fn finish_group<R: MemoryReplica>(
     }
 }
 
-// Gives the inputs to the node at place `i`, which is up, as one group: ticks, and datagrams that were sent.
+// Gives the inputs to the node at place `i`, which is up, as one group: ticks, nudges, and datagrams that were sent.
 fn give_all<R: MemoryReplica>(
     parts: &mut WorldParts<R>,
     i: usize,
@@ -125,7 +126,7 @@ fn give_all<R: MemoryReplica>(
     Ok(())
 }
 
-// Whether the input is a tick, or its datagram exists and is addressed to the node.
+// Whether the input is a tick or a nudge, or its datagram exists and is addressed to the node.
 fn is_for(sent: &[Datagram], number: NodeNo, group_input: GroupInput) -> bool
     ensures { IsTrue result ↔ IsFor sent.now number group_input }
 {
@@ -147,48 +148,56 @@ fn are_for(sent: &[Datagram], number: NodeNo, group_inputs: &[GroupInput]) -> bo
         .all(|group_input| is_for(sent, number, *group_input))
 }
 
-// Copies the bytes of the input's datagram, as the group appends to the list that holds them; `None` for a tick.
-fn bytes_for<R: MemoryReplica>(
+// Copies the datagram at this place; a tick if there is none.
+fn copied_datagram<R: MemoryReplica>(
     parts: &WorldParts<R>,
-    group_input: GroupInput,
-) -> Result<Option<Vec<u8>>, NoMemory>
-    ensures { IfOk result (λ o. copied o ≡ given_by parts.now.sent.items group_input) }
+    k: usize,
+) -> Result<CopiedInput, NoMemory>
+    ensures { IfOk result (λ copy. input_of copy ≡ bringing (datagram_at parts.now.sent.items k)) }
 {
-    let GroupInput::Deliver(k) = group_input else {
-        return Ok(None);
-    };
     match datagram(&parts.sent, k) {
-        Some(found) => Ok(Some(found.bytes.to_vec(parts.alloc)?)),
-        None => Ok(None),
+        Some(found) => Ok(CopiedInput::Datagram(found.bytes.to_vec(parts.alloc)?)),
+        None => Ok(CopiedInput::Tick),
     }
 }
 
-// Copies the bytes of the datagram of each input, in order; `None` for a tick.
-fn bytes_for_all<R: MemoryReplica>(
+// Copies an input, with its datagram.
+fn copied<R: MemoryReplica>(
+    parts: &WorldParts<R>,
+    group_input: GroupInput,
+) -> Result<CopiedInput, NoMemory>
+    ensures { IfOk result (λ copy. input_of copy ≡ given_by parts.now.sent.items group_input) }
+{
+    match group_input {
+        GroupInput::Tick => Ok(CopiedInput::Tick),
+        GroupInput::Nudge { are_ticks_withheld } => Ok(CopiedInput::Nudge { are_ticks_withheld }),
+        GroupInput::Deliver(k) => copied_datagram(parts, k),
+    }
+}
+
+// Copies the inputs, in order.
+fn all_copied<R: MemoryReplica>(
     parts: &WorldParts<R>,
     group_inputs: &[GroupInput],
-) -> Result<Vec<Option<Vec<u8>>>, NoMemory>
-    ensures ok { IfOk result (λ l. map copied l.items ≡ map (given_by parts.now.sent.items) group_inputs.now) }
+) -> Result<Vec<CopiedInput>, NoMemory>
+    ensures ok { IfOk result (λ l. map input_of l.items ≡ map (given_by parts.now.sent.items) group_inputs.now) }
     ensures memory { OnErr result (0 < length group_inputs.now) }
 {
     let mut all = Vec::new(parts.alloc);
     'group_inputs: for group_input in group_inputs {
-        all.push(bytes_for(parts, *group_input)?)?;
+        all.push(copied(parts, *group_input)?)?;
     }
     Ok(all)
 }
 
-// Returns the node's inputs, one for each entry: a tick for `None`, or else these bytes as a datagram.
-fn inputs_of<'a>(alloc: Global, all: &'a [Option<Vec<u8>>]) -> Result<Vec<Input<'a>>, NoMemory>
-    ensures ok { IfOk result (λ l. l.items ≡ map copied all.now) }
+// Returns the inputs as a node takes them.
+fn inputs_of<'a>(alloc: Global, all: &'a [CopiedInput]) -> Result<Vec<Input<'a>>, NoMemory>
+    ensures ok { IfOk result (λ l. l.items ≡ map input_of all.now) }
     ensures memory { OnErr result (0 < length all.now) }
 {
     let mut inputs = Vec::new(alloc);
-    'all: for bytes in all {
-        inputs.push(match bytes {
-            Some(bytes) => Input::Datagram(lk_wire::Datagram::of(bytes)),
-            None => Input::Tick,
-        })?;
+    'all: for copy in all {
+        inputs.push(copy.as_input())?;
     }
     Ok(inputs)
 }
@@ -215,8 +224,8 @@ pub fn group<R: MemoryReplica>(
     if !has_room(&parts.sent) {
         return Err(Refused::WorldFull);
     }
-    let bytes = bytes_for_all(parts, group_inputs)?;
-    let inputs = inputs_of(parts.alloc, &bytes)?;
+    let copies = all_copied(parts, group_inputs)?;
+    let inputs = inputs_of(parts.alloc, &copies)?;
     give_all(parts, i, inputs)?;
     Ok(())
 }

@@ -27,7 +27,10 @@ pub fn happen<R: MemoryReplica>(parts: &mut WorldParts<R>, event: &Event) -> Res
         Event::Start(number) => start(parts, *number),
         Event::Restart(number) => restart(parts, *number),
         Event::Tick(number) => tick(parts, *number),
-        Event::Nudge(number) => nudge(parts, *number),
+        Event::Nudge {
+            number,
+            are_ticks_withheld,
+        } => nudge(parts, *number, *are_ticks_withheld),
         Event::Compact(number) => compact(parts, *number),
         Event::Client(number, request) => client(parts, *number, request),
         Event::Deliver(k) => deliver(parts, *k),

@@ -4,6 +4,7 @@
 
 mod client;
 mod compacting;
+mod copied_input;
 mod datagrams;
 mod delivery;
 mod end;

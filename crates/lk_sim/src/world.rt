@@ -42,6 +42,7 @@ impl<R: MemoryReplica> World<R> {
     ghost use Rattle.lk_sim.specs.Packed.{LeavesPackedState};
     ghost use Rattle.lk_sim.specs.Guarantees.{WorldGuarantee};
     ghost use Rattle.lk_sim.specs.Runs.{Runs};
+    ghost use Rattle.lk_sim.specs.Worlds.{KeepsInvariant};
     ghost use Rattle.lk_sim_nodes.specs.declared.seat.Seat.{Seat as SeatValue};
 
     /// Returns a world of this genesis in which no node was started and nothing was sent.
@@ -141,9 +142,11 @@ impl<R: MemoryReplica> World<R> {
         all_left(alloc, seats)
     }
 
-    /// Makes the guarantee available to proofs about this world. The function does nothing.
+    /// Makes the guarantee available to proofs about this world, and the whole invariant on which it rests. The
+    /// function does nothing.
     pub fn facts(&self)
         ensures guaranteed { WorldGuarantee R.behaves R.whole R.meaning self.now }
+        ensures keeps { KeepsInvariant R.Shows (disks_by R.behaves) R.meaning self.now }
     {
         let _ = &self.parts;
     }

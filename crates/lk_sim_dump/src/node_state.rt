@@ -10,13 +10,14 @@ ghost use Rattle.lk_sim_dump.specs.NodeStates.{IsStateOf, AreStatesOf, bound_for
 use lk_agreement_laws::Party;
 use lk_inspect::inspect::{inspect_device, write_found};
 use lk_inspect::inspection::Inspection;
+use lk_inspect::lines::Listing;
+use lk_program_fault::ProgramFault;
 use lk_replica::{Datagram, MemoryReplica};
 use lk_script::ending::end;
 use lk_script::mode::Mode;
 use lk_script::script::run_script;
 use lk_script_lines::fault::ScriptFault;
 use lk_sim::{LeftNode, World};
-use lk_transport::fault::ProgramFault;
 use lk_types::{NoMemory, NodeNo};
 use std::alloc::Global;
 use std::io;
@@ -84,7 +85,7 @@ fn write_store<W: Write>(
 ) -> io::Result<()> {
     match found {
         Ok(found) => {
-            write_found(found.as_ref(), out)?;
+            write_found(found.as_ref(), Listing::Held, out)?;
             Ok(())
         }
         Err(fault) => out.write_all(fault.text().as_bytes()),

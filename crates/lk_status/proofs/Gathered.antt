@@ -5,8 +5,8 @@ use Rattle.std.specs.declared.net.socket_addr.SocketAddr.{SocketAddr}
 use Rattle.lk_probe.specs.declared.probe.Report.{Report}
 use Rattle.lk_status.specs.declared.target.Inquiry.{Inquiry}
 use Rattle.lk_transport.specs.Streams.{Stream, Receives, next_of}
-use Rattle.lk_status.specs.Rounds.{IsOfRound, AreOfRound, Adds, HearsReport, ProbesEach, ReceivesNext, Reacts}
-use Rattle.lk_status.specs.Rounds.{HearsOne}
+use Rattle.lk_status.specs.Rounds.{IsOfRound, AreOfRound, Adds, HearsReport, ProbesEach, ProbesAgain, ReceivesNext}
+use Rattle.lk_status.specs.Rounds.{HearsOne, Reacts}
 use Rattle.lk_status.specs.Rounds.{HearsOut}
 use Rattle.lk_status.specs.Rounds.{IsRound}
 
@@ -45,7 +45,7 @@ module _ {S : Type 0} (sent : S → List (SocketAddr × List ℕ)) (incoming : S
 
   reacts_to_none : (next : Option (SocketAddr × List ℕ)) (heard asked : S) (old new : List Report) (before : S)
       (silences : ℕ) → is_some next ≡ false
-      → ProbesEach sent incoming failures i first i.targets.items new heard asked
+      → ProbesAgain sent incoming failures i first new heard asked
       → Reacts sent incoming failures i first next heard
       (record { socket = before; reports = old; silences = silences })
       (record { socket = asked; reports = new; silences = silences + 1 })
@@ -70,7 +70,7 @@ module _ {S : Type 0} (sent : S → List (SocketAddr × List ℕ)) (incoming : S
   pub hears_no_one : (before heard asked : S) (old new : List Report) (silences : ℕ)
       → ReceivesNext sent incoming failures before heard → HearsReport i first (next_of incoming before) old new
       → is_some (next_of incoming before) ≡ false
-      → ProbesEach sent incoming failures i first i.targets.items new heard asked
+      → ProbesAgain sent incoming failures i first new heard asked
       → HearsOne sent incoming failures i first (record { socket = before; reports = old; silences = silences })
       (record { socket = asked; reports = new; silences = silences + 1 })
   hears_no_one before heard asked old new silences receives hears none asks =
@@ -85,7 +85,7 @@ module _ {S : Type 0} (sent : S → List (SocketAddr × List ℕ)) (incoming : S
 
   -- it begins with no report and no silence
   pub round_of : {old asked new : S} {silent start rs : List Report} {zero silences : ℕ}
-      → ProbesEach sent incoming failures i first i.targets.items silent old asked
+      → ProbesEach sent incoming failures i true first i.targets.items silent old asked
       → HearsOut sent incoming failures i first (record { socket = asked; reports = start; silences = zero })
       (record { socket = new; reports = rs; silences = silences })
       → silent ≡ [] → start ≡ [] → zero ≡ 0 → IsRound sent incoming failures i first rs old new
@@ -94,7 +94,7 @@ module _ {S : Type 0} (sent : S → List (SocketAddr × List ℕ)) (incoming : S
         asked = asked;
         silences = silences;
         asks =
-            subst (λ (l : List Report). ProbesEach sent incoming failures i first i.targets.items l old asked) none
+            subst (λ (l : List Report). ProbesEach sent incoming failures i true first i.targets.items l old asked) none
             asks;
         hears = subst (λ (n : ℕ). HearsOut sent incoming failures i first
             (record { socket = asked; reports = []; silences = n })

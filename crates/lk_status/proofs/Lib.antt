@@ -1,3 +1,4 @@
 mod Serving
 mod Gathered
 mod Measuring
+mod Looking

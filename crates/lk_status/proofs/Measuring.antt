@@ -14,6 +14,7 @@ use Rattle.lk_status.specs.Verdicts.{IsAmong}
 use Rattle.lk_status.specs.Measures.{has_genesis, those_of, count_naming, outweighs, more_named, IsMostNamed}
 use Rattle.lk_status.specs.Measures.{IsMostNamedOf}
 use Rattle.lk_status.specs.Measures.{IsFurthest, IsFurthestOf, executed_of, further, IsMeasureOf}
+use Rattle.lk_status.specs.Measures.{IsFurthestNamedOf}
 
 among_front : (rs : List Report) (r o : Report) → IsAmong r rs → IsAmong r (rs ++ o ∷ [])
 among_front [] r o there = absurd there
@@ -218,3 +219,8 @@ by_furthest rs r (Some found) named unled furthest =
           ∙ it));
       furthest = λ _. furthest;
     }
+
+pub furthest_named : (rs : List Report) (r : Report) (found : Option Report) → IsMostNamed rs r
+    → IsFurthestOf (those_of (genesis r) rs) found → IsFurthestNamedOf rs found
+furthest_named rs r None named none = absurd (has_some rs r named.is_there none)
+furthest_named rs r (Some found) named furthest = record { named = r; most_named = named; furthest = furthest }

@@ -1,13 +1,15 @@
 -- The test is right: it holds exactly where the cluster is served.
-use Rattle.std.proofs.Common.{◌≡◌, ◌⊎◌, ℕ, Bool, true, false, ◌&&◌, ◌||◌, List, [], ◌∷◌, refl, sym, ap, subst, ◌∙◌, inl}
-use Rattle.std.proofs.Common.{inr}
+use Rattle.std.proofs.Common.{◌≡◌, ◌⊎◌, ◌<◌, ◌*◌, ℕ, Bool, true, false, ◌&&◌, ◌||◌, List, [], ◌∷◌, length, Option, Some}
+use Rattle.std.proofs.Common.{None, refl, sym, ap, subst, ◌∙◌, inl, inr}
 use Rattle.std.specs.Prelude.{nat_eq}
 use Rattle.std.specs.Cmp.Lexicographic.{pointwise}
 use Rattle.std.specs.List.{AllByRecursion}
 use Rattle.std.proofs.lemmas.Bool.{ltb-true, lt-ltb}
 use lib.Pointwise.{bytes_decides}
 use Rattle.lk_probe.specs.declared.probe.Report.{Report}
-use Rattle.lk_status.specs.Verdicts.{IsAmong, has_majority, IsServed, some_leads, all_name, one_genesis, is_served}
+use Rattle.lk_probe.specs.Grammar.{heard_of}
+use Rattle.lk_status.specs.Verdicts.{IsAmong, has_followers, IsServed, some_leads, all_name, one_genesis, is_served}
+use Rattle.lk_status.specs.Verdicts.{hears_enough, HearsMajority, is_enough}
 
 both_true : (a b : Bool) → (a && b) ≡ true → (a ≡ true) × (b ≡ true)
 both_true true b e = (refl, e)
@@ -28,25 +30,50 @@ record Leads (leaders rs : List Report) : Type 0 where
   leader : Report
   is_there : IsAmong leader leaders
   leads : leader.status.leadership.leads ≡ true
-  majority : has_majority leader rs ≡ true
+  hears : hears_enough leader ≡ true
+  majority : has_followers leader rs ≡ true
 
 leads_to : (leaders rs : List Report) → some_leads leaders rs ≡ true → Leads leaders rs
 leads_to [] rs e = absurd cc
 leads_to (r ∷ leaders) rs e =
-    elim (either_true (r.status.leadership.leads && has_majority r rs) (some_leads leaders rs) e) [
-      | inl this ↦ let both = both_true r.status.leadership.leads (has_majority r rs) this in
-          record { leader = r; is_there = inl refl; leads = both.0; majority = both.1 }
+    elim (either_true (r.status.leadership.leads && hears_enough r && has_followers r rs) (some_leads leaders rs) e) [
+      | inl this ↦
+          let both = both_true (r.status.leadership.leads && hears_enough r) (has_followers r rs) this in
+          let first = both_true r.status.leadership.leads (hears_enough r) both.0 in
+          record { leader = r; is_there = inl refl; leads = first.0; hears = first.1; majority = both.1 }
       | inr others ↦ let more = leads_to leaders rs others in
-          record { leader = more.leader; is_there = inr more.is_there; leads = more.leads; majority = more.majority }
+          record {
+            leader = more.leader;
+            is_there = inr more.is_there;
+            leads = more.leads;
+            hears = more.hears;
+            majority = more.majority;
+          }
     ]
 
 leads_from : (leaders rs : List Report) (r : Report) → IsAmong r leaders → r.status.leadership.leads ≡ true
-    → has_majority r rs ≡ true → some_leads leaders rs ≡ true
-leads_from [] rs r there leads majority = absurd there
-leads_from (other ∷ leaders) rs r (inl same) leads majority = rw (sym same, leads, majority) refl
-leads_from (other ∷ leaders) rs r (inr there) leads majority =
-    or_true (other.status.leadership.leads && has_majority other rs) (some_leads leaders rs)
-    (leads_from leaders rs r there leads majority)
+    → hears_enough r ≡ true → has_followers r rs ≡ true → some_leads leaders rs ≡ true
+leads_from [] rs r there leads hears majority = absurd there
+leads_from (other ∷ leaders) rs r (inl same) leads hears majority = rw (sym same, leads, hears, majority) refl
+leads_from (other ∷ leaders) rs r (inr there) leads hears majority =
+    or_true (other.status.leadership.leads && hears_enough other && has_followers other rs) (some_leads leaders rs)
+    (leads_from leaders rs r there leads hears majority)
+
+-- ---- whom it hears
+
+-- the test of a report is right
+heard_to : (r : Report) → hears_enough r ≡ true → HearsMajority r
+heard_to r e heard is =
+    let enough : is_enough (Some heard) (length r.status.members) ≡ true =
+    subst (λ (o : Option ℕ). is_enough o (length r.status.members) ≡ true) is e in
+    ltb-true _ _ enough
+
+enough_of : (o : Option ℕ) (count : ℕ) → ((heard : ℕ) → o ≡ Some heard → count < 2 * heard) → is_enough o count ≡ true
+enough_of None count many = refl
+enough_of (Some heard) count many = lt-ltb _ _ (many heard refl)
+
+heard_from : (r : Report) → HearsMajority r → hears_enough r ≡ true
+heard_from r many = enough_of (heard_of r.reach) (length r.status.members) many
 
 -- ---- which genesis is told
 
@@ -99,9 +126,13 @@ is_right rs e =
       is_there = it.is_there;
       leads = it.leads;
       majority = ltb-true _ _ it.majority;
+      hears = heard_to it.leader it.hears;
       one_genesis = one_to rs it.leader it.is_there both.1;
     }
 
 pub is_shown : (rs : List Report) → IsServed rs → is_served rs ≡ true
 is_shown rs s =
-    rw (leads_from rs rs s.leader s.is_there s.leads (lt-ltb _ _ s.majority), one_from rs s.leader s.one_genesis) refl
+    rw (
+      leads_from rs rs s.leader s.is_there s.leads (heard_from s.leader s.hears) (lt-ltb _ _ s.majority),
+      one_from rs s.leader s.one_genesis,
+    ) refl

@@ -2,3 +2,5 @@ pub mod Verdicts
 pub mod Rounds
 pub mod Measures
 pub mod Targets
+pub mod Changes
+pub mod Looks

@@ -84,6 +84,19 @@ abbrev pub IsMeasureOf : List Report → Option Report → Type 0
 IsMeasureOf rs None = rs ≡ []
 IsMeasureOf rs (Some r) = IsMeasure rs r
 
+-- ---- the furthest
+
+-- of the reports whose genesis most nodes name, none has executed more
+pub record IsFurthestNamed (rs : List Report) (r : Report) : Type 0 where
+  pub named : Report
+  pub most_named : IsMostNamed rs named
+  pub furthest : IsFurthest (those_of named.status.identity.genesis rs) r
+
+-- one that has executed most of these, if there is any report
+abbrev pub IsFurthestNamedOf : List Report → Option Report → Type 0
+IsFurthestNamedOf rs None = rs ≡ []
+IsFurthestNamedOf rs (Some r) = IsFurthestNamed rs r
+
 -- ---- of two reports
 
 -- the first outweighs the other, if there is one

@@ -60,31 +60,44 @@ HearsReport i first (Some d) old new = Adds i first d.1 old new
 
 -- ---- what is sent
 
--- the bytes of the probe with this token, in a frame of its client if there is a key
-abbrev pub probe_frame : Inquiry → ℕ → List ℕ
-probe_frame i token =
+-- the bytes of the probe with this token, which asks for a reach or does not, in a frame of its client if there is a
+-- key
+abbrev pub probe_frame : Inquiry → Bool → ℕ → List ℕ
+probe_frame i asks token =
     framed_by (key_list i.destination.seals.keys) (asking i.destination.seals.cluster (or_zero i.client))
-    (probe_spelling (record { cluster = i.cluster; origin = None; client = i.client; token = token }))
+    (probe_spelling (record {
+      cluster = i.cluster;
+      origin = None;
+      client = i.client;
+      token = token;
+      asks_reach = asks;
+    }))
 
 -- what a kind of socket has sent, what its receives are to find, and how many of its sends have failed
 module _ {S : Type 0} (sent : S → List (SocketAddr × List ℕ)) (incoming : S → Stream) (failures : S → ℕ)
     (i : Inquiry) where
   -- the probe goes to a target, or its send fails, which is counted; nothing is received meanwhile
-  pub record Probes (token : ℕ) (t : Target) (old new : S) : Type 0 where
-    pub sends : SendsOnce (target_address i t, t.port) (probe_frame i token) (sent old) (failures old)
+  pub record Probes (asks : Bool) (token : ℕ) (t : Target) (old new : S) : Type 0 where
+    pub sends : SendsOnce (target_address i t, t.port) (probe_frame i asks token) (sent old) (failures old)
         (sent new) (failures new)
     pub still : incoming new ≡ incoming old
 
   -- nothing is sent to one that has answered
-  abbrev pub ProbesUnless : Bool → ℕ → Target → S → S → Type 0
-  ProbesUnless true token t old new = new ≡ old
-  ProbesUnless false token t old new = Probes token t old new
+  abbrev pub ProbesUnless : Bool → Bool → ℕ → Target → S → S → Type 0
+  ProbesUnless asks true token t old new = new ≡ old
+  ProbesUnless asks false token t old new = Probes asks token t old new
 
   -- each target that has not answered is asked, in turn: the first with this token, and each other with the next
-  abbrev pub ProbesEach : ℕ → List Target → List Report → S → S → Type 0
-  ProbesEach token [] rs old new = new ≡ old
-  ProbesEach token (t ∷ ts) rs old new =
-      (mid : S) × ProbesUnless (has_token token rs) token t old mid × ProbesEach ((token + 1) % (2 ^ 64)) ts rs mid new
+  abbrev pub ProbesEach : Bool → ℕ → List Target → List Report → S → S → Type 0
+  ProbesEach asks token [] rs old new = new ≡ old
+  ProbesEach asks token (t ∷ ts) rs old new =
+      (mid : S) × ProbesUnless asks (has_token token rs) token t old mid
+      × ProbesEach asks ((token + 1) % (2 ^ 64)) ts rs mid new
+
+  -- each is asked once more, first for a reach, and then without one, since older nodes answer only that
+  abbrev pub ProbesAgain : ℕ → List Report → S → S → Type 0
+  ProbesAgain first rs old new =
+      (mid : S) × ProbesEach true first i.targets.items rs old mid × ProbesEach false first i.targets.items rs mid new
 
 -- ---- a round
 
@@ -114,7 +127,7 @@ module _ {S : Type 0} (sent : S → List (SocketAddr × List ℕ)) (incoming : S
     abbrev pub Reacts : Option (SocketAddr × List ℕ) → S → Asker S → Asker S → Type 0
     Reacts None heard old new =
         (new.silences ≡ old.silences + 1)
-        × ProbesEach sent incoming failures i first i.targets.items new.reports heard new.socket
+        × ProbesAgain sent incoming failures i first new.reports heard new.socket
     Reacts (Some d) heard old new = (new.silences ≡ old.silences) × (new.socket ≡ heard)
 
     -- a receive: what came is added if it is a report that is awaited
@@ -134,11 +147,11 @@ module _ {S : Type 0} (sent : S → List (SocketAddr × List ℕ)) (incoming : S
       pub heard : Repeats HearsNext receives old new
       pub over : IsOver i new.reports new.silences ⊎ (receives ≡ 10000)
 
-    -- a round: all targets are asked, and then these reports, and no others, are what is heard
+    -- a round: all targets are asked for a reach, and then these reports, and no others, are what is heard
     pub record IsRound (reports : List Report) (old new : S) : Type 0 where
       pub asked : S
       pub silences : ℕ
-      pub asks : ProbesEach sent incoming failures i first i.targets.items [] old asked
+      pub asks : ProbesEach sent incoming failures i true first i.targets.items [] old asked
       pub hears : HearsOut (record { socket = asked; reports = []; silences = 0 })
           (record { socket = new; reports = reports; silences = silences })
 

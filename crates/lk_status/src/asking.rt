@@ -4,34 +4,42 @@ ghost use Rattle.std.specs.Prelude.{◌≡◌, ◌↔◌, ◌<◌, false, is_som
 ghost use Rattle.lk_probe.specs.declared.probe.Report.{Report as ReportValue};
 ghost use Rattle.lk_transport.specs.Streams.{next_of};
 ghost use Rattle.lk_status.specs.Rounds.{IsOfRound, AreOfRound, IsReport, IsAwaited, Adds, HearsReport, has_token};
-ghost use Rattle.lk_status.specs.Rounds.{Probes};
-ghost use Rattle.lk_status.specs.Rounds.{ProbesUnless, ProbesEach, GoesOn, IsOver, ReceivesNext, HearsOne, HearsOut};
-ghost use Rattle.lk_status.specs.Rounds.{IsRound};
+ghost use Rattle.lk_status.specs.Rounds.{Probes, ProbesUnless, ProbesEach, ProbesAgain, GoesOn, IsOver, ReceivesNext};
+ghost use Rattle.lk_status.specs.Rounds.{HearsOne, HearsOut, IsRound};
 
 use crate::target::{Inquiry, Target, is_reported};
 use lk_probe::Report;
-use lk_transport::fault::ProgramFault;
+use lk_program_fault::ProgramFault;
 use lk_transport::receive_buffer::ReceiveBuffer;
 use lk_transport::socket::DatagramSocket;
 use std::alloc::Global;
 
+/// The tokens of a round: more than it can have targets, so that a late report of an earlier round fits none of its
+/// probes.
+pub const TOKENS: u64 = 256;
+
 // The most receives of a round, so that datagrams that are not awaited cannot keep it going.
 const RECEIVES: u32 = 10_000;
 
-// Sends the probe with that token to a target. Ignores a failed send: a silent target is probed again.
+// A pause drops at most this many datagrams.
+const LATE: u32 = 64;
+
+// Sends the probe with that token to a target, in form 2 if it asks for a reach. Ignores a failed send: a silent target
+// is probed again.
 fn send_probe<S: DatagramSocket>(
     socket: &mut S,
     inquiry: &Inquiry,
     target: &Target,
+    asks_reach: bool,
     token: u64,
     frame: &mut Vec<u8>,
 ) -> Result<(), ProgramFault>
     ensures { OnOk result (S.is_observable
-        → Probes S.sent S.incoming S.failures inquiry.now token target.now socket.old socket.new) }
+        → Probes S.sent S.incoming S.failures inquiry.now asks_reach token target.now socket.old socket.new) }
 {
-    let probe = inquiry.probe(token).datagram();
+    let probe = inquiry.probe(token, asks_reach).datagram();
     let seals = &inquiry.destination.seals;
-    let framed = seals.frame_of(inquiry.client_number(), &probe, frame)?;
+    let framed = seals.frame_of(inquiry.client_number(), probe.as_slice(), frame)?;
     let _ = socket.send_to(inquiry.address_of(target), framed);
     Ok(())
 }
@@ -41,23 +49,49 @@ fn probe_target<S: DatagramSocket>(
     socket: &mut S,
     inquiry: &Inquiry,
     target: &Target,
+    asks_reach: bool,
     token: u64,
     reports: &[Report],
     frame: &mut Vec<u8>,
 ) -> Result<(), ProgramFault>
     ensures { OnOk result (S.is_observable
-        → ProbesUnless S.sent S.incoming S.failures inquiry.now
+        → ProbesUnless S.sent S.incoming S.failures inquiry.now asks_reach
         (has_token token reports.now) token target.now socket.old socket.new) }
 {
     if is_reported(reports, token) {
         return Ok(());
     }
-    send_probe(socket, inquiry, target, token, frame)
+    send_probe(socket, inquiry, target, asks_reach, token, frame)
 }
 
-// Sends a probe to each target that has not reported, the first with the token `first` and each other with the next.
-// Ignores failed sends.
+// Sends a probe to each target that has not reported, the first with the token `first` and each other with the next, in
+// form 2 if it asks for a reach. Ignores failed sends.
 fn send_probes<S: DatagramSocket>(
+    alloc: Global,
+    socket: &mut S,
+    inquiry: &Inquiry,
+    asks_reach: bool,
+    first: u64,
+    reports: &[Report],
+) -> Result<(), ProgramFault>
+    ensures { OnOk result (S.is_observable
+        → ProbesEach S.sent S.incoming S.failures inquiry.now asks_reach first inquiry.now.targets.items
+        reports.now socket.old socket.new) }
+{
+    let mut frame = Vec::new(alloc);
+    let mut token = first;
+    let targets = inquiry.targets.as_slice();
+    'targets: for target in targets {
+        probe_target(
+            socket, inquiry, target, asks_reach, token, reports, &mut frame,
+        )?;
+        token = token.wrapping_add(1);
+    }
+    Ok(())
+}
+
+// Sends a probe of form 2 to each target that has not reported, and then one of form 1: older nodes answer no other.
+fn probe_again<S: DatagramSocket>(
     alloc: Global,
     socket: &mut S,
     inquiry: &Inquiry,
@@ -65,27 +99,21 @@ fn send_probes<S: DatagramSocket>(
     reports: &[Report],
 ) -> Result<(), ProgramFault>
     ensures { OnOk result (S.is_observable
-        → ProbesEach S.sent S.incoming S.failures inquiry.now first inquiry.now.targets.items
-        reports.now socket.old socket.new) }
+        → ProbesAgain S.sent S.incoming S.failures inquiry.now first reports.now socket.old socket.new) }
 {
-    let mut frame = Vec::new(alloc);
-    let mut token = first;
-    let targets = inquiry.targets.as_slice();
-    'targets: for target in targets {
-        probe_target(socket, inquiry, target, token, reports, &mut frame)?;
-        token = token.wrapping_add(1);
-    }
+    send_probes(alloc, socket, inquiry, true, first, reports)?;
+    send_probes(alloc, socket, inquiry, false, first, reports)?;
     Ok(())
 }
 
-// Whether a report answers a probe of the round: its token is that of a target, and cluster and client are the
-// inquiry's.
+// Whether a report, of either form, answers a probe of the round: its token is that of a target, and cluster and client
+// are the inquiry's.
 fn is_of_round(inquiry: &Inquiry, first: u64, report: &Report) -> bool
     ensures { IsTrue result ↔ IsOfRound inquiry.now first report.now }
 {
     let token = report.token;
     let is_within = first <= token && token - first < inquiry.targets.len() as u64;
-    is_within && report.is_for(&inquiry.probe(token))
+    is_within && report.is_for(&inquiry.probe(token, false))
 }
 
 // Whether a report answers a probe of the round that none of the others has answered.
@@ -172,7 +200,8 @@ fn receive_report<S: DatagramSocket>(
     Ok(true)
 }
 
-// Receives the next datagram. If none arrived, adds one to `silences`, and probes the silent targets again.
+// Receives the next datagram. If none arrived, adds one to `silences`, and probes the silent targets again, in both
+// forms.
 #[tactic(auto, using(crate::proofs::Gathered::hears_some_one, crate::proofs::Gathered::hears_no_one))]
 fn receive_or_probe<S: DatagramSocket>(
     alloc: Global,
@@ -192,7 +221,7 @@ fn receive_or_probe<S: DatagramSocket>(
 {
     if !receive_report(socket, buffer, inquiry, first, reports)? {
         *silences += 1;
-        send_probes(alloc, socket, inquiry, first, reports)?;
+        probe_again(alloc, socket, inquiry, first, reports)?;
     }
     Ok(())
 }
@@ -240,10 +269,10 @@ fn collect_reports<S: DatagramSocket>(
     Ok(())
 }
 
-/// Runs a round: probes all targets, the first with the token `first` and each other with the next, and collects their
-/// reports, at most one each. It ends when each target has reported, receives brought nothing as often as the inquiry's
-/// `patience`, or there were 10,000 receives. Each receive that brought nothing probes the silent targets again, and
-/// adds one to `idle`.
+/// Runs a round: probes all targets in form 2, the first with the token `first` and each other with the next, and
+/// collects their reports, at most one each. It ends when each target has reported, receives brought nothing as often
+/// as the inquiry's `patience`, or there were 10,000 receives. Each receive that brought nothing probes the silent
+/// targets again, in both forms, and adds one to `idle`.
 pub fn probe_all<S: DatagramSocket>(
     alloc: Global,
     socket: &mut S,
@@ -257,8 +286,25 @@ pub fn probe_all<S: DatagramSocket>(
     ensures of_round { IfOk result (λ rs. AreOfRound inquiry.now first rs.items) }
 {
     let (mut reports, mut silences) = (Vec::new(alloc), 0u32);
-    send_probes(alloc, socket, inquiry, first, &reports)?;
+    send_probes(alloc, socket, inquiry, true, first, &reports)?;
     collect_reports(alloc, socket, inquiry, first, &mut reports, &mut silences)?;
     *idle = idle.saturating_add(silences);
     Ok(reports)
+}
+
+// Waits until a receive of 100 ms brings nothing, and drops what came before that: reports that were late, at most 64.
+fn drop_late_reports<S: DatagramSocket>(socket: &mut S) {
+    let mut buffer = ReceiveBuffer::new();
+    'late: for _ in 0..LATE {
+        receive(socket, &mut buffer);
+        if buffer.latest().is_none() {
+            return;
+        }
+    }
+}
+
+/// Pauses between two rounds, for 100 ms or a little longer, and adds one to `idle`.
+pub fn pause<S: DatagramSocket>(socket: &mut S, idle: &mut u32) {
+    drop_late_reports(socket);
+    *idle = idle.saturating_add(1);
 }

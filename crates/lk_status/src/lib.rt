@@ -2,6 +2,8 @@
 #![tactic(auto)]
 
 pub mod asking;
+pub mod change;
+pub mod look;
 pub mod measure;
 pub mod target;
 pub mod verdict;

@@ -5,7 +5,7 @@ ghost use Rattle.std.specs.Option.{option_copied};
 ghost use Rattle.lk_status.specs.Measures.{has_genesis, is_named_by, is_last_to_name, count_naming, wins_tie};
 ghost use Rattle.lk_status.specs.Measures.{outweighs};
 ghost use Rattle.lk_status.specs.Measures.{is_named_more, more_named, IsMostNamedOf, further, those_of};
-ghost use Rattle.lk_status.specs.Measures.{IsFurthestOf};
+ghost use Rattle.lk_status.specs.Measures.{IsFurthestOf, IsFurthestNamedOf};
 ghost use Rattle.lk_status.specs.Measures.{IsMeasureOf, executed_of};
 
 use lk_probe::{DIGEST, Report};
@@ -151,6 +151,17 @@ pub fn reference_report<'a>(reports: &'a [Report]) -> Option<&'a Report>
     if named.status.leadership.leads {
         return Some(named);
     }
+    furthest_in(&named.status.identity.genesis, reports)
+}
+
+/// Returns the report of a node that has executed most, of the nodes with the genesis that most nodes name. `None`
+/// without reports.
+pub fn furthest_report<'a>(reports: &'a [Report]) -> Option<&'a Report>
+    ensures { IsFurthestNamedOf reports.now (option_copied result) }
+{
+    let Some(named) = most_named_in(reports) else {
+        return None;
+    };
     furthest_in(&named.status.identity.genesis, reports)
 }
 

@@ -5,12 +5,13 @@ ghost use Rattle.std.specs.Net.Socket.{socket_ip, socket_port};
 ghost use Rattle.std.specs.Prelude.{◌≡◌, None, is_some, map, IfOk, IfSome};
 ghost use Rattle.lk_probe.specs.Grammar.{or_zero};
 ghost use Rattle.lk_status.specs.Rounds.{has_token, report_of};
-ghost use Rattle.lk_status.specs.Targets.{SpellsTarget, SpellTargets, target_address};
+ghost use Rattle.lk_status.specs.Targets.{SpellsTarget, SpellTargets, target_address, target_place};
+ghost use Rattle.lk_status.specs.Targets.{targets_at};
 
-use lk_client::destination::Destination;
+use lk_client::destination::{Destination, Place};
 use lk_probe::{Probe, Report};
-use lk_transport::fault::ProgramFault;
-use lk_types::{ClientNo, NodeNo, Port};
+use lk_program_fault::ProgramFault;
+use lk_types::{ClientNo, Member, NodeNo, Port};
 use lk_word_parsers::member::member_of;
 use lk_word_parsers::operation::port_of;
 use std::alloc::Global;
@@ -69,6 +70,20 @@ pub fn targets_of(alloc: Global, words: &[&str]) -> Result<Option<Vec<Target>>, 
     Ok(Some(targets))
 }
 
+/// Returns these members as targets, each at its own port.
+pub fn targets_at(alloc: Global, members: &[Member]) -> Result<Vec<Target>, ProgramFault>
+    ensures { IfOk result (λ ts. ts.items ≡ targets_at members.now) }
+{
+    let mut targets = Vec::new(alloc);
+    'members: for member in members {
+        targets.push(Target {
+            node: Some(member.node),
+            port: member.port,
+        })?;
+    }
+    Ok(targets)
+}
+
 impl Inquiry {
     /// The client that its frames name, 0 where it has no key.
     pub fn client_number(&self) -> u16
@@ -80,16 +95,27 @@ impl Inquiry {
         }
     }
 
-    /// Returns the address and port of a target: the address of its node if the hosts name it, else the inquiry's.
-    pub fn address_of(&self, target: &Target) -> SocketAddr
-        ensures ip { socket_ip result ≡ target_address self.now target.now }
-        ensures port { socket_port result ≡ target.now.port }
+    /// Returns where a target is asked: at the address of its node if the hosts name it, else at the inquiry's.
+    pub fn place_of(&self, target: &Target) -> Place
+        ensures { result ≡ target_place self.now target.now }
     {
         let known = match target.node {
             Some(node) => self.destination.hosts.address(node),
             None => None,
         };
-        SocketAddr::from((known.unwrap_or(self.destination.address), target.port.get()))
+        Place {
+            address: known.unwrap_or(self.destination.address),
+            port: target.port,
+        }
+    }
+
+    /// Returns the same as an address of a socket.
+    pub fn address_of(&self, target: &Target) -> SocketAddr
+        ensures ip { socket_ip result ≡ target_address self.now target.now }
+        ensures port { socket_port result ≡ target.now.port }
+    {
+        let place = self.place_of(target);
+        SocketAddr::from((place.address, place.port.get()))
     }
 
     /// Returns the local address to bind: `::` or `0.0.0.0` by the family of the first target that is not IPv4
@@ -107,13 +133,14 @@ impl Inquiry {
         IpAddr::V4(Ipv4Addr::LOCALHOST)
     }
 
-    /// The probe that carries that token.
-    pub fn probe(&self, token: u64) -> Probe
+    /// The probe that carries that token, in form 2 if it asks for a reach.
+    pub fn probe(&self, token: u64, asks_reach: bool) -> Probe
         ensures { result ≡ record {
           cluster = self.now.cluster;
           origin = None;
           client = self.now.client;
           token = token;
+          asks_reach = asks_reach;
         } }
     {
         Probe {
@@ -121,6 +148,7 @@ impl Inquiry {
             origin: None,
             client: self.client,
             token,
+            asks_reach,
         }
     }
 }

@@ -1,34 +1,57 @@
 -- The fields of a report that a status prints, with their names, kinds and help, and the node that others follow.
-use Rattle.std.specs.Prelude.{ℕ, nat_lt, ◌==◌, not, ◌&&◌, Bool, true, false, is_some, Option, None, List, [], ◌∷◌}
+use Rattle.std.specs.Prelude.{ℕ, nat_lt, ◌==◌, not, ◌&&◌, Bool, true, false, is_some, Option, Some, None, List, []}
+use Rattle.std.specs.Prelude.{◌∷◌}
 use Rattle.std.specs.Prelude.{length, codes, if◌then◌else◌}
 use Rattle.std.specs.List.{list_any}
 use Rattle.lk_types.specs.declared.member.Member.{Member}
-use Rattle.lk_probe.specs.Grammar.{flag, or_zero}
+use Rattle.lk_probe.specs.Grammar.{flag, heard_of, or_zero}
 use Rattle.lk_probe.specs.declared.probe.Report.{Report}
+use Rattle.lk_probe.specs.declared.reach.Reach.{Reach}
 use Rattle.lk_status.specs.Verdicts.{seeks_votes}
 use Rattle.lk_status_command.specs.declared.field.Field.{Field}
 use Rattle.lk_status_command.specs.declared.field.Field.TheVariants.{Leads, Leader, Silence, Promised, Executed}
 use Rattle.lk_status_command.specs.declared.field.Field.TheVariants.{Snapshot}
 use Rattle.lk_status_command.specs.declared.field.Field.TheVariants.{Members, Pending, Waiting, Unread, Unsent, Ticks}
 use Rattle.lk_status_command.specs.declared.field.Field.TheVariants.{Format}
-use Rattle.lk_status_command.specs.declared.field.Field.TheVariants.{Table}
+use Rattle.lk_status_command.specs.declared.field.Field.TheVariants.{Table, Heard, ReadsBundles, SendsBundles}
 
--- the number that a field shows of a report
-abbrev pub field_value : Field → Report → ℕ
-field_value Leads r = flag r.status.leadership.leads
-field_value Leader r = or_zero r.status.leadership.leader
-field_value Silence r = r.status.leadership.silence
-field_value Promised r = r.status.leadership.promised.round
-field_value Executed r = r.status.progress.executed
-field_value Snapshot r = r.status.progress.snapshot
-field_value Members r = length r.status.members
-field_value Pending r = r.status.progress.pending
-field_value Waiting r = r.status.traffic.waiting
-field_value Unread r = r.status.traffic.unread
-field_value Unsent r = r.status.traffic.unsent
-field_value Ticks r = r.status.traffic.ticks
-field_value Format r = r.status.identity.format
-field_value Table r = r.status.identity.table
+-- the node that a report takes for the leader, or 0: a leader takes itself for it
+abbrev pub presumed_in : Report → ℕ
+presumed_in r = if r.status.leadership.leads then r.node else or_zero r.status.leadership.leader
+
+-- whether a node reads bundles, and whether it sends them, if that is said
+abbrev pub reads_in : Option Reach → Option ℕ
+reads_in None = None
+reads_in (Some t) = Some (flag t.reads_bundles)
+
+abbrev pub sends_in : Option Reach → Option ℕ
+sends_in None = None
+sends_in (Some t) = Some (flag t.sends_bundles)
+
+-- the number of a field that each report has
+abbrev pub field_number : Field → Report → ℕ
+field_number Leads r = flag r.status.leadership.leads
+field_number Leader r = presumed_in r
+field_number Silence r = r.status.leadership.silence
+field_number Promised r = r.status.leadership.promised.round
+field_number Executed r = r.status.progress.executed
+field_number Snapshot r = r.status.progress.snapshot
+field_number Members r = length r.status.members
+field_number Pending r = r.status.progress.pending
+field_number Waiting r = r.status.traffic.waiting
+field_number Unread r = r.status.traffic.unread
+field_number Unsent r = r.status.traffic.unsent
+field_number Ticks r = r.status.traffic.ticks
+field_number Format r = r.status.identity.format
+field_number Table r = r.status.identity.table
+field_number _ r = 0
+
+-- the number that a field shows of a report, if the report says it
+abbrev pub field_value : Field → Report → Option ℕ
+field_value Heard r = heard_of r.reach
+field_value ReadsBundles r = reads_in r.reach
+field_value SendsBundles r = sends_in r.reach
+field_value field r = Some (field_number field r)
 
 -- its name in JSON, and in a metric
 abbrev pub field_name : Field → List ℕ
@@ -46,6 +69,9 @@ field_name Unsent = codes "failed_sends_total"
 field_name Ticks = codes "ticks_total"
 field_name Format = codes "store_format"
 field_name Table = codes "table_version"
+field_name Heard = codes "members_heard"
+field_name ReadsBundles = codes "reads_bundles"
+field_name SendsBundles = codes "sends_bundles"
 
 -- it only grows until the node restarts
 abbrev pub is_counter : Field → Bool
@@ -74,12 +100,15 @@ field_help Unsent = codes "Sends that failed, since its start."
 field_help Ticks = codes "Ticks since its start."
 field_help Format = codes "Format of its store."
 field_help Table = codes "Version of its lock table: 2 once it is raised."
+field_help Heard = codes "Members of the next position that it hears, itself included."
+field_help ReadsBundles = codes "Whether it reads bundles."
+field_help SendsBundles = codes "Whether it sends bundles."
 
 -- all of them, in the order in which they are printed
 abbrev pub all_fields : List Field
 all_fields =
     Leads ∷ Leader ∷ Silence ∷ Promised ∷ Executed ∷ Snapshot ∷ Members ∷ Pending
-    ∷ Waiting ∷ Unread ∷ Unsent ∷ Ticks ∷ Format ∷ Table ∷ []
+    ∷ Waiting ∷ Unread ∷ Unsent ∷ Ticks ∷ Format ∷ Table ∷ Heard ∷ ReadsBundles ∷ SendsBundles ∷ []
 
 -- the node is one of these members
 abbrev pub is_member : ℕ → List Member → Bool

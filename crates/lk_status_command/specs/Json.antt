@@ -30,8 +30,13 @@ program_part node v =
 abbrev pub genesis_part : List ℕ → List ℕ
 genesis_part genesis = codes ",\"genesis\":\"" ++ (encode_lower genesis ++ 34 ∷ [])
 
+-- a named number, if there is one
+abbrev pub number_part : List ℕ → Option ℕ → List ℕ
+number_part name None = []
+number_part name (Some n) = codes ",\"" ++ (name ++ (codes "\":" ++ decimal n))
+
 abbrev pub field_part : Report → Field → List ℕ
-field_part r field = codes ",\"" ++ (field_name field ++ (codes "\":" ++ decimal (field_value field r)))
+field_part r field = number_part (field_name field) (field_value field r)
 
 abbrev pub fields_part : Report → List ℕ
 fields_part r = flat_map (field_part r) all_fields

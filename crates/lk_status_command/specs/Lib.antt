@@ -6,3 +6,4 @@ pub mod Tokens
 pub mod Json
 pub mod Metrics
 pub mod Prints
+pub mod Withheld

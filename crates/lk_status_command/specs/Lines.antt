@@ -1,17 +1,19 @@
 -- The lines of a status: one for each target, and one for the cluster.
-use Rattle.std.specs.Prelude.{ℕ, ◌+◌, ◌-◌, ◌%◌, ◌^◌, ◌==◌, nat_eq, nat_lt, nat_le, Option, Some, None, List, [], ◌∷◌}
-use Rattle.std.specs.Prelude.{◌++◌, length, codes, if◌then◌else◌}
+use Rattle.std.specs.Prelude.{ℕ, ◌+◌, ◌-◌, ◌*◌, ◌%◌, ◌^◌, ◌==◌, nat_eq, nat_lt, nat_le, Bool, true, false, Option, Some}
+use Rattle.std.specs.Prelude.{None, List, []}
+use Rattle.std.specs.Prelude.{◌∷◌, ◌++◌, length, codes, if◌then◌else◌}
 use Rattle.std.specs.Cmp.Lexicographic.{pointwise}
 use Rattle.std.specs.Fmt.{decimal}
 use Rattle.std.specs.List.{flat_map}
 use Rattle.lk_types.specs.BallotValue.{BallotValue}
 use Rattle.lk_types.specs.declared.member.Member.{Member}
+use Rattle.lk_probe.specs.Grammar.{heard_of}
 use Rattle.lk_probe.specs.declared.probe.Report.{Report}
-use Rattle.lk_probe.specs.declared.status.Leadership.{Leadership}
 use Rattle.lk_status.specs.Measures.{executed_of}
 use Rattle.lk_status.specs.Rounds.{report_of}
 use Rattle.lk_status.specs.Verdicts.{seeks_votes, count_reporting, one_genesis}
 use Rattle.lk_status.specs.declared.target.Target.{Target}
+use Rattle.lk_status_command.specs.Fields.{is_member}
 
 -- ---- counts
 
@@ -39,16 +41,36 @@ heard_text leader ticks =
 abbrev pub unled_text : ℕ → List ℕ
 unled_text ticks = codes "knows no leader for " ++ (decimal ticks ++ (32 ∷ ticks_word ticks))
 
--- whom a node follows
-abbrev pub following : Option ℕ → ℕ → List ℕ
-following (Some leader) ticks = heard_text leader ticks
-following None ticks = unled_text ticks
+-- that a node is none of the members that it names, or else for how long it knows no leader
+abbrev pub unled : Bool → ℕ → List ℕ
+unled true ticks = unled_text ticks
+unled false ticks = codes "is not a member"
 
-abbrev pub following_text : Leadership → List ℕ
-following_text l = if l.leads then codes "leads" else following l.leader l.silence
+abbrev pub alone_text : Report → List ℕ
+alone_text r = unled (is_member r.node r.status.members) r.status.leadership.silence
+
+-- whom a node follows
+abbrev pub followed_text : Option ℕ → Report → List ℕ
+followed_text (Some leader) r = heard_text leader r.status.leadership.silence
+followed_text None r = alone_text r
+
+abbrev pub following_text : Report → List ℕ
+following_text r =
+    if r.status.leadership.leads then codes "leads" else followed_text r.status.leadership.leader r
+
+-- so many of this many members are heard, if they are no majority
+abbrev pub few_text : Option ℕ → ℕ → List ℕ
+few_text None count = []
+few_text (Some heard) count =
+    if nat_le (2 * heard) count then
+    codes ", hears " ++ (decimal heard ++ (codes " of " ++ (decimal count ++ codes " members, no majority"))) else []
+
+-- the members that a node hears, if they are no majority of those that it names, and it says it
+abbrev pub hearing_text : Report → List ℕ
+hearing_text r = few_text (heard_of r.reach) (length r.status.members)
 
 abbrev pub leadership_text : Report → List ℕ
-leadership_text r = if seeks_votes r then codes "seeks votes" else following_text r.status.leadership
+leadership_text r = if seeks_votes r then codes "seeks votes" else following_text r
 
 -- how many positions fewer than these it has executed, if it has
 abbrev pub behind_text : ℕ → ℕ → List ℕ
@@ -85,7 +107,8 @@ name_text node port = codes "node " ++ (decimal node ++ (codes ", port " ++ (dec
 abbrev pub node_line : ℕ → Report → ℕ → List ℕ
 node_line port r most =
     name_text r.node port
-    ++ (leadership_text r ++ (progress_text r most ++ (members_text r.status.members ++ (traffic_text r ++ 10 ∷ []))))
+    ++ (leadership_text r
+    ++ (hearing_text r ++ (progress_text r most ++ (members_text r.status.members ++ (traffic_text r ++ 10 ∷ [])))))
 
 -- ---- of all
 

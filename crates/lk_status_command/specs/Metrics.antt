@@ -1,10 +1,14 @@
 -- The metrics of a status, in the text format of Prometheus.
 use Rattle.std.specs.Prelude.{ℕ, Option, Some, None, Bool, List, [], ◌∷◌, ◌++◌, codes, flat_map}
 use Rattle.std.specs.Fmt.{decimal}
+use Rattle.std.specs.Net.Text.{ip_text}
+use Rattle.std.specs.declared.net.ip_addr.IpAddr.{IpAddr}
 use Rattle.lk_probe.specs.Grammar.{flag}
 use Rattle.lk_probe.specs.declared.probe.Report.{Report}
-use Rattle.lk_status.specs.Rounds.{has_token}
+use Rattle.lk_status.specs.Rounds.{has_token, report_of}
+use Rattle.lk_status.specs.Targets.{target_address}
 use Rattle.lk_status.specs.Verdicts.{count_reporting, is_served, one_genesis}
+use Rattle.lk_status.specs.declared.target.Inquiry.{Inquiry}
 use Rattle.lk_status.specs.declared.target.Target.{Target}
 use Rattle.lk_status_command.specs.Fields.{field_name, field_kind, field_help, field_value, all_fields}
 use Rattle.lk_status_command.specs.Tokens.{by_token}
@@ -28,7 +32,7 @@ gauge_text cluster name help value = head_text name (codes "gauge") help ++ gaug
 abbrev pub served_text : ℕ → List Report → List ℕ
 served_text cluster rs =
     gauge_text cluster (codes "served")
-    (codes "Whether somebody leads with a majority, and nobody tells another genesis.") (flag (is_served rs))
+    (codes "Whether a majority follows a leader, and nobody tells another genesis.") (flag (is_served rs))
 
 abbrev pub genesis_text : ℕ → List Report → List ℕ
 genesis_text cluster rs =
@@ -47,45 +51,65 @@ abbrev pub verdict_text : ℕ → Option Report → List Report → List ℕ
 verdict_text cluster measure rs =
     served_text cluster rs ++ (genesis_text cluster rs ++ members_up_text cluster measure rs)
 
--- ---- of the targets
+-- ---- of the targets and their nodes
 
--- whether the target at this port reports
-abbrev pub up_line : ℕ → ℕ → Bool → List ℕ
-up_line cluster port is_up =
-    codes "locks_up{cluster=\""
-    ++ (decimal cluster
-    ++ (codes "\",port=\"" ++ (decimal port ++ (codes "\"} " ++ (decimal (flag is_up) ++ 10 ∷ [])))))
+-- the label of a node, where its number is known
+abbrev pub node_label : Option ℕ → List ℕ
+node_label None = []
+node_label (Some node) = codes ",node=\"" ++ (decimal node ++ 34 ∷ [])
 
--- a line for each target
-abbrev pub up_lines : ℕ → ℕ → List Target → List Report → List ℕ
-up_lines cluster first ts rs = by_token (λ token t. up_line cluster t.port (has_token token rs)) first ts
+-- the labels of an address and a port, and the end of all labels
+abbrev pub place_labels : IpAddr → ℕ → List ℕ
+place_labels address port =
+    codes ",address=\"" ++ (ip_text address ++ (codes "\",port=\"" ++ (decimal port ++ codes "\"} ")))
 
-abbrev pub up_text : ℕ → ℕ → List Target → List Report → List ℕ
-up_text cluster first ts rs =
-    head_text (codes "up") (codes "gauge") (codes "Whether the node at this port answers.")
-    ++ up_lines cluster first ts rs
+-- a metric and the label of its cluster
+abbrev pub metric_front : List ℕ → ℕ → List ℕ
+metric_front name cluster = codes "locks_" ++ (name ++ (codes "{cluster=\"" ++ (decimal cluster ++ 34 ∷ [])))
 
--- ---- of the nodes
+-- the sample of a metric for a target, with the label of this node
+abbrev pub sample_text : List ℕ → Inquiry → Option ℕ → Target → ℕ → List ℕ
+sample_text name i node t value =
+    metric_front name i.cluster
+    ++ (node_label node ++ (place_labels (target_address i t) t.port ++ (decimal value ++ 10 ∷ [])))
 
--- a field of a report
-abbrev pub sample_line : Field → Report → List ℕ
-sample_line field r =
-    codes "locks_"
-    ++ (field_name field
-    ++ (codes "{cluster=\""
-    ++ (decimal r.cluster
-    ++ (codes "\",node=\"" ++ (decimal r.node ++ (codes "\"} " ++ (decimal (field_value field r) ++ 10 ∷ [])))))))
+-- whether a target reports: its label of a node is the number by which it is asked
+abbrev pub up_line : Inquiry → Target → Bool → List ℕ
+up_line i t is_up = sample_text (codes "up") i t.node t (flag is_up)
 
--- what a field is, and a line for each report
-abbrev pub field_text : List Report → Field → List ℕ
-field_text rs field =
-    head_text (field_name field) (field_kind field) (field_help field) ++ flat_map (sample_line field) rs
+-- a line for each target, the first by the report with this token, and each other by that with the next
+abbrev pub up_lines : ℕ → Inquiry → List Report → List ℕ
+up_lines first i rs = by_token (λ token t. up_line i t (has_token token rs)) first i.targets.items
 
-abbrev pub fields_text : List Report → List ℕ
-fields_text rs = flat_map (field_text rs) all_fields
+abbrev pub up_text : ℕ → Inquiry → List Report → List ℕ
+up_text first i rs =
+    head_text (codes "up") (codes "gauge") (codes "Whether the node at this address and port answers.")
+    ++ up_lines first i rs
+
+-- the sample of a target's node, if it has a value
+abbrev pub value_line : List ℕ → Inquiry → ℕ → Target → Option ℕ → List ℕ
+value_line name i node t None = []
+value_line name i node t (Some value) = sample_text name i (Some node) t value
+
+-- a field of a target's report, if there is one and it says the field: its label of a node is the number in it
+abbrev pub sample_line : Field → Inquiry → Target → Option Report → List ℕ
+sample_line field i t None = []
+sample_line field i t (Some r) = value_line (field_name field) i r.node t (field_value field r)
+
+-- a line for each target, by its report
+abbrev pub sample_lines : Field → ℕ → Inquiry → List Report → List ℕ
+sample_lines field first i rs = by_token (λ token t. sample_line field i t (report_of token rs)) first i.targets.items
+
+-- what a field is, and a line for each target
+abbrev pub field_text : ℕ → Inquiry → List Report → Field → List ℕ
+field_text first i rs field =
+    head_text (field_name field) (field_kind field) (field_help field) ++ sample_lines field first i rs
+
+abbrev pub fields_text : ℕ → Inquiry → List Report → List ℕ
+fields_text first i rs = flat_map (field_text first i rs) all_fields
 
 -- ---- of all
 
-abbrev pub metrics_text : ℕ → ℕ → List Target → List Report → Option Report → List ℕ
-metrics_text cluster first ts rs measure =
-    verdict_text cluster measure rs ++ (up_text cluster first ts rs ++ fields_text rs)
+abbrev pub metrics_text : ℕ → Inquiry → List Report → Option Report → List ℕ
+metrics_text first i rs measure =
+    verdict_text i.cluster measure rs ++ (up_text first i rs ++ fields_text first i rs)

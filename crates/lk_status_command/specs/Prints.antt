@@ -19,7 +19,7 @@ lines_text first i rs measure = status_text first i.targets.items rs measure ++ 
 abbrev pub form_text : Form → ℕ → Inquiry → List Report → Option Report → List ℕ
 form_text form.Lines first i rs measure = lines_text first i rs measure
 form_text form.Json first i rs measure = json_text i.cluster first i.targets.items rs measure
-form_text form.Prometheus first i rs measure = metrics_text i.cluster first i.targets.items rs measure
+form_text form.Prometheus first i rs measure = metrics_text first i rs measure
 
 -- what is appended is the text of these reports, by the measure among them
 abbrev pub Prints : Form → ℕ → Inquiry → List Report → Option (List ℕ) → Option (List ℕ) → Type 0

@@ -1,10 +1,13 @@
 -- Why requests may not be answered, in words.
-use Rattle.std.specs.Prelude.{ℕ, Bool, nat_le, not, ◌&&◌, Option, Some, None, List, [], ◌++◌, codes, flat_map}
-use Rattle.std.specs.Prelude.{if◌then◌else◌}
+use Rattle.std.specs.Prelude.{ℕ, Bool, false, nat_le, not, ◌&&◌, ◌||◌, Option, Some, None, List, [], ◌∷◌, ◌++◌, codes}
+use Rattle.std.specs.Prelude.{flat_map, is_some, ◌==◌, if◌then◌else◌}
+use Rattle.std.specs.List.{list_all}
 use Rattle.std.specs.Fmt.{decimal}
 use Rattle.lk_types.specs.declared.member.Member.{Member}
+use Rattle.lk_probe.specs.Grammar.{heard_of}
 use Rattle.lk_probe.specs.declared.probe.Report.{Report}
-use Rattle.lk_status.specs.Verdicts.{seeks_votes, one_genesis, has_majority}
+use Rattle.lk_probe.specs.declared.reach.Reach.{Reach}
+use Rattle.lk_status.specs.Verdicts.{seeks_votes, one_genesis, has_followers, has_majority, hears_enough}
 use Rattle.lk_status_command.specs.Fields.{is_member, followed}
 
 -- ---- of a node
@@ -21,9 +24,43 @@ seeking_line node = codes "why: node "
 abbrev pub deaf_reason : Report → List ℕ
 deaf_reason r = if not r.status.leadership.leads && nat_le 28 r.status.leadership.silence then deaf_line r.node else []
 
--- it seeks votes, or hears nobody
+-- it says that it hears a majority of the members that it names
+abbrev pub hears : Report → Bool
+hears r = is_some (heard_of r.reach) && hears_enough r
+
+-- long datagrams do not pass where the probes do
+abbrev pub fragments_line : ℕ → List ℕ
+fragments_line node =
+    codes "why: node "
+    ++ (decimal node
+    ++ codes " seeks votes, and hears a majority: if that lasts, let long datagrams pass (fragments)\n")
+
+-- it seeks votes: others do not hear it, or long votes do not reach it where it hears them
+abbrev pub seeking_reason : Report → List ℕ
+seeking_reason r = if hears r then fragments_line r.node else seeking_line r.node
+
+-- it hears no majority, and so many datagrams came that it could not read
+abbrev pub other_key_line : ℕ → ℕ → List ℕ
+other_key_line node unread =
+    codes "why: node " ++ (decimal node
+    ++ (codes " hears no majority, and could not read " ++ (decimal unread
+    ++ codes " of what came: compare its key with the others'\n")))
+
+abbrev pub cut_off_line : ℕ → List ℕ
+cut_off_line node =
+    codes "why: node "
+    ++ (decimal node ++ codes " hears no majority: if that lasts, check its --port, the hosts and its network\n")
+
+-- it does not lead and hears no majority: it has another key, if it could not read what came, or else nothing comes
+abbrev pub unheard_reason : Report → List ℕ
+unheard_reason r =
+    if r.status.leadership.leads then []
+    else (if r.status.traffic.unread == 0 then cut_off_line r.node else other_key_line r.node r.status.traffic.unread)
+
+-- it hears no majority, or seeks votes, or hears nobody
 abbrev pub hearing_reason : Report → List ℕ
-hearing_reason r = if seeks_votes r then seeking_line r.node else deaf_reason r
+hearing_reason r =
+    if hears_enough r then (if seeks_votes r then seeking_reason r else deaf_reason r) else unheard_reason r
 
 abbrev pub outside_line : ℕ → List ℕ
 outside_line node = codes "why: node " ++ (decimal node ++ codes " is not a member: it has left, or has to join\n")
@@ -51,14 +88,36 @@ mute_text (Some node) =
     ++ codes " sends and hears nobody: stop it, and check its --port, the hosts and the keys\n")
 mute_text None = codes "the members do not hear each other\n"
 
-abbrev pub leaderless_line : Option ℕ → List ℕ
-leaderless_line node = codes "why: nobody leads: an election takes seconds; if it lasts, " ++ mute_text node
+-- why nobody leads, if that lasts: where all nodes that report hear a majority, long datagrams are lost between them
+abbrev pub cause_text : List Report → List ℕ
+cause_text rs =
+    if list_all hears rs then codes "let long datagrams pass (fragments): the members hear each other\n"
+    else mute_text (followed rs)
+
+abbrev pub leaderless_line : List Report → List ℕ
+leaderless_line rs = codes "why: nobody leads: an election takes seconds; if it lasts, " ++ cause_text rs
 
 abbrev pub geneses_reason : List Report → List ℕ
 geneses_reason rs = if one_genesis rs then [] else geneses_line
 
+abbrev pub unfollowed_line : ℕ → List ℕ
+unfollowed_line node =
+    codes "why: no majority follows node "
+    ++ (decimal node ++ codes ", which leads: they do not hear it, or it does not hear them\n")
+
+abbrev pub deaf_leader_line : ℕ → List ℕ
+deaf_leader_line node = codes "why: node "
+    ++ (decimal node ++ codes ", which leads, hears no majority: check what keeps the members' datagrams from it\n")
+
+-- a leader hears no majority, or no majority follows it
+abbrev pub unfollowed_reason : Report → List Report → List ℕ
+unfollowed_reason measure rs =
+    if hears_enough measure then (if has_followers measure rs then [] else unfollowed_line measure.node)
+    else deaf_leader_line measure.node
+
 abbrev pub leader_reason : Report → List Report → List ℕ
-leader_reason measure rs = if measure.status.leadership.leads then [] else leaderless_line (followed rs)
+leader_reason measure rs =
+    if measure.status.leadership.leads then unfollowed_reason measure rs else leaderless_line rs
 
 abbrev pub node_reasons : Bool → List Member → List Report → List ℕ
 node_reasons majority members rs = flat_map (node_reason majority members) rs
@@ -72,6 +131,35 @@ members_reason measure rs =
     leaders_reason (has_majority measure rs) measure rs
     ++ node_reasons (has_majority measure rs) measure.status.members rs
 
+-- ---- of bundles
+
+-- a node says that it sends bundles, and that it reads them
+abbrev pub sends : Option Reach → Bool
+sends None = false
+sends (Some t) = t.sends_bundles
+
+abbrev pub reads : Option Reach → Bool
+reads None = false
+reads (Some t) = t.reads_bundles
+
+abbrev pub some_send : List Report → Bool
+some_send [] = false
+some_send (r ∷ rs) = sends r.reach || some_send rs
+
+abbrev pub unread_line : ℕ → List ℕ
+unread_line node = codes "why: node "
+    ++ (decimal node
+    ++ codes " may not read the bundles of others: start it with this program, or them without --bundle\n")
+
+abbrev pub unread_reason : Report → List ℕ
+unread_reason r = if reads r.reach then [] else unread_line r.node
+
+-- each node that does not say that it reads them, where one sends them
+abbrev pub bundles_reason : List Report → List ℕ
+bundles_reason rs = if some_send rs then flat_map unread_reason rs else []
+
+-- ---- of all
+
 abbrev pub why_text : Option Report → List Report → List ℕ
 why_text None rs = nobody_line
-why_text (Some measure) rs = geneses_reason rs ++ members_reason measure rs
+why_text (Some measure) rs = geneses_reason rs ++ (members_reason measure rs ++ bundles_reason rs)

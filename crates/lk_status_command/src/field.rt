@@ -1,9 +1,10 @@
 // The fields of a report that JSON and Prometheus print: the name, kind, help and value of each.
 ghost use Rattle.std.specs.Prelude.{◌≡◌};
-ghost use Rattle.lk_probe.specs.Grammar.{or_zero};
-ghost use Rattle.lk_status_command.specs.Fields.{field_name, field_kind, field_help, field_value};
+ghost use Rattle.lk_probe.specs.Grammar.{heard_of, or_zero};
+ghost use Rattle.lk_status_command.specs.Fields.{field_name, field_kind, field_help, field_value, reads_in, sends_in};
+ghost use Rattle.lk_status_command.specs.Fields.{field_number, presumed_in};
 
-use lk_probe::Report;
+use lk_probe::{Reach, Report};
 use lk_types::NodeNo;
 
 /// A number in a node's report, printed by name in JSON and as a metric.
@@ -23,10 +24,13 @@ pub enum Field {
     Ticks,
     Format,
     Table,
+    Heard,
+    ReadsBundles,
+    SendsBundles,
 }
 
 /// All of them, in the order in which they are printed.
-pub const FIELDS: [Field; 14] = [
+pub const FIELDS: [Field; 17] = [
     Field::Leads,
     Field::Leader,
     Field::Silence,
@@ -41,6 +45,9 @@ pub const FIELDS: [Field; 14] = [
     Field::Ticks,
     Field::Format,
     Field::Table,
+    Field::Heard,
+    Field::ReadsBundles,
+    Field::SendsBundles,
 ];
 
 // The number of a node, or 0.
@@ -50,6 +57,47 @@ fn node_number(node: Option<NodeNo>) -> u64
     match node {
         Some(node) => u64::from(node.get()),
         None => 0,
+    }
+}
+
+// Returns the number of the node that a report takes for the leader, or 0. A leader takes itself for it.
+fn presumed_leader(report: &Report) -> u64
+    ensures { result ≡ presumed_in report.now }
+{
+    let leadership = &report.status.leadership;
+    if leadership.leads {
+        return u64::from(report.node.get());
+    }
+    node_number(leadership.leader)
+}
+
+// Returns 1 if a node reads bundles, 0 if not, and `None` if it does not say it.
+fn reads_bundles(reach: &Option<Reach>) -> Option<u64>
+    ensures { result ≡ reads_in reach.now }
+{
+    match reach {
+        Some(reach) => Some(u64::from(reach.reads_bundles)),
+        None => None,
+    }
+}
+
+// Returns 1 if a node sends bundles, 0 if not, and `None` if it does not say it.
+fn sends_bundles(reach: &Option<Reach>) -> Option<u64>
+    ensures { result ≡ sends_in reach.now }
+{
+    match reach {
+        Some(reach) => Some(u64::from(reach.sends_bundles)),
+        None => None,
+    }
+}
+
+// Returns how many members a node hears, `None` if it does not say it.
+fn members_heard(report: &Report) -> Option<u64>
+    ensures { result ≡ heard_of report.now.reach }
+{
+    match report.heard() {
+        Some(heard) => Some(u64::from(heard)),
+        None => None,
     }
 }
 
@@ -73,6 +121,9 @@ impl Field {
             Field::Ticks => "ticks_total",
             Field::Format => "store_format",
             Field::Table => "table_version",
+            Field::Heard => "members_heard",
+            Field::ReadsBundles => "reads_bundles",
+            Field::SendsBundles => "sends_bundles",
         }
     }
 
@@ -105,17 +156,20 @@ impl Field {
             Field::Ticks => "Ticks since its start.",
             Field::Format => "Format of its store.",
             Field::Table => "Version of its lock table: 2 once it is raised.",
+            Field::Heard => "Members of the next position that it hears, itself included.",
+            Field::ReadsBundles => "Whether it reads bundles.",
+            Field::SendsBundles => "Whether it sends bundles.",
         }
     }
 
-    /// Its value in a report.
-    pub fn value(self, report: &Report) -> u64
-        ensures { result ≡ field_value self report.now }
+    // Returns its value in a report, of a field that each report has; 0 of another one.
+    fn number(self, report: &Report) -> u64
+        ensures { result ≡ field_number self report.now }
     {
         let status = &report.status;
         match self {
             Field::Leads => u64::from(status.leadership.leads),
-            Field::Leader => node_number(status.leadership.leader),
+            Field::Leader => presumed_leader(report),
             Field::Silence => status.leadership.silence,
             Field::Promised => status.leadership.promised.round(),
             Field::Executed => status.progress.executed.get(),
@@ -128,6 +182,19 @@ impl Field {
             Field::Ticks => status.traffic.ticks,
             Field::Format => u64::from(status.identity.format),
             Field::Table => u64::from(status.identity.table),
+            Field::Heard | Field::ReadsBundles | Field::SendsBundles => 0,
+        }
+    }
+
+    /// Returns its value in a report, `None` if that does not say it.
+    pub fn value(self, report: &Report) -> Option<u64>
+        ensures { result ≡ field_value self report.now }
+    {
+        match self {
+            Field::Heard => members_heard(report),
+            Field::ReadsBundles => reads_bundles(&report.reach),
+            Field::SendsBundles => sends_bundles(&report.reach),
+            _ => Some(self.number(report)),
         }
     }
 }

@@ -7,7 +7,7 @@ ghost use Rattle.lk_status_command.specs.Json.{program_part, genesis_part, field
 ghost use Rattle.lk_status_command.specs.Json.{members_part};
 ghost use Rattle.lk_status_command.specs.Json.{report_part, target_object, more_objects, objects, head_part};
 ghost use Rattle.lk_status_command.specs.Json.{verdict_part};
-ghost use Rattle.lk_status_command.specs.Json.{counts_part, majority_part, json_text};
+ghost use Rattle.lk_status_command.specs.Json.{counts_part, majority_part, json_text, number_part};
 
 use crate::field::{FIELDS, Field};
 use lk_probe::{DIGEST, Report};
@@ -70,12 +70,22 @@ fn write_members<W: Write>(members: &[Member], out: &mut W) -> io::Result<()>
     Ok(())
 }
 
-// Writes a field of a report.
+// Writes a named number, or nothing if there is none.
+fn write_number<W: Write>(name: &str, value: Option<u64>, out: &mut W) -> io::Result<()>
+    ensures { OnOk result (Appends (W.contents out.old) (W.contents out.new) (number_part name.now value)) }
+{
+    if let Some(value) = value {
+        write!(out, ",\"{name}\":{value}")?;
+    }
+    Ok(())
+}
+
+// Writes a field of a report, or nothing if the report does not say it.
 fn write_field<W: Write>(field: Field, report: &Report, out: &mut W) -> io::Result<()>
     ensures { OnOk result (Appends (W.contents out.old) (W.contents out.new) (field_part report.now field)) }
 {
-    let (name, value) = (field.name(), field.value(report));
-    write!(out, ",\"{name}\":{value}")
+    write_number(field.name(), field.value(report), out)?;
+    Ok(())
 }
 
 // Writes these fields of a report.

@@ -4,6 +4,8 @@
 mod field;
 mod json;
 mod lines;
+mod node_reason;
 mod prometheus;
 pub mod status;
 mod why;
+pub mod withheld;

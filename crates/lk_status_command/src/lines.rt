@@ -4,13 +4,15 @@ ghost use Rattle.std.specs.Io.KnownBytes.{Appends};
 ghost use Rattle.std.specs.Option.{option_copied};
 ghost use Rattle.std.specs.Prelude.{◌≡◌, OnOk};
 ghost use Rattle.lk_status_command.specs.Lines.{one_or_many};
-ghost use Rattle.lk_status_command.specs.Lines.{heard_text, unled_text, following_text, leadership_text, executed_text};
-ghost use Rattle.lk_status_command.specs.Lines.{snapshot_text, behind_text, promised_text, progress_text, members_text};
+ghost use Rattle.lk_status_command.specs.Lines.{heard_text, unled_text, alone_text, followed_text, following_text};
+ghost use Rattle.lk_status_command.specs.Lines.{leadership_text, executed_text, snapshot_text, behind_text};
+ghost use Rattle.lk_status_command.specs.Lines.{promised_text, progress_text, members_text};
 ghost use Rattle.lk_status_command.specs.Lines.{count_text, traffic_text, node_line, target_line, target_lines};
-ghost use Rattle.lk_status_command.specs.Lines.{stranger_word};
+ghost use Rattle.lk_status_command.specs.Lines.{stranger_word, few_text, hearing_text};
 ghost use Rattle.lk_status_command.specs.Lines.{strangers_text, raised_text, majority_text, cluster_line, status_text};
 
-use lk_probe::{Leadership, Report};
+use crate::node_reason::is_among;
+use lk_probe::Report;
 use lk_status::measure::executed_of;
 use lk_status::target::{Inquiry, report_with};
 use lk_status::verdict::{count_reporting, has_one_genesis, seeks_votes};
@@ -41,18 +43,38 @@ fn write_unled<W: Write>(ticks: u64, out: &mut W) -> io::Result<()>
     write!(out, "knows no leader for {ticks} {unit}")
 }
 
-// Writes that a node leads, whom it follows, or that it knows no leader.
-fn write_following<W: Write>(leadership: &Leadership, out: &mut W) -> io::Result<()>
-    ensures { OnOk result (Appends (W.contents out.old) (W.contents out.new) (following_text leadership.now)) }
+// Writes that a node is none of the members that it names, or else how long it has known no leader.
+fn write_alone<W: Write>(report: &Report, out: &mut W) -> io::Result<()>
+    ensures { OnOk result (Appends (W.contents out.old) (W.contents out.new) (alone_text report.now)) }
 {
-    if leadership.leads {
+    if is_among(report.node, report.status.members.as_slice()) {
+        write_unled(report.status.leadership.silence, out)?;
+    } else {
+        out.write_all(b"is not a member")?;
+    }
+    Ok(())
+}
+
+// Writes whom a node follows, or that it knows no leader.
+fn write_followed<W: Write>(leader: Option<NodeNo>, report: &Report, out: &mut W) -> io::Result<()>
+    ensures { OnOk result (Appends (W.contents out.old) (W.contents out.new) (followed_text leader report.now)) }
+{
+    match leader {
+        Some(leader) => write_heard(leader, report.status.leadership.silence, out)?,
+        None => write_alone(report, out)?,
+    }
+    Ok(())
+}
+
+// Writes that a node leads, or whom it follows.
+fn write_following<W: Write>(report: &Report, out: &mut W) -> io::Result<()>
+    ensures { OnOk result (Appends (W.contents out.old) (W.contents out.new) (following_text report.now)) }
+{
+    if report.status.leadership.leads {
         out.write_all(b"leads")?;
         return Ok(());
     }
-    match leadership.leader {
-        Some(leader) => write_heard(leader, leadership.silence, out)?,
-        None => write_unled(leadership.silence, out)?,
-    }
+    write_followed(report.status.leadership.leader, report, out)?;
     Ok(())
 }
 
@@ -64,7 +86,29 @@ fn write_leadership<W: Write>(report: &Report, out: &mut W) -> io::Result<()>
         out.write_all(b"seeks votes")?;
         return Ok(());
     }
-    write_following(&report.status.leadership, out)?;
+    write_following(report, out)?;
+    Ok(())
+}
+
+// Writes how many of its members a node hears, if they are no majority: `, hears 1 of 3 members, no majority`.
+fn write_heard_few<W: Write>(heard: Option<u8>, count: usize, out: &mut W) -> io::Result<()>
+    ensures { OnOk result (Appends (W.contents out.old) (W.contents out.new) (few_text heard count)) }
+{
+    match heard {
+        Some(heard) if count >= 2 * heard as usize => {
+            write!(out, ", hears {heard} of {count} members, no majority")?;
+        }
+        _ => {}
+    }
+    Ok(())
+}
+
+// Writes how many of the members a node hears, if they are no majority and its report says it.
+fn write_hearing<W: Write>(report: &Report, out: &mut W) -> io::Result<()>
+    ensures { OnOk result (Appends (W.contents out.old) (W.contents out.new) (hearing_text report.now)) }
+{
+    let count = report.status.members.as_slice().len();
+    write_heard_few(report.heard(), count, out)?;
     Ok(())
 }
 
@@ -170,6 +214,7 @@ fn write_node<W: Write>(port: u16, report: &Report, most: u64, out: &mut W) -> i
 {
     write!(out, "node {}, port {port}: ", report.node.get())?;
     write_leadership(report, out)?;
+    write_hearing(report, out)?;
     write_progress(report, most, out)?;
     write_members(report.status.members.as_slice(), out)?;
     write_traffic(report, out)?;

@@ -1,17 +1,20 @@
-// The form `--prometheus`: metrics in the text format of Prometheus, all named `locks_..`.
+// The form `--prometheus`: metrics in the text format of Prometheus, all named `locks_..`. Those of a target have its
+// address and port as labels, and the number of its node where that is known.
 ghost use Rattle.std.specs.Io.KnownBytes.{Appends};
 ghost use Rattle.std.specs.Option.{option_copied};
 ghost use Rattle.std.specs.Prelude.{◌≡◌, flat_map, OnOk};
 ghost use Rattle.lk_probe.specs.Grammar.{flag};
+ghost use Rattle.lk_status.specs.Targets.{target_address};
 ghost use Rattle.lk_status_command.specs.Metrics.{head_text, gauge_text, served_text, genesis_text, members_up};
-ghost use Rattle.lk_status_command.specs.Metrics.{members_up_text, verdict_text, up_line, up_lines, up_text};
-ghost use Rattle.lk_status_command.specs.Metrics.{sample_line};
+ghost use Rattle.lk_status_command.specs.Metrics.{members_up_text, verdict_text, node_label, place_labels, sample_text};
+ghost use Rattle.lk_status_command.specs.Metrics.{up_line, up_lines, up_text, value_line, sample_line, sample_lines};
 ghost use Rattle.lk_status_command.specs.Metrics.{field_text, metrics_text};
 
 use crate::field::{FIELDS, Field};
 use lk_probe::Report;
-use lk_status::target::{Inquiry, Target, is_reported};
+use lk_status::target::{Inquiry, Target, is_reported, report_with};
 use lk_status::verdict::{count_reporting, has_one_genesis, is_served};
+use lk_types::NodeNo;
 use std::io;
 use std::io::Write;
 
@@ -61,7 +64,7 @@ fn write_flag<W: Write>(
 fn write_served<W: Write>(cluster: u64, reports: &[Report], out: &mut W) -> io::Result<()>
     ensures { OnOk result (Appends (W.contents out.old) (W.contents out.new) (served_text cluster reports.now)) }
 {
-    let help = "Whether somebody leads with a majority, and nobody tells another genesis.";
+    let help = "Whether a majority follows a leader, and nobody tells another genesis.";
     write_flag(cluster, "served", help, is_served(reports), out)?;
     Ok(())
 }
@@ -123,38 +126,81 @@ fn write_verdict<W: Write>(
     Ok(())
 }
 
-// Writes the sample of `locks_up` for the target at that port.
-fn write_up_line<W: Write>(cluster: u64, port: u16, is_up: bool, out: &mut W) -> io::Result<()>
-    ensures { OnOk result (Appends (W.contents out.old) (W.contents out.new) (up_line cluster port is_up)) }
+// Writes the label of a node, or nothing if its number is not known.
+fn write_node_label<W: Write>(node: Option<NodeNo>, out: &mut W) -> io::Result<()>
+    ensures { OnOk result (Appends (W.contents out.old) (W.contents out.new) (node_label node)) }
 {
-    let value = u8::from(is_up);
-    writeln!(
-        out,
-        "locks_up{{cluster=\"{cluster}\",port=\"{port}\"}} {value}"
-    )
+    if let Some(node) = node {
+        write!(out, ",node=\"{}\"", node.get())?;
+    }
+    Ok(())
+}
+
+// Writes the labels of the address and the port of a target, and ends the labels.
+fn write_place<W: Write>(inquiry: &Inquiry, target: &Target, out: &mut W) -> io::Result<()>
+    ensures { OnOk result (Appends (W.contents out.old) (W.contents out.new)
+        (place_labels (target_address inquiry.now target.now) target.now.port)) }
+{
+    let address = inquiry.address_of(target).ip();
+    let port = target.port.get();
+    write!(out, ",address=\"{address}\",port=\"{port}\"}} ")
+}
+
+// Writes the sample of a metric for a target, with the label of its node, if the number is known.
+#[tactic(auto, using(crate::proofs::Writing::appends_more))]
+fn write_sample<W: Write>(
+    name: &str,
+    inquiry: &Inquiry,
+    node: Option<NodeNo>,
+    target: &Target,
+    value: u64,
+    out: &mut W,
+) -> io::Result<()>
+    ensures { OnOk result (Appends (W.contents out.old) (W.contents out.new)
+        (sample_text name.now inquiry.now node target.now value)) }
+{
+    write!(out, "locks_{name}{{cluster=\"{}\"", inquiry.cluster)?;
+    write_node_label(node, out)?;
+    write_place(inquiry, target, out)?;
+    writeln!(out, "{value}")?;
+    Ok(())
+}
+
+// Writes the sample of `locks_up` for a target.
+fn write_up_line<W: Write>(
+    inquiry: &Inquiry,
+    target: &Target,
+    is_up: bool,
+    out: &mut W,
+) -> io::Result<()>
+    ensures { OnOk result (Appends (W.contents out.old) (W.contents out.new) (up_line inquiry.now target.now is_up)) }
+{
+    write_sample("up", inquiry, target.node, target, u64::from(is_up), out)?;
+    Ok(())
 }
 
 // Writes the sample of `locks_up` for each target. The report of the first has the token `first`, that of each other
 // the next token.
 fn write_up_lines<W: Write>(
-    cluster: u64,
+    inquiry: &Inquiry,
     first: u64,
-    targets: &[Target],
     reports: &[Report],
     out: &mut W,
 ) -> io::Result<()>
     ensures { OnOk result (Appends (W.contents out.old) (W.contents out.new)
-        (up_lines cluster first targets.now reports.now)) }
+        (up_lines first inquiry.now reports.now)) }
 {
     let mut token = first;
+    let targets = inquiry.targets.as_slice();
     'targets: for target in targets {
-        write_up_line(cluster, target.port.get(), is_reported(reports, token), out)?;
+        write_up_line(inquiry, target, is_reported(reports, token), out)?;
         token = token.wrapping_add(1);
     }
     Ok(())
 }
 
 // Writes the metric `locks_up`: whether each target has reported.
+#[tactic(auto, using(crate::proofs::Writing::appends_more))]
 fn write_up<W: Write>(
     inquiry: &Inquiry,
     first: u64,
@@ -162,58 +208,101 @@ fn write_up<W: Write>(
     out: &mut W,
 ) -> io::Result<()>
     ensures { OnOk result (Appends (W.contents out.old) (W.contents out.new)
-        (up_text inquiry.now.cluster first inquiry.now.targets.items reports.now)) }
+        (up_text first inquiry.now reports.now)) }
 {
-    write_head("up", "gauge", "Whether the node at this port answers.", out)?;
-    write_up_lines(
-        inquiry.cluster,
-        first,
-        inquiry.targets.as_slice(),
-        reports,
-        out,
-    )?;
+    let help = "Whether the node at this address and port answers.";
+    write_head("up", "gauge", help, out)?;
+    write_up_lines(inquiry, first, reports, out)?;
     Ok(())
 }
 
-// Writes the sample of a field for the node of a report.
-fn write_sample<W: Write>(field: Field, report: &Report, out: &mut W) -> io::Result<()>
-    ensures { OnOk result (Appends (W.contents out.old) (W.contents out.new) (sample_line field report.now)) }
-{
-    let (name, value) = (field.name(), field.value(report));
-    let (cluster, node) = (report.cluster, report.node.get());
-    writeln!(
-        out,
-        "locks_{name}{{cluster=\"{cluster}\",node=\"{node}\"}} {value}"
-    )
-}
-
-// Writes the sample of a field for each report.
-fn write_samples<W: Write>(field: Field, reports: &[Report], out: &mut W) -> io::Result<()>
+// Writes the sample of the node of a target, or nothing if it has no value.
+fn write_value<W: Write>(
+    name: &str,
+    inquiry: &Inquiry,
+    node: NodeNo,
+    target: &Target,
+    value: Option<u64>,
+    out: &mut W,
+) -> io::Result<()>
     ensures { OnOk result (Appends (W.contents out.old) (W.contents out.new)
-        (flat_map (sample_line field) reports.now)) }
+        (value_line name.now inquiry.now node target.now value)) }
 {
-    'all: for report in reports {
-        write_sample(field, report, out)?;
+    if let Some(value) = value {
+        write_sample(name, inquiry, Some(node), target, value, out)?;
     }
     Ok(())
 }
 
-// Writes the metric of a field: its HELP and TYPE lines, and a sample for each report.
-fn write_field<W: Write>(field: Field, reports: &[Report], out: &mut W) -> io::Result<()>
-    ensures { OnOk result (Appends (W.contents out.old) (W.contents out.new) (field_text reports.now field)) }
+// Writes the sample of a field for a target, or nothing if there is no report or it does not say the field.
+fn write_field_value<W: Write>(
+    field: Field,
+    inquiry: &Inquiry,
+    target: &Target,
+    report: Option<&Report>,
+    out: &mut W,
+) -> io::Result<()>
+    ensures { OnOk result (Appends (W.contents out.old) (W.contents out.new)
+        (sample_line field inquiry.now target.now (option_copied report.entry))) }
+{
+    let Some(report) = report else {
+        return Ok(());
+    };
+    let (name, value) = (field.name(), field.value(report));
+    write_value(name, inquiry, report.node, target, value, out)?;
+    Ok(())
+}
+
+// Writes the sample of a field for each target that has reported it.
+fn write_samples<W: Write>(
+    field: Field,
+    inquiry: &Inquiry,
+    first: u64,
+    reports: &[Report],
+    out: &mut W,
+) -> io::Result<()>
+    ensures { OnOk result (Appends (W.contents out.old) (W.contents out.new)
+        (sample_lines field first inquiry.now reports.now)) }
+{
+    let mut token = first;
+    let targets = inquiry.targets.as_slice();
+    'targets: for target in targets {
+        write_field_value(field, inquiry, target, report_with(reports, token), out)?;
+        token = token.wrapping_add(1);
+    }
+    Ok(())
+}
+
+// Writes the metric of a field: its HELP and TYPE lines, and a sample for each target that has reported it.
+#[tactic(auto, using(crate::proofs::Writing::appends_more))]
+fn write_field<W: Write>(
+    field: Field,
+    inquiry: &Inquiry,
+    first: u64,
+    reports: &[Report],
+    out: &mut W,
+) -> io::Result<()>
+    ensures { OnOk result (Appends (W.contents out.old) (W.contents out.new)
+        (field_text first inquiry.now reports.now field)) }
 {
     write_head(field.name(), field.kind(), field.help(), out)?;
-    write_samples(field, reports, out)?;
+    write_samples(field, inquiry, first, reports, out)?;
     Ok(())
 }
 
 // Writes the metrics of these fields.
-fn write_fields<W: Write>(fields: &[Field], reports: &[Report], out: &mut W) -> io::Result<()>
+fn write_fields<W: Write>(
+    fields: &[Field],
+    inquiry: &Inquiry,
+    first: u64,
+    reports: &[Report],
+    out: &mut W,
+) -> io::Result<()>
     ensures { OnOk result (Appends (W.contents out.old) (W.contents out.new)
-        (flat_map (field_text reports.now) fields.now)) }
+        (flat_map (field_text first inquiry.now reports.now) fields.now)) }
 {
     'all: for field in fields {
-        write_field(*field, reports, out)?;
+        write_field(*field, inquiry, first, reports, out)?;
     }
     Ok(())
 }
@@ -228,10 +317,10 @@ pub fn write_metrics<W: Write>(
     out: &mut W,
 ) -> io::Result<()>
     ensures { OnOk result (Appends (W.contents out.old) (W.contents out.new)
-        (metrics_text inquiry.now.cluster first inquiry.now.targets.items reports.now (option_copied measure.entry))) }
+        (metrics_text first inquiry.now reports.now (option_copied measure.entry))) }
 {
     write_verdict(inquiry.cluster, measure, reports, out)?;
     write_up(inquiry, first, reports, out)?;
-    write_fields(&FIELDS, reports, out)?;
+    write_fields(&FIELDS, inquiry, first, reports, out)?;
     Ok(())
 }

@@ -13,12 +13,11 @@ use crate::lines::write_lines;
 use crate::prometheus::write_metrics;
 use crate::why::write_why;
 use lk_probe::Report;
-use lk_status::asking::probe_all;
+use lk_program_fault::ProgramFault;
+use lk_status::asking::{TOKENS, pause, probe_all};
 use lk_status::measure::reference_report;
 use lk_status::target::Inquiry;
 use lk_status::verdict::{is_ready, is_served};
-use lk_transport::fault::ProgramFault;
-use lk_transport::receive_buffer::ReceiveBuffer;
 use lk_transport::socket::DatagramSocket;
 use std::alloc::Global;
 use std::io;
@@ -26,13 +25,6 @@ use std::io::Write;
 
 // The receives of 100 ms in a second.
 const A_SECOND: u32 = 10;
-
-// The tokens of a round: more than it can have targets, so that a late report of an earlier round fits none of its
-// probes.
-const TOKENS: u64 = 256;
-
-// A pause drops at most this many datagrams.
-const LATE: u32 = 64;
 
 /// The form in which the reports are printed.
 #[derive(Clone, Copy)]
@@ -106,23 +98,6 @@ fn print<W: Write>(plan: &Plan, first: u64, reports: &[Report], out: &mut W) -> 
     write_form(plan, first, reports, reference_report(reports), out)?;
     out.flush()?;
     Ok(is_served(reports))
-}
-
-// Waits until a receive of 100 ms brings nothing, and drops what came before that: reports that were late, at most 64.
-fn drop_late_reports<S: DatagramSocket>(socket: &mut S) {
-    let mut buffer = ReceiveBuffer::new();
-    'late: for _ in 0..LATE {
-        buffer.receive(socket);
-        if buffer.latest().is_none() {
-            return;
-        }
-    }
-}
-
-// Pauses between two rounds, and adds one to `idle`.
-fn pause<S: DatagramSocket>(socket: &mut S, idle: &mut u32) {
-    drop_late_reports(socket);
-    *idle = idle.saturating_add(1);
 }
 
 // Returns the goal to wait for: how many positions the leader has executed. `None` if the measure, the report with

@@ -1,29 +1,21 @@
 // The lines `why: ..` after those of the status: what may keep requests from being answered, and the remedy.
 ghost use Rattle.std.specs.Io.KnownBytes.{Appends};
+ghost use Rattle.std.specs.List.{list_all};
 ghost use Rattle.std.specs.Option.{option_copied};
-ghost use Rattle.std.specs.Prelude.{◌≡◌, OnOk};
-ghost use Rattle.lk_status_command.specs.Fields.{is_member, follows, followed};
-ghost use Rattle.lk_status_command.specs.Reasons.{deaf_line, seeking_line, hearing_reason, outside_line, node_reason};
-ghost use Rattle.lk_status_command.specs.Reasons.{node_reasons, nobody_line, majority_line, mute_text, leaderless_line};
+ghost use Rattle.std.specs.Prelude.{◌≡◌, OnOk, flat_map};
+ghost use Rattle.lk_status_command.specs.Fields.{follows, followed};
+ghost use Rattle.lk_status_command.specs.Reasons.{hears, node_reasons, nobody_line, majority_line, mute_text};
+ghost use Rattle.lk_status_command.specs.Reasons.{cause_text, leaderless_line, unfollowed_line, unfollowed_reason};
 ghost use Rattle.lk_status_command.specs.Reasons.{geneses_reason, leader_reason, leaders_reason, members_reason};
-ghost use Rattle.lk_status_command.specs.Reasons.{why_text};
+ghost use Rattle.lk_status_command.specs.Reasons.{deaf_leader_line, reads, sends, some_send, unread_reason};
+ghost use Rattle.lk_status_command.specs.Reasons.{bundles_reason, why_text};
 
+use crate::node_reason::{SILENT, hears, write_node};
 use lk_probe::Report;
-use lk_status::verdict::{has_majority, has_one_genesis, seeks_votes};
+use lk_status::verdict::{has_followers, has_majority, has_one_genesis, hears_enough, seeks_votes};
 use lk_types::{Member, NodeNo};
 use std::io;
 use std::io::Write;
-
-// Ticks of silence after which a node is said to hear nobody: the last of seven members waits as long before it seeks
-// votes.
-const SILENT: u64 = 28;
-
-// Whether that node is one of these members.
-fn is_among(node: NodeNo, members: &[Member]) -> bool
-    ensures { result ≡ is_member node members.now }
-{
-    members.iter().any(|member| member.node == node)
-}
 
 // Whether a node follows a leader, of which it has heard in the last 28 ticks.
 fn follows(report: &Report) -> bool
@@ -93,90 +85,80 @@ fn write_mute<W: Write>(node: Option<NodeNo>, out: &mut W) -> io::Result<()>
     Ok(())
 }
 
-// Writes that nobody leads, and who is the cause if it lasts: see `write_mute`.
-#[tactic(auto, using(crate::proofs::Writing::appends_more))]
-fn write_leaderless<W: Write>(node: Option<NodeNo>, out: &mut W) -> io::Result<()>
-    ensures { OnOk result (Appends (W.contents out.old) (W.contents out.new) (leaderless_line node)) }
+// Whether each of these nodes says that it hears a majority.
+fn all_hear(reports: &[Report]) -> bool
+    ensures { result ≡ list_all hears reports.now }
 {
-    out.write_all(b"why: nobody leads: an election takes seconds; if it lasts, ")?;
-    write_mute(node, out)?;
+    reports.iter().all(hears)
+}
+
+// Writes why nobody leads if that lasts: the members hear each other, or else see `write_mute`.
+fn write_cause<W: Write>(reports: &[Report], out: &mut W) -> io::Result<()>
+    ensures { OnOk result (Appends (W.contents out.old) (W.contents out.new) (cause_text reports.now)) }
+{
+    if all_hear(reports) {
+        out.write_all(b"let long datagrams pass (fragments): the members hear each other\n")?;
+    } else {
+        write_mute(followed_in(reports), out)?;
+    }
     Ok(())
 }
 
-// Writes that nobody leads, if the measure does not. The measure is the report with which the others are compared.
+// Writes that nobody leads, and why if it lasts.
+#[tactic(auto, using(crate::proofs::Writing::appends_more))]
+fn write_leaderless<W: Write>(reports: &[Report], out: &mut W) -> io::Result<()>
+    ensures { OnOk result (Appends (W.contents out.old) (W.contents out.new) (leaderless_line reports.now)) }
+{
+    out.write_all(b"why: nobody leads: an election takes seconds; if it lasts, ")?;
+    write_cause(reports, out)?;
+    Ok(())
+}
+
+// Writes that no majority follows a node that leads.
+fn write_unfollowed_line<W: Write>(leader: NodeNo, out: &mut W) -> io::Result<()>
+    ensures { OnOk result (Appends (W.contents out.old) (W.contents out.new) (unfollowed_line leader)) }
+{
+    let node = leader.get();
+    writeln!(
+        out,
+        "why: no majority follows node {node}, which leads: they do not hear it, or it does not hear them"
+    )
+}
+
+// Writes that a node that leads hears no majority.
+fn write_deaf_leader<W: Write>(leader: NodeNo, out: &mut W) -> io::Result<()>
+    ensures { OnOk result (Appends (W.contents out.old) (W.contents out.new) (deaf_leader_line leader)) }
+{
+    let node = leader.get();
+    writeln!(
+        out,
+        "why: node {node}, which leads, hears no majority: check what keeps the members' datagrams from it"
+    )?;
+    Ok(())
+}
+
+// Writes that no majority follows a leader, or that it hears none, if that is so.
+fn write_unfollowed<W: Write>(leader: &Report, reports: &[Report], out: &mut W) -> io::Result<()>
+    ensures { OnOk result (Appends (W.contents out.old) (W.contents out.new)
+        (unfollowed_reason leader.now reports.now)) }
+{
+    if !hears_enough(leader) {
+        write_deaf_leader(leader.node, out)?;
+    } else if !has_followers(leader, reports) {
+        write_unfollowed_line(leader.node, out)?;
+    }
+    Ok(())
+}
+
+// Writes that nobody leads, if the measure does not, or else that no majority follows it, if that is so. The measure is
+// the report with which the others are compared.
 fn write_unled<W: Write>(measure: &Report, reports: &[Report], out: &mut W) -> io::Result<()>
     ensures { OnOk result (Appends (W.contents out.old) (W.contents out.new) (leader_reason measure.now reports.now)) }
 {
-    if !measure.status.leadership.leads {
-        write_leaderless(followed_in(reports), out)?;
-    }
-    Ok(())
-}
-
-// Writes that a node seeks votes.
-fn write_seeking<W: Write>(node: NodeNo, out: &mut W) -> io::Result<()>
-    ensures { OnOk result (Appends (W.contents out.old) (W.contents out.new) (seeking_line node)) }
-{
-    let node = node.get();
-    writeln!(
-        out,
-        "why: node {node} seeks votes: if that lasts, check its --port, the hosts and the keys"
-    )?;
-    Ok(())
-}
-
-// Writes that a node hears nobody.
-fn write_deaf<W: Write>(node: NodeNo, out: &mut W) -> io::Result<()>
-    ensures { OnOk result (Appends (W.contents out.old) (W.contents out.new) (deaf_line node)) }
-{
-    let node = node.get();
-    writeln!(
-        out,
-        "why: node {node} hears nobody: check its --port, the hosts and the keys"
-    )?;
-    Ok(())
-}
-
-// Writes that a node seeks votes, or hears nobody, if it does.
-fn write_hearing<W: Write>(report: &Report, out: &mut W) -> io::Result<()>
-    ensures { OnOk result (Appends (W.contents out.old) (W.contents out.new) (hearing_reason report.now)) }
-{
-    let leadership = &report.status.leadership;
-    if seeks_votes(report) {
-        write_seeking(report.node, out)?;
-    } else if !leadership.leads && leadership.silence >= SILENT {
-        write_deaf(report.node, out)?;
-    }
-    Ok(())
-}
-
-// Writes that a node is no member.
-fn write_outside<W: Write>(node: NodeNo, out: &mut W) -> io::Result<()>
-    ensures { OnOk result (Appends (W.contents out.old) (W.contents out.new) (outside_line node)) }
-{
-    let node = node.get();
-    writeln!(
-        out,
-        "why: node {node} is not a member: it has left, or has to join"
-    )?;
-    Ok(())
-}
-
-// Writes that a node is not a member. Of a member it writes what it hears, but only if a majority is up: without one
-// nobody can lead, and hearing nobody shows nothing.
-fn write_node<W: Write>(
-    majority: bool,
-    members: &[Member],
-    report: &Report,
-    out: &mut W,
-) -> io::Result<()>
-    ensures { OnOk result (Appends (W.contents out.old) (W.contents out.new)
-        (node_reason majority members.now report.now)) }
-{
-    if !is_among(report.node, members) {
-        write_outside(report.node, out)?;
-    } else if majority {
-        write_hearing(report, out)?;
+    if measure.status.leadership.leads {
+        write_unfollowed(measure, reports, out)?;
+    } else {
+        write_leaderless(reports, out)?;
     }
     Ok(())
 }
@@ -226,6 +208,72 @@ fn write_reasons<W: Write>(measure: &Report, reports: &[Report], out: &mut W) ->
     Ok(())
 }
 
+// Whether a node says that it sends bundles.
+fn sends(report: &Report) -> bool
+    ensures { result ≡ sends report.now.reach }
+{
+    match &report.reach {
+        Some(reach) => reach.sends_bundles,
+        None => false,
+    }
+}
+
+// Whether a node says that it reads bundles.
+fn reads(report: &Report) -> bool
+    ensures { result ≡ reads report.now.reach }
+{
+    match &report.reach {
+        Some(reach) => reach.reads_bundles,
+        None => false,
+    }
+}
+
+// Whether one of these nodes says that it sends bundles.
+fn some_send(reports: &[Report]) -> bool
+    ensures { result ≡ some_send reports.now }
+{
+    for report in reports {
+        if sends(report) {
+            return true;
+        }
+    }
+    false
+}
+
+// Writes that a node may not read bundles, if it does not say that it does.
+fn write_unread<W: Write>(report: &Report, out: &mut W) -> io::Result<()>
+    ensures { OnOk result (Appends (W.contents out.old) (W.contents out.new) (unread_reason report.now)) }
+{
+    if !reads(report) {
+        writeln!(
+            out,
+            "why: node {} may not read the bundles of others: start it with this program, or them without --bundle",
+            report.node.get()
+        )?;
+    }
+    Ok(())
+}
+
+// Writes the same of each of these nodes that it applies to.
+fn write_all_unread<W: Write>(reports: &[Report], out: &mut W) -> io::Result<()>
+    ensures { OnOk result (Appends (W.contents out.old) (W.contents out.new) (flat_map unread_reason reports.now)) }
+{
+    'all: for report in reports {
+        write_unread(report, out)?;
+    }
+    Ok(())
+}
+
+// Writes which nodes may not read bundles, if one of the nodes sends them.
+fn write_bundles<W: Write>(reports: &[Report], out: &mut W) -> io::Result<()>
+    ensures { OnOk result (Appends (W.contents out.old) (W.contents out.new) (bundles_reason reports.now)) }
+{
+    if some_send(reports) {
+        write_all_unread(reports, out)?;
+    }
+    Ok(())
+}
+
 /// Writes in words why requests may not be answered, if the reports show it.
 #[tactic(auto, using(crate::proofs::Writing::appends_more))]
 pub fn write_why<W: Write>(
@@ -240,6 +288,7 @@ pub fn write_why<W: Write>(
         Some(measure) => {
             write_geneses(reports, out)?;
             write_reasons(measure, reports, out)?;
+            write_bundles(reports, out)?;
         }
         None => write_nobody(out)?,
     }

@@ -1,5 +1,5 @@
-//! Tests of the crates below the program, by what each shows to those above it. They stand here, and not in those
-//! crates, since a crate that has tests is proved twice.
+//! Tests of the library crates through their public interfaces. They live here because a crate with tests is proved
+//! twice.
 #![tactic(auto)]
 
 #[cfg(test)]
@@ -8,6 +8,8 @@ mod clocks;
 mod faltering;
 #[cfg(test)]
 mod files;
+#[cfg(test)]
+mod platform;
 #[cfg(test)]
 mod replicas;
 #[cfg(test)]

@@ -59,6 +59,8 @@ impl ServerReplica for NotingReplica {
 
     ghost Gathers = { λ _ _ _ _. ⊤ };
 
+    ghost Takes = { λ _ _ _ _ _. ⊤ };
+
     ghost Shows = { λ _ _. ⊤ };
 
     ghost IsRaised = { λ _ _. ⊤ };

@@ -4,16 +4,20 @@ use Rattle.std.specs.Prelude.{if◌then◌else◌, length, take, drop, min, slic
 use Rattle.std.specs.declared.net.socket_addr.SocketAddr.{SocketAddr}
 use Rattle.lk_probe.specs.Neighbours.{Entries, is_stranger}
 use Rattle.lk_auth.specs.declared.seals.Seals.{Seals}
+use Rattle.lk_hearing.specs.Probes.{HearingValue}
 use Rattle.lk_transport.specs.declared.hosts.Hosts.{Hosts}
 
--- an entry for each client, the entries of nodes that wrote, most recent first, where nodes live, the keys, and what is
--- known of the genesis of the node at each address from which one wrote
+-- an entry for each client, the entries of nodes that wrote, most recent first, where nodes live, the keys, what is
+-- known of the genesis of the node at each address from which one wrote, the probes by which the node hears others, and
+-- whether it is deaf: it hears too few
 pub record AddressBook : Type 0 where
   pub clients : List (Option SocketAddr)
   pub nodes : List (Option (ℕ × SocketAddr))
   pub hosts : Hosts
   pub seals : Seals
   pub neighbours : Entries
+  pub hearing : HearingValue
+  pub deaf : Bool
 
 -- the address of a client
 abbrev pub client_at : AddressBook → ℕ → Option SocketAddr
@@ -55,13 +59,15 @@ moved_up entries node from = Some (node, from) ∷ without (min (index_in entrie
 abbrev pub IsSameNetwork : AddressBook → AddressBook → Type 0
 IsSameNetwork old new = (new.hosts ≡ old.hosts) × (new.seals ≡ old.seals)
 
--- the filter of the datagrams that arrive at a node: its keys, and the addresses at which nodes of another genesis are
+-- the filter of the datagrams that arrive at a node: its keys, the addresses at which nodes of another genesis are, and
+-- whether it is deaf
 pub record Filter : Type 0 where
   pub seals : Seals
   pub strangers : SocketAddr → Bool
+  pub deaf : Bool
 
 abbrev pub filter_of : AddressBook → Filter
-filter_of b = record { seals = b.seals; strangers = is_stranger b.neighbours }
+filter_of b = record { seals = b.seals; strangers = is_stranger b.neighbours; deaf = b.deaf }
 
 -- where nodes live and what a node filters out are the same
 abbrev pub IsSameFilter : AddressBook → AddressBook → Type 0

@@ -1,5 +1,6 @@
 -- Probes that a node answers: which ones, whom they name, and where the report goes.
-use Rattle.std.specs.Prelude.{◌≡◌, ◌≢◌, ◌⊎◌, ◌++◌, ℕ, List, [], ◌∷◌, length, Option, Some, None, IsSome}
+use Rattle.std.specs.Prelude.{◌≡◌, ◌≢◌, ◌⊎◌, ◌==◌, if◌then◌else◌, ◌++◌, ℕ, List, [], ◌∷◌, length, Option, Some, None}
+use Rattle.std.specs.Prelude.{IsSome}
 use Rattle.std.specs.declared.net.socket_addr.SocketAddr.{SocketAddr}
 use Rattle.lk_probe.specs.Grammar.{SpellsProbe, node_in}
 use Rattle.lk_probe.specs.declared.probe.Probe.{Probe}
@@ -7,7 +8,9 @@ use Rattle.lk_auth.specs.Seals.{key_list, heard}
 use Rattle.lk_auth.specs.declared.seals.Seals.{Seals}
 use Rattle.lk_node_interface.specs.declared.to.To.{To}
 use Rattle.lk_node_interface.specs.declared.to.To.TheVariants.{Node, Client}
-use Rattle.lk_transport.specs.Posts.{SendState, Loses, frame_of, keys_for}
+use Rattle.lk_types.specs.declared.member.Member.{Member}
+use Rattle.lk_transport.specs.Addresses.{AddressBook}
+use Rattle.lk_transport.specs.Posts.{SendState, IsRoute, Loses, frame_of, keys_for}
 use Rattle.lk_transport.specs.declared.received_probe.ReceivedProbe.{ReceivedProbe}
 
 -- if the nodes have a key, a probe that names a node came sealed: the datagram is shorter than the frame
@@ -50,8 +53,33 @@ pub record SendsTo (observable : Type 0) (address : SocketAddr) (frame : List �
   pub sent : observable → new.sent ≡ old.sent ++ (address, frame) ∷ []
   pub failures : observable → new.failures ≡ old.failures
 
--- a report goes to where the probe came from, and is sent or lost
-abbrev pub Replies : Type 0 → Seals → ReceivedProbe → List ℕ → SendState → SendState → Type 0
-Replies observable s a bytes old new =
-    SendsTo observable a.from (frame_for s (asker a.probe) bytes) old new
+-- the port of a node among these members
+abbrev pub port_among : List Member → ℕ → Option ℕ
+port_among [] node = None
+port_among (m ∷ ms) node = if m.node == node then Some m.port else port_among ms node
+
+-- the address that is known, or else this one
+abbrev pub known_or_from : Option SocketAddr → SocketAddr → SocketAddr
+known_or_from None from = from
+known_or_from (Some address) from = address
+
+-- where a report goes: to a member whose port is that, where its letters go, if that is known; else to where the probe
+-- came from
+abbrev pub IsReplyTo : AddressBook → ℕ → Option ℕ → SocketAddr → SocketAddr → Type 0
+IsReplyTo b node None from address = address ≡ from
+IsReplyTo b node (Some port) from address =
+    (route : Option SocketAddr) × IsRoute b (Node node port) route × (address ≡ known_or_from route from)
+
+abbrev pub IsReplyOf : AddressBook → List Member → Option ℕ → SocketAddr → SocketAddr → Type 0
+IsReplyOf b ms None from address = address ≡ from
+IsReplyOf b ms (Some node) from address = IsReplyTo b node (port_among ms node) from address
+
+-- so of a probe, by the node that it names
+abbrev pub IsReplyAddress : AddressBook → List Member → ReceivedProbe → SocketAddr → Type 0
+IsReplyAddress b ms a address = IsReplyOf b ms (node_in a.probe.origin) a.from address
+
+-- a report goes there, and is sent or lost
+abbrev pub Replies : Type 0 → Seals → ReceivedProbe → SocketAddr → List ℕ → SendState → SendState → Type 0
+Replies observable s a address bytes old new =
+    SendsTo observable address (frame_for s (asker a.probe) bytes) old new
     ⊎ Loses observable (keys_to s (asker a.probe)) old new

@@ -1,6 +1,7 @@
 -- How a node finds out which genesis each node that writes to it was started with: which address it asks, whose
 -- datagrams it accepts again, and what it records of a report.
-use Rattle.std.specs.Prelude.{◌≡◌, ◌≢◌, ◌⊎◌, ℕ, nat_eq, Bool, true, false, List, [], Option, Some, None, slice_get}
+use Rattle.std.specs.Prelude.{◌≡◌, ◌≢◌, ◌⊎◌, ℕ, nat_eq, Bool, true, false, List, [], length, Option, Some, None}
+use Rattle.std.specs.Prelude.{slice_get}
 use Rattle.std.specs.Cmp.Lexicographic.{pointwise}
 use Rattle.std.specs.List.{list_any}
 use Rattle.std.specs.declared.net.socket_addr.SocketAddr.{SocketAddr}
@@ -67,20 +68,27 @@ ReadmitsKept (Some a) old new = ReadmitsIf (is_of old.seals.genesis a.probe.orig
 
 -- ---- what it learns
 
--- a frame, with its source, carries this report, which answers the question of the node of that number; or none does
-abbrev pub IsReportedBy : ℕ → Seals → SocketAddr × List ℕ → Option Reported → Type 0
-IsReportedBy node s d told = IsReportedOf (question_by s node) (d.0, heard s d.1) told
+-- if the nodes have a key, the frame came sealed: its datagram is shorter
+abbrev pub IsSealedIfKeyed : Seals → List ℕ → Type 0
+IsSealedIfKeyed s frame = key_list s.nodes ≢ [] → length frame ≢ length (heard s frame)
 
--- a report's genesis is recorded for its address, which was asked and had not answered; a report from another address
--- changes nothing
-abbrev pub LearnsOf : Reported → Option Neighbour → AddressBook → AddressBook → Type 0
-LearnsOf r (Some n) old new =
-    Learns r.from old.seals.genesis r.reporter n old.neighbours new.neighbours
+-- a frame, with its source, carries what is kept of a report; or no report of the cluster that replies to a node, or
+-- one that did not come sealed though the nodes have a key
+abbrev pub IsReportedBy : Seals → SocketAddr × List ℕ → Option Reported → Type 0
+IsReportedBy s d None = IsSealedIfKeyed s d.1 → IsReportedOf s.cluster (d.0, heard s d.1) None
+IsReportedBy s d (Some t) = IsSealedIfKeyed s d.1 × IsReportedOf s.cluster (d.0, heard s d.1) (Some t)
+
+-- a report's genesis is recorded for its address, if it replies to the question of the node of that number, and that
+-- address was asked and had not answered; any other report changes nothing
+abbrev pub LearnsOf : ℕ → Reported → Option Neighbour → AddressBook → AddressBook → Type 0
+LearnsOf node r (Some n) old new =
+    (r.token ≡ node) × Learns r.from old.seals.genesis r.reporter n old.neighbours new.neighbours
     × (new ≡ record old { neighbours = new.neighbours })
-LearnsOf r None old new =
-    (is_open_at (slice_get old.neighbours (entry_for r.from old.neighbours)) ≡ false) × (new ≡ old)
+LearnsOf node r None old new =
+    ((r.token ≢ node) ⊎ (is_open_at (slice_get old.neighbours (entry_for r.from old.neighbours)) ≡ false))
+    × (new ≡ old)
 
 -- the same for a kept report, if there is one
-abbrev pub LearnsKept : Option Reported → AddressBook → AddressBook → Type 0
-LearnsKept None old new = new ≡ old
-LearnsKept (Some r) old new = (n : Option Neighbour) × LearnsOf r n old new
+abbrev pub LearnsKept : ℕ → Option Reported → AddressBook → AddressBook → Type 0
+LearnsKept node None old new = new ≡ old
+LearnsKept node (Some r) old new = (n : Option Neighbour) × LearnsOf node r n old new

@@ -1,5 +1,4 @@
 pub mod Chains
-pub mod Faults
 pub mod Addresses
 pub mod Hosts
 pub mod Posts
@@ -9,3 +8,4 @@ pub mod Askers
 pub mod Inquiring
 pub mod Kept
 pub mod Arrivals
+pub mod Listening

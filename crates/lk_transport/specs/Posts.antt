@@ -1,5 +1,5 @@
 -- Where a letter goes and in which form, and what a contract sees of a post with a socket.
-use Rattle.std.specs.Prelude.{◌≡◌, ◌≢◌, ◌⊎◌, ◌==◌, ◌||◌, ℕ, Bool, true, false, if◌then◌else◌, List, [], ◌∷◌, ◌++◌}
+use Rattle.std.specs.Prelude.{◌≡◌, ◌≢◌, ◌⊎◌, ◌==◌, ◌||◌, ◌&&◌, ℕ, Bool, true, false, if◌then◌else◌, List, [], ◌∷◌, ◌++◌}
 use Rattle.std.specs.Prelude.{Option, Some, None, MatchBool, MatchOption, IsSomeAnd}
 use Rattle.std.specs.Net.Socket.{socket_ip, socket_port}
 use Rattle.std.specs.declared.net.socket_addr.SocketAddr.{SocketAddr}
@@ -74,9 +74,16 @@ is_probe_or_report _ = false
 abbrev pub opened_as : Filter → SocketAddr × List ℕ → SocketAddr × List ℕ
 opened_as c d = (d.0, heard c.seals d.1)
 
--- no replica gets it: it is a probe or a report, or came from a node of another genesis
+-- it begins as a client's request does, with the letters LK, and has its kind
+abbrev pub is_request : List ℕ → Bool
+is_request (l ∷ k ∷ v ∷ kind ∷ rest) = if l == 76 then (if k == 75 then kind == 9 else false) else false
+is_request _ = false
+
+-- no replica gets it: it is a probe or a report, or came from a node of another genesis, or a client asks it, and the
+-- node is deaf
 abbrev pub is_filtered_out : Filter → SocketAddr × List ℕ → Bool
-is_filtered_out c d = is_probe_or_report (heard c.seals d.1) || c.strangers d.0
+is_filtered_out c d =
+    is_probe_or_report (heard c.seals d.1) || (c.strangers d.0 || (c.deaf && is_request (heard c.seals d.1)))
 
 -- an arrived frame as a replica gets it: opened, or nothing if it is filtered out
 abbrev pub filtered : Filter → SocketAddr × List ℕ → List (SocketAddr × List ℕ)
@@ -152,6 +159,7 @@ pub record RecordsClient (client : ℕ) (from : SocketAddr) (old new : AddressBo
   pub others : (c : ℕ) → IsClient c → c ≢ client → client_at new c ≡ client_at old c
   pub nodes : new.nodes ≡ old.nodes
   pub neighbours : new.neighbours ≡ old.neighbours
+  pub hearing : new.hearing ≡ old.hearing
   pub network : IsSameFilter old new
 
 -- that node's address replaces its last one, no other node's changes, except for the one that is dropped if all
@@ -161,6 +169,7 @@ pub record RecordsNode (node : ℕ) (from : SocketAddr) (binds : Bool) (old new 
   pub moves : new.nodes ≡ moved_up old.nodes node from
   pub clients : new.clients ≡ old.clients
   pub meets : Meets from binds old.neighbours new.neighbours
+  pub hearing : new.hearing ≡ old.hearing
   pub network : IsSameFilter old new
 
 -- the address of the sender of this content is recorded

@@ -1,7 +1,8 @@
 //! The address book of a node: from where each client and node last wrote, the hosts of the nodes, the keys that
 //! identify senders, and which genesis the node at each address has.
 
-ghost use Rattle.std.specs.Prelude.{◌≡◌, ◌≢◌, ℕ, Some, None, min};
+ghost use Rattle.std.specs.Prelude.{◌≡◌, ◌≢◌, ℕ, Some, None, false, min};
+ghost use Rattle.lk_hearing.specs.Probes.{nothing_sent};
 ghost use Rattle.lk_types.specs.Ranges.{IsClient};
 ghost use Rattle.lk_probe.specs.Neighbours.{Meets};
 ghost use Rattle.lk_transport.specs.Addresses.{client_at, node_at, node_in, index_in, moved_up, IsSameFilter};
@@ -10,6 +11,7 @@ ghost use Rattle.lk_transport.specs.Hosts.{host_of};
 use crate::hosts::Hosts;
 use crate::network::Network;
 use lk_auth::Seals;
+use lk_hearing::hearing::Hearing;
 use lk_probe::neighbours::Neighbours;
 use lk_types::{ClientNo, NodeNo};
 use std::marker::Model;
@@ -32,6 +34,10 @@ pub struct Addresses {
     seals: Seals,
     // which genesis the node at each address from which nodes wrote was started with
     pub(crate) neighbours: Neighbours,
+    // the probes by which this node hears the other members
+    pub(crate) hearing: Hearing,
+    // whether it hears too few of them, so that clients' requests are dropped
+    pub(crate) is_deaf: bool,
 }
 
 impl Model for Addresses {
@@ -45,6 +51,8 @@ impl Model for Addresses {
       hosts = a.hosts;
       seals = a.seals;
       neighbours = a.neighbours;
+      hearing = a.hearing;
+      deaf = a.is_deaf;
     } };
 }
 
@@ -68,6 +76,8 @@ impl Addresses {
         ensures nodes { (n : ℕ) → node_at result n ≡ None }
         ensures hosts { result.hosts ≡ network.hosts }
         ensures seals { result.seals ≡ network.seals }
+        ensures hearing { result.hearing ≡ nothing_sent }
+        ensures deaf { result.deaf ≡ false }
     {
         let Network { hosts, seals } = network;
         Addresses {
@@ -76,6 +86,8 @@ impl Addresses {
             hosts,
             seals,
             neighbours: Neighbours::new(),
+            hearing: Hearing::new(),
+            is_deaf: false,
         }
     }
 
@@ -106,6 +118,7 @@ impl Addresses {
         ensures others { (c : ℕ) → IsClient c → c ≢ client → client_at self.new c ≡ client_at self.old c }
         ensures nodes { self.new.nodes ≡ self.old.nodes }
         ensures neighbours { self.new.neighbours ≡ self.old.neighbours }
+        ensures hearing { self.new.hearing ≡ self.old.hearing }
         ensures network { IsSameFilter self.old self.new }
     {
         self.clients[client.get() as usize - 1] = Some(from);
@@ -139,6 +152,7 @@ impl Addresses {
         ensures moves { self.new.nodes ≡ moved_up self.old.nodes node from }
         ensures clients { self.new.clients ≡ self.old.clients }
         ensures meets { Meets from binds self.old.neighbours self.new.neighbours }
+        ensures hearing { self.new.hearing ≡ self.old.hearing }
         ensures network { IsSameFilter self.old self.new }
     {
         self.neighbours.meet(from, binds);

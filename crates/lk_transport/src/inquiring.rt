@@ -2,9 +2,10 @@
 
 ghost use Rattle.std.specs.Prelude.{◌≡◌, Some, is_some};
 ghost use Rattle.lk_probe.specs.Neighbours.{Readmits, bound_in, is_stranger};
-ghost use Rattle.lk_probe.specs.Questions.{IsReportedOf};
+ghost use Rattle.lk_auth.specs.Seals.{heard};
 ghost use Rattle.lk_transport.specs.Addresses.{IsSameNetwork};
-ghost use Rattle.lk_transport.specs.Inquiring.{AsksOne, IsAskedAt, LearnsOf, ReadmitsKept, SendsProbe, question_by};
+ghost use Rattle.lk_transport.specs.Inquiring.{AsksOne, IsAskedAt, IsReportedBy, LearnsOf, ReadmitsKept, SendsProbe};
+ghost use Rattle.lk_transport.specs.Inquiring.{question_by};
 ghost use Rattle.lk_transport.specs.Posts.{send_state_of};
 
 use crate::addresses::Addresses;
@@ -41,11 +42,15 @@ impl Addresses {
     }
 
     // Records the genesis that a report names for the node at its address, and returns the updated entry; `None`, and
-    // nothing changes, if that address was not asked or has answered before.
-    fn learn(&mut self, reported: &Reported) -> Option<Neighbour>
-        ensures learns { LearnsOf reported.now result self.old self.new }
+    // nothing changes, if it does not reply to the question of `node`, this node, or that address was not asked or has
+    // answered before.
+    fn learn(&mut self, node: NodeNo, reported: &Reported) -> Option<Neighbour>
+        ensures learns { LearnsOf node reported.now result self.old self.new }
         ensures network { IsSameNetwork self.old self.new }
     {
+        if reported.token != u64::from(node.get()) {
+            return None;
+        }
         let own = self.seals().genesis;
         self.neighbours
             .learn(reported.from, &own, reported.reporter)
@@ -65,21 +70,28 @@ impl<S: DatagramSocket + Drop> SocketPost<S> {
         question(self.addresses.seals().cluster, asker)
     }
 
-    /// Parses a report that came from an address; `None` if it does not answer the question of this node.
-    pub fn read_report(&self, from: SocketAddr, datagram: &[u8]) -> Option<Reported>
-        ensures { IsReportedOf (question_by self.now.addresses.seals self.now.node) (from, datagram.now) result }
+    /// Parses the report in a datagram, which was opened from a frame that arrived from an address; `None` if it is
+    /// none, is of another cluster, replies to a client, or came without a seal though the nodes have a key.
+    pub fn read_report(&self, from: SocketAddr, frame: &[u8], datagram: &[u8]) -> Option<Reported>
+        requires { datagram.now ≡ heard self.now.addresses.seals frame.now }
+        ensures { IsReportedBy self.now.addresses.seals (from, frame.now) result }
     {
-        Reported::by(&self.question(), from, datagram)
+        let seals = self.addresses.seals();
+        if !seals.nodes.is_none() && frame.len() == datagram.len() {
+            return None;
+        }
+        Reported::by(seals.cluster, from, datagram)
     }
 
     /// Records the genesis that a report names for the node at its address, and returns the updated entry; `None`, and
-    /// nothing changes, if that address was not asked or has answered before.
+    /// nothing changes, if it does not reply to the question of this node, or that address was not asked or has
+    /// answered before.
     pub fn learn(&mut self, reported: &Reported) -> Option<Neighbour>
-        ensures learns { LearnsOf reported.now result self.old.addresses self.new.addresses }
+        ensures learns { LearnsOf self.old.node reported.now result self.old.addresses self.new.addresses }
         ensures network { IsSameNetwork self.old.addresses self.new.addresses }
         ensures others { self.new ≡ record self.old { addresses = self.new.addresses } }
     {
-        self.addresses.learn(reported)
+        self.addresses.learn(self.node, reported)
     }
 
     /// Accepts datagrams from the address of a probe again, if a node of this genesis sent it: if another genesis was
@@ -108,7 +120,7 @@ impl<S: DatagramSocket + Drop> SocketPost<S> {
             } }
     {
         let datagram = self.question().datagram();
-        self.socket.send_to(address, &datagram)
+        self.socket.send_to(address, datagram.as_slice())
     }
 
     /// Sends this node's question to one address at which it is due, if there is one. `now` is the count of ticks. A

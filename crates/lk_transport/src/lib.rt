@@ -4,9 +4,9 @@
 
 pub mod addresses;
 pub mod arrival;
-pub mod fault;
 pub mod hosts;
 mod inquiring;
+mod listening;
 pub mod network;
 pub mod post;
 pub mod receive_buffer;

@@ -7,6 +7,7 @@ ghost use Rattle.lk_disk.specs.Disk.{HasCause, one_more};
 ghost use Rattle.lk_transport.specs.Addresses.{client_at, node_at, IsSameFilter};
 ghost use Rattle.lk_transport.specs.Streams.{Receives};
 ghost use Rattle.lk_auth.specs.Seals.{heard};
+ghost use Rattle.lk_hearing.specs.Probes.{nothing_sent};
 ghost use Rattle.lk_transport.specs.Posts.{IsRoute, IsBoundFor, Becomes, RecordsSender};
 ghost use Rattle.lk_transport.specs.Posts.{send_state_of, frame_of, keys_for};
 ghost use Rattle.lk_transport.specs.Askers.{BringsProbe, Replies, asker, frame_for, keys_to};
@@ -45,7 +46,7 @@ pub struct SocketPost<S: DatagramSocket + Drop> {
     pub(crate) socket: S,
     pub(crate) addresses: Addresses,
     // the last frame sent, if there are keys
-    frame: Vec<u8>,
+    pub(crate) frame: Vec<u8>,
     // the queue of letters of the node to itself
     loopback: VecDeque<Letter>,
     // letters of this group that could not be sent
@@ -93,7 +94,7 @@ impl<S: DatagramSocket + Drop> Model for SocketPost<S> {
 }
 
 // Returns the address to which a letter goes, if one is known. Port 0 means that the node's port is unknown.
-fn route(addresses: &Addresses, to: &To) -> Option<SocketAddr>
+pub(crate) fn route(addresses: &Addresses, to: &To) -> Option<SocketAddr>
     ensures { IsRoute addresses.now to.now result }
 {
     match to {
@@ -108,7 +109,7 @@ fn route(addresses: &Addresses, to: &To) -> Option<SocketAddr>
 
 // Returns the bytes to send for a datagram: its frame, which overwrites the frame buffer, or the datagram itself if
 // there is no key for the recipient.
-fn framed<'a>(
+pub(crate) fn framed<'a>(
     seals: &Seals,
     to: &To,
     bytes: &'a [u8],
@@ -139,6 +140,24 @@ fn framed_for<'a>(
     }
 }
 
+// Sends a letter's frame: to a client at once, to a node perhaps together with others of its group.
+fn hand_over<S: DatagramSocket>(
+    socket: &mut S,
+    to: &To,
+    address: SocketAddr,
+    frame: &[u8],
+) -> Result<(), SendFault>
+    ensures ok { S.is_observable → OnOk result (S.sent socket.new ≡ S.sent socket.old ++ (address, frame.now) ∷ []) }
+    ensures err { S.is_observable → OnErr result (S.sent socket.new ≡ S.sent socket.old) }
+    ensures still { S.is_observable → S.incoming socket.new ≡ S.incoming socket.old }
+    ensures cause { S.is_observable → HasCause (S.failures socket.old) (S.failures socket.new) result }
+{
+    match to {
+        To::Node(node, _) => socket.send_in_group(*node, address, frame),
+        To::Client(_) => socket.send_to(address, frame),
+    }
+}
+
 impl<S: DatagramSocket + Drop> SocketPost<S> {
     /// Creates the post of a node to which nobody has written yet.
     pub fn new(alloc: Global, node: NodeNo, network: Network, socket: S) -> SocketPost<S>
@@ -149,8 +168,8 @@ impl<S: DatagramSocket + Drop> SocketPost<S> {
         ensures sent { result.sent ≡ S.sent socket }
         ensures socket_failures { result.socket_failures ≡ S.failures socket }
         ensures failures { result.failures ≡ 0 }
-        ensures hosts { result.addresses.hosts ≡ network.hosts }
-        ensures seals { result.addresses.seals ≡ network.seals }
+        ensures network { (result.addresses.hosts ≡ network.hosts) × (result.addresses.seals ≡ network.seals) }
+        ensures hearing { result.addresses.hearing ≡ nothing_sent }
         ensures incoming { result.incoming ≡ S.incoming socket }
     {
         SocketPost {
@@ -272,6 +291,17 @@ impl<S: DatagramSocket + Drop> SocketPost<S> {
         self.unsent = None;
     }
 
+    /// Ends a group: sends what the socket has kept of it, and counts what is lost.
+    pub fn end_group(&mut self)
+        ensures { self.new ≡ record self.old { failures = self.new.failures } }
+    {
+        let (lost, node) = self.socket.flush();
+        self.failures = self.failures.saturating_add(lost);
+        if node.is_some() {
+            self.unsent = node;
+        }
+    }
+
     /// Summarises the sends since the group began.
     pub fn send_summary(&self) -> SendSummary
         ensures { result.lost ≡ self.now.failures }
@@ -342,7 +372,7 @@ impl<S: DatagramSocket + Drop> SocketPost<S> {
             return Ok(());
         };
         let sent = match framed(self.addresses.seals(), &to, bytes, &mut self.frame) {
-            Ok(framed) => self.socket.send_to(address, framed),
+            Ok(framed) => hand_over(&mut self.socket, &to, address, framed),
             Err(_) => Err(SendFault),
         };
         match sent {
@@ -357,10 +387,15 @@ impl<S: DatagramSocket + Drop> SocketPost<S> {
         }
     }
 
-    /// Sends a report to the address from which its probe came, framed for the asker if the probe names one. A failure
-    /// is not counted in the group.
-    pub fn reply(&mut self, asked: &ReceivedProbe, report: &[u8]) -> Result<(), SendFault>
-        ensures replies { Replies S.is_observable self.old.addresses.seals asked.now report.now
+    /// Sends a report to an address, framed for the asker if its probe names one. A failure is not counted in the
+    /// group.
+    pub fn reply(
+        &mut self,
+        asked: &ReceivedProbe,
+        address: SocketAddr,
+        report: &[u8],
+    ) -> Result<(), SendFault>
+        ensures replies { Replies S.is_observable self.old.addresses.seals asked.now address report.now
             (send_state_of self.old) (send_state_of self.new) }
         ensures still { S.is_observable → self.new.incoming ≡ self.old.incoming }
         ensures others { self.new
@@ -378,7 +413,7 @@ impl<S: DatagramSocket + Drop> SocketPost<S> {
         ) else {
             return Err(SendFault);
         };
-        self.socket.send_to(asked.from, framed)
+        self.socket.send_to(address, framed)
     }
 }
 

@@ -1,6 +1,6 @@
 //! The buffer into which a socket receives.
 
-ghost use Rattle.std.specs.Prelude.{◌≡◌, Some, None, IfSome, IsNone};
+ghost use Rattle.std.specs.Prelude.{◌≡◌, ◌⊎◌, Some, None, true, false, IfSome, IsSome, IsNone};
 ghost use Rattle.lk_transport.specs.ReceiveBuffers.{first_asked, first_reported};
 ghost use Rattle.lk_transport.specs.Streams.{Receives, next_of};
 
@@ -101,6 +101,14 @@ impl ReceiveBuffer {
         if self.reported.is_none() {
             self.reported = reported;
         }
+    }
+
+    /// Whether it keeps a probe or a report.
+    pub fn has_kept(&self) -> bool
+        ensures some { result ≡ true → IsSome self.now.asked ⊎ IsSome self.now.reported }
+        ensures none { result ≡ false → (self.now.asked ≡ None) × (self.now.reported ≡ None) }
+    {
+        self.asked.is_some() || self.reported.is_some()
     }
 
     /// Removes and returns the kept report.

@@ -2,7 +2,7 @@
 
 ghost use Rattle.std.specs.Prelude.{◌≡◌, ◌≢◌, ◌↔◌, [], length, IsTrue, IsSome};
 ghost use Rattle.lk_auth.specs.Seals.{key_list, heard};
-ghost use Rattle.lk_transport.specs.Posts.{is_probe_or_report};
+ghost use Rattle.lk_transport.specs.Posts.{is_probe_or_report, is_request};
 ghost use Rattle.lk_transport.specs.Askers.{asker, BringsProbe, IsSealedAsNamed};
 ghost use Rattle.lk_transport.specs.Inquiring.{is_of};
 
@@ -23,6 +23,13 @@ pub fn is_probe_or_report(datagram: &[u8]) -> bool
     ensures { result ≡ is_probe_or_report datagram.now }
 {
     matches!(datagram, [b'L', b'P', ..])
+}
+
+/// Returns whether a datagram begins as a client's request does: with the letters LK, and of its kind.
+pub fn is_request(datagram: &[u8]) -> bool
+    ensures { result ≡ is_request datagram.now }
+{
+    matches!(datagram, [b'L', b'K', _, 9, ..])
 }
 
 // Returns whether a probe may name the node that it names: if the nodes have a key, such a probe must have been sealed.

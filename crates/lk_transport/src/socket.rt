@@ -6,8 +6,10 @@ ghost use Rattle.std.specs.declared.net.socket_addr.SocketAddr.{SocketAddr as Ad
 ghost use Rattle.lk_disk.specs.Disk.{HasCause};
 ghost use Rattle.lk_transport.specs.Streams.{Receives, Stream, heard_in};
 
-use crate::fault::ProgramFault;
+use lk_bundle::bundling::{OpenBundles, OpenedBundle};
 use lk_node_interface::SendFault;
+use lk_types::NodeNo;
+use std::alloc::Global;
 use std::io;
 use std::net::{Ipv4Addr, Net, SocketAddr, UdpSocket};
 use std::time::Duration;
@@ -49,6 +51,20 @@ pub trait DatagramSocket {
         ensures still { is_observable → incoming self.new ≡ incoming self.old }
         ensures cause { is_observable → HasCause (failures self.old) (failures self.new) result };
 
+    /// Sends a datagram as `send_to` does, but perhaps only at the next `flush`, together with others to the same
+    /// address. The receiver is a node, since it has to read bundles.
+    fn send_in_group(&mut self, node: NodeNo, to: SocketAddr, bytes: &[u8]) -> Result<(), SendFault>
+        ensures ok { is_observable → OnOk result (sent self.new ≡ sent self.old ++ (to, bytes.now) ∷ []) }
+        ensures err { is_observable → OnErr result (sent self.new ≡ sent self.old) }
+        ensures still { is_observable → incoming self.new ≡ incoming self.old }
+        ensures cause { is_observable → HasCause (failures self.old) (failures self.new) result };
+
+    /// Sends what `send_in_group` kept back. Returns how many of these datagrams are lost, and the node of the last.
+    fn flush(&mut self) -> (u64, Option<NodeNo>)
+        ensures unchanged { sent self.new ≡ sent self.old }
+        ensures spares { failures self.new ≡ failures self.old }
+        ensures still { incoming self.new ≡ incoming self.old };
+
     /// Sets how long a receive waits at most; it may wait up to 10 ms longer. Before the first call it is 100 ms.
     fn set_timeout(&mut self, time: Duration)
         ensures unchanged { sent self.new ≡ sent self.old }
@@ -75,6 +91,12 @@ pub trait DatagramSocket {
         ensures unchanged { sent self.new ≡ sent self.old }
         ensures spares { failures self.new ≡ failures self.old };
 
+    /// Whether it reads the bundles that come.
+    fn reads_bundles(&self) -> bool;
+
+    /// Whether it may send in bundles what is sent within a group.
+    fn sends_bundles(&self) -> bool;
+
     /// Why the last failed send failed, if the system reported it.
     fn cause(&self) -> Option<io::Error>;
 
@@ -95,6 +117,10 @@ pub struct LocalSocket {
     timeout: Duration,
     // why the last failed send failed
     cause: Option<io::Error>,
+    // what it keeps back within a group, if it sends bundles
+    open: Option<OpenBundles>,
+    // what is left of the last bundle that came, if it reads bundles
+    opened: Option<OpenedBundle>,
 }
 
 impl LocalSocket {
@@ -115,22 +141,28 @@ impl LocalSocket {
             wait,
             timeout: wait,
             cause: None,
+            open: None,
+            opened: None,
         })
     }
 
-    /// Opens a socket on 127.0.0.1 as `open` does. Every failure is `CannotOpen`.
-    pub fn bind<R: Net>(rt: &R, port: u16) -> Result<LocalSocket, ProgramFault> {
-        LocalSocket::open(rt, port).map_err(|_| ProgramFault::CannotOpen)
+    /// From now on it splits the bundles that come.
+    pub fn read_bundles(&mut self, alloc: Global) {
+        self.opened = Some(OpenedBundle::new(alloc, local(0)));
     }
 
-    /// Opens a socket as `bind` does, whose receives never wait, whatever timeout is set.
-    pub fn without_waiting<R: Net>(rt: &R, port: u16) -> Result<LocalSocket, ProgramFault> {
-        let mut socket = LocalSocket::bind(rt, port)?;
-        socket.never_waits = true;
-        if !socket.set_waiting(false) {
-            return Err(ProgramFault::CannotOpen);
-        }
-        Ok(socket)
+    /// From now on it sends what is sent within a group in bundles.
+    pub fn send_bundles(&mut self, alloc: Global) {
+        self.open = Some(OpenBundles::new(alloc));
+    }
+
+    /// Opens a socket as `open` does, whose receives never wait, whatever timeout is set.
+    pub fn without_waiting<R: Net>(rt: &R, port: u16) -> io::Result<LocalSocket> {
+        let mut opened = LocalSocket::open(rt, port)?;
+        opened.socket.set_nonblocking(true)?;
+        opened.waits = false;
+        opened.never_waits = true;
+        Ok(opened)
     }
 
     // Switches between blocking and non-blocking mode, by a system call only if that changes. Returns whether it
@@ -161,6 +193,35 @@ impl LocalSocket {
         }
     }
 
+    // Keeps a datagram until the flush. Returns false if it does not: it sends no bundles, or has no room.
+    fn keep(&mut self, node: NodeNo, to: SocketAddr, bytes: &[u8]) -> bool {
+        match &mut self.open {
+            Some(open) => open.keep(&self.socket, node, to, bytes),
+            None => false,
+        }
+    }
+
+    // Puts the next datagram of the last bundle into the buffer, if one is left.
+    fn next_piece(&mut self, buffer: &mut [u8]) -> Option<(usize, SocketAddr)>
+        ensures within { IfSome result (λ r. r.0 ≤ length buffer.new) }
+    {
+        match &mut self.opened {
+            Some(opened) => opened.next(buffer),
+            None => None,
+        }
+    }
+
+    // Receives the next payload. Of a bundle it returns the first datagram, and keeps the others for later.
+    fn receive_payload(&mut self, buffer: &mut [u8]) -> Option<(usize, SocketAddr)>
+        ensures within { IfSome result (λ r. r.0 ≤ length buffer.new) }
+    {
+        let (end, from) = self.socket.recv_from(buffer).ok()?;
+        match &mut self.opened {
+            Some(opened) => opened.take_up(buffer, end, from),
+            None => Some((end, from)),
+        }
+    }
+
     // Receives a datagram that is waiting or arrives within the timeout.
     fn receive_in_time(&mut self, buffer: &mut [u8]) -> Option<(usize, SocketAddr)>
         ensures within { IfSome result (λ r. r.0 ≤ length buffer.new) }
@@ -169,7 +230,34 @@ impl LocalSocket {
         if !self.set_waiting(true) {
             return None;
         }
-        self.socket.recv_from(buffer).ok()
+        self.receive_payload(buffer)
+    }
+
+    // Receives a datagram that is already waiting.
+    fn receive_waiting(&mut self, buffer: &mut [u8]) -> Option<(usize, SocketAddr)>
+        ensures within { IfSome result (λ r. r.0 ≤ length buffer.new) }
+    {
+        if !self.set_waiting(false) {
+            return None;
+        }
+        self.receive_payload(buffer)
+    }
+
+    // Receives a datagram as `receive_in_time` does. A socket in non-blocking mode is first read as it is: while
+    // datagrams keep arriving, no system call switches its mode.
+    fn receive_next(&mut self, buffer: &mut [u8]) -> Option<(usize, SocketAddr)>
+        ensures within { IfSome result (λ r. r.0 ≤ length buffer.new) }
+    {
+        if self.wait.is_zero() {
+            return self.receive_waiting(buffer);
+        }
+        if self.waits {
+            return self.receive_in_time(buffer);
+        }
+        match self.receive_payload(buffer) {
+            None if !self.never_waits => self.receive_in_time(buffer),
+            came => came,
+        }
     }
 }
 
@@ -192,30 +280,55 @@ impl DatagramSocket for LocalSocket {
         }
     }
 
+    // Without bundles it sends at once.
+    fn send_in_group(
+        &mut self,
+        node: NodeNo,
+        to: SocketAddr,
+        bytes: &[u8],
+    ) -> Result<(), SendFault> {
+        if self.keep(node, to, bytes) {
+            return Ok(());
+        }
+        self.send_to(to, bytes)
+    }
+
+    fn flush(&mut self) -> (u64, Option<NodeNo>) {
+        let Some(open) = &mut self.open else {
+            return (0, None);
+        };
+        let lost = open.flush(&self.socket);
+        if lost.cause.is_some() {
+            self.cause = lost.cause;
+        }
+        (lost.count, lost.node)
+    }
+
     fn set_timeout(&mut self, time: Duration) {
         self.wait = time;
     }
 
-    // A socket in non-blocking mode is first read as it is: while datagrams keep arriving, no system call switches its
-    // mode.
+    // What is left of a bundle comes first.
     fn receive(&mut self, buffer: &mut [u8]) -> Option<(usize, SocketAddr)> {
-        if self.wait.is_zero() {
-            return self.try_receive(buffer);
-        }
-        if self.waits {
-            return self.receive_in_time(buffer);
-        }
-        match self.socket.recv_from(buffer).ok() {
-            None if !self.never_waits => self.receive_in_time(buffer),
+        match self.next_piece(buffer) {
+            None => self.receive_next(buffer),
             came => came,
         }
     }
 
     fn try_receive(&mut self, buffer: &mut [u8]) -> Option<(usize, SocketAddr)> {
-        if !self.set_waiting(false) {
-            return None;
+        match self.next_piece(buffer) {
+            None => self.receive_waiting(buffer),
+            came => came,
         }
-        self.socket.recv_from(buffer).ok()
+    }
+
+    fn reads_bundles(&self) -> bool {
+        self.opened.is_some()
+    }
+
+    fn sends_bundles(&self) -> bool {
+        self.open.is_some()
     }
 
     fn cause(&self) -> Option<io::Error> {

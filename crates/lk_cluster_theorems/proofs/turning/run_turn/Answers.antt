@@ -8,7 +8,7 @@ pub returns-clause-turn : goal.returns-clause-turn
 returns-clause-turn g c honest =
     let observable = g.S.DatagramSocket.is_observable in
     on_ok_so _ (Says g.D.LogDisk.is_metered) (λ old o letters new says. says honest)
-    (λ frames. KeepsOf c.args.server.now.node c.args.server.now.addresses.seals frames c.args.buffer.now
+    (λ frames. KeepsOf c.args.server.now.addresses.seals frames c.args.buffer.now
     c.node_turn-taken.new.buffer) c.node_turn-taken.result observable c.args.server.now c.node_turn-taken.new.server
     c.node_turn-taken.ensures.turn
 

@@ -3,7 +3,6 @@ use Rattle.std.specs.FinMap as map
 use Rattle.lk_members.specs.Effects.{Command}
 use Rattle.lk_state.specs.States.{WholeValue}
 use Rattle.lk_recovery.specs.Revivals.{run_from}
-use Rattle.lk_locks.specs.Held.{held_in}
 use Rattle.lk_locks.specs.Meaning.{table_meaning}
 use Rattle.lk_locks.specs.Plain.{Table}
 use Rattle.lk_inspect.proofs.Standing.{executed_is, text_is, sets_are, sessions_are, same_table}
@@ -20,8 +19,7 @@ returns-clause-tells c = λ genesis L packs all.
           ∙ executed_is table_meaning genesis behind;
       members = c.copy.ensures ∙ c.window.ensures ∙ ap (λ r. r.sets) c.roster.ensures
           ∙ ap (λ (w : WholeValue). w.roster.sets) sums ∙ sets_are table_meaning genesis behind;
-      names = c.len.ensures.len ∙ ap (λ (t : Table). map.len t.names) table;
-      held = c.in_ok-held.ensures ∙ ap (λ (t : Table). held_in (map.entries t.names)) table;
+      names = c.in_ok-names.ensures ∙ ap (λ (t : Table). map.entries t.names) table;
       clients = ap length c.sessions.ensures ∙ ap (λ (w : WholeValue). length w.sessions) sums
           ∙ ap length (sessions_are table_meaning genesis behind);
     }

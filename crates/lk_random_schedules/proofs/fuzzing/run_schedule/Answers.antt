@@ -9,7 +9,7 @@ events-preserved g c =
       (
         so_far.0,
         so_far.1,
-        subst (λ n. Draws g.R.MemoryReplica.behaves c.args.plan.groups n so_far.0 c.step.new.world)
+        subst (λ n. Draws g.R.MemoryReplica.behaves c.args.plan n so_far.0 c.step.new.world)
             (sym (add-one c.events.counter)) (c.events.world, so_far.2, c.in_ok-step.ensures.next),
       ),
       adds_on g.R.MemoryReplica.behaves c.args.world.now c.events.world c.step.new.world c.args.transcript.now
@@ -22,6 +22,6 @@ returns-clause-fuzzes g c =
     record {
       started = so_far.0;
       starts = so_far.1;
-      draws = subst (λ n. Draws g.R.MemoryReplica.behaves c.args.plan.groups n so_far.0 c.events.world)
+      draws = subst (λ n. Draws g.R.MemoryReplica.behaves c.args.plan n so_far.0 c.events.world)
           (search rules) so_far.2;
     }

@@ -91,24 +91,31 @@ returns-clause-disks g c honest =
 
 pub returns-then-generation-ge-MAX_COUNT-clause-every_image
     : goal.returns-then-generation-ge-MAX_COUNT-clause-every_image
-returns-then-generation-ge-MAX_COUNT-clause-every_image g c honest ks ls holds image left =
-    inl (holds_keeps c.args.store.now ks ls holds image left)
+returns-then-generation-ge-MAX_COUNT-clause-every_image g c honest ks ls holds =
+    inl (holds_keeps c.args.store.now ks ls holds)
 
 pub returns-in_err-standing-clause-every_image : goal.returns-in_err-standing-clause-every_image
-returns-in_err-standing-clause-every_image g c honest ks ls holds image left =
-    inl (holds_keeps c.args.store.now ks ls holds image left)
+returns-in_err-standing-clause-every_image g c honest ks ls holds = inl (holds_keeps c.args.store.now ks ls holds)
 
 pub returns-in_err-rebase-clause-every_image : goal.returns-in_err-rebase-clause-every_image
 returns-in_err-rebase-clause-every_image g c honest ks ls holds =
     let is : c.in_ok-standing.standing ≡ standing_of c.args.node.now = search rules in
-    subst (λ (s : StandingValue). KeepsOrIs (disks c.rebase.new.self) ks ls (next_base c.args.store.now s)) is
-    (c.rebase.ensures.every_image honest ks ls holds)
+    let fits : FitsBase c.in_ok-standing.standing = search rules in
+    inr (
+      subst FitsBase is fits,
+      subst (λ (s : StandingValue). KeepsOrIs (disks c.rebase.new.self) ks ls (next_base c.args.store.now s)) is
+          (c.rebase.ensures.every_image honest ks ls holds),
+    )
 
 pub returns-clause-every_image : goal.returns-clause-every_image
 returns-clause-every_image g c honest ks ls holds =
     let is : c.in_ok-standing.standing ≡ standing_of c.args.node.now = search rules in
-    subst (λ (s : StandingValue). KeepsOrIs (disks c.rebase.new.self) ks ls (next_base c.args.store.now s)) is
-    (c.rebase.ensures.every_image honest ks ls holds)
+    let fits : FitsBase c.in_ok-standing.standing = search rules in
+    inr (
+      subst FitsBase is fits,
+      subst (λ (s : StandingValue). KeepsOrIs (disks c.rebase.new.self) ks ls (next_base c.args.store.now s)) is
+          (c.rebase.ensures.every_image honest ks ls holds),
+    )
 
 -- ---- where it was refused
 

@@ -12,7 +12,7 @@ use Rattle.lk_recovery.specs.Compacting.{renew_calls}
 use Rattle.lk_node_interface.specs.Faults.{fault_number}
 use Rattle.lk_recovery.specs.Renewals.{IsNotRenewed}
 use Rattle.lk_recovery.proofs.Refusing.{failed_alone}
-use Rattle.lk_recovery.proofs.Rebasing.{before_fits, goes_fits}
+use Rattle.lk_recovery.proofs.Rebasing.{before_fits, goes_fits, or_begins}
 use Rattle.lk_recovery.proofs.Renewals.{if_errs_as, on_err}
 use Rattle.lk_recovery.proofs.renewing.renew.Goals as goal
 
@@ -102,4 +102,5 @@ returns-in_err-write_base-clause-refused g c =
 
 pub returns-in_err-write_base-clause-left : goal.returns-in_err-write_base-clause-left
 returns-in_err-write_base-clause-left g c honest ks ls holds = on_err _ _
-    (c.write_base.ensures.every_image honest ks ls holds)
+    (or_begins c.args.node.now c.args.store.now ks ls c.write_base.new.store
+    (c.write_base.ensures.every_image honest ks ls holds))

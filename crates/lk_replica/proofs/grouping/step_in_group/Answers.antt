@@ -12,7 +12,7 @@ use Rattle.lk_node_interface.specs.Faults.{WantsNoMemory, fault_number}
 use Rattle.lk_recovery.proofs.Recoveries.{err_as, refused_on, grown_base, grown_then, spared_more, second_after}
 use Rattle.lk_recovery.proofs.Recoveries.{file_after, left_after}
 use Rattle.lk_recovery.specs.Compacting.{AreLeft, AreSame}
-use Rattle.lk_replica.proofs.Grouped.{says_more, none_still}
+use Rattle.lk_replica.proofs.Grouped.{says_more}
 use Rattle.lk_replica.proofs.Refusals.{errs_as}
 use Rattle.lk_replica.proofs.grouping.step_in_group.Goals as goal
 
@@ -30,7 +30,7 @@ returns-clause-goes g c honest =
           (λ (x : GroupValue). GroupLeavesFit m h n c.step_to_file.new.node c.step_to_file.new.store x.needs_sync
           o.notes
           (batch_of n sent)) (sym is)
-          ((c.in_ok-outbox.ensures.keeps honest).goes h n
+          ((c.in_ok-outbox.ensures.keeps honest c.in_ok-needs_sync.needs_sync).goes h n
           ((c.in_ok-needs_sync.ensures.keeps honest).fits h n
           (subst (λ (w : Bool). GroupFits g.M.Machine.meaning h n c.args.node.now c.args.store.now w)
           (sym (ap (λ (y : GroupValue). y.needs_sync) c.group.view_is)) f)) heard sent among);
@@ -43,7 +43,7 @@ returns-clause-keeps g c honest =
     let is = c.in_ok-add.ensures.added in
     let before = c.args.group.now in
     let room = c.in_ok-needs_sync.ensures.keeps honest in
-    let step = c.in_ok-outbox.ensures.keeps honest in
+    let step = c.in_ok-outbox.ensures.keeps honest c.in_ok-needs_sync.needs_sync in
     let w = sym (ap (λ (y : GroupValue). y.needs_sync) c.group.view_is) in
     let mine : (genesis : Genesis) (n : ℕ) → RemembersInGroup c.args.node.now c.args.store.now before.needs_sync
     genesis n
@@ -104,72 +104,75 @@ returns-in_err-outbox-clause-disks g c honest =
     let m = g.M.Machine.meaning in
     let w = sym (ap (λ (y : GroupValue). y.needs_sync) c.group.view_is) in
     record {
-      ends = λ h n s heard. (c.step_to_file.ensures.disks honest).ends h n
+      ends = λ h n s heard. (c.step_to_file.ensures.disks honest c.in_ok-needs_sync.needs_sync).ends h n
           ((c.in_ok-needs_sync.ensures.keeps honest).stays h n
           (subst (λ (w : Bool). GroupStays m h n c.args.node.now c.args.store.now w) w s)) heard;
       covers = λ genesis n x r every.
           let mine = subst (λ (w : Bool). RemembersInGroup c.args.node.now c.args.store.now w genesis n) w r in
-          (c.step_to_file.ensures.disks honest).covers genesis n x
+          (c.step_to_file.ensures.disks honest c.in_ok-needs_sync.needs_sync).covers genesis n x
           ((c.in_ok-needs_sync.ensures.keeps honest).recalls genesis n mine)
           ((c.make_room.ensures.disks honest).covers genesis n x mine every);
       room = within_first 132704 (disks c.args.store.now) (disks c.make_room.new.store)
           (disks c.step_to_file.new.store)
           (refused_room (disks c.args.store.now) (disks c.make_room.new.store) (c.make_room.ensures.disks honest).room)
-          ((c.step_to_file.ensures.disks honest).room (c.in_ok-needs_sync.ensures.small honest));
+          ((c.step_to_file.ensures.disks honest c.in_ok-needs_sync.needs_sync).room
+          (c.in_ok-needs_sync.ensures.small honest));
     }
 
 pub returns-in_err-outbox-clause-grows : goal.returns-in_err-outbox-clause-grows
 returns-in_err-outbox-clause-grows g c honest =
     grown_then (disks c.args.store.now) (disks c.make_room.new.store) (disks c.step_to_file.new.store)
-    (c.make_room.ensures.disks honest).room ((c.step_to_file.ensures.disks honest).grows)
+    (c.make_room.ensures.disks honest).room ((c.step_to_file.ensures.disks honest c.in_ok-needs_sync.needs_sync).grows)
 
 pub returns-in_err-add-clause-disks : goal.returns-in_err-add-clause-disks
 returns-in_err-add-clause-disks g c honest =
     let m = g.M.Machine.meaning in
     let w = sym (ap (λ (y : GroupValue). y.needs_sync) c.group.view_is) in
     record {
-      ends = λ h n s heard. (c.step_to_file.ensures.disks honest).ends h n
+      ends = λ h n s heard. (c.step_to_file.ensures.disks honest c.in_ok-needs_sync.needs_sync).ends h n
           ((c.in_ok-needs_sync.ensures.keeps honest).stays h n
           (subst (λ (w : Bool). GroupStays m h n c.args.node.now c.args.store.now w) w s)) heard;
       covers = λ genesis n x r every.
           let mine = subst (λ (w : Bool). RemembersInGroup c.args.node.now c.args.store.now w genesis n) w r in
-          (c.step_to_file.ensures.disks honest).covers genesis n x
+          (c.step_to_file.ensures.disks honest c.in_ok-needs_sync.needs_sync).covers genesis n x
           ((c.in_ok-needs_sync.ensures.keeps honest).recalls genesis n mine)
           ((c.make_room.ensures.disks honest).covers genesis n x mine every);
       room = within_first 132704 (disks c.args.store.now) (disks c.make_room.new.store)
           (disks c.step_to_file.new.store)
           (refused_room (disks c.args.store.now) (disks c.make_room.new.store) (c.make_room.ensures.disks honest).room)
-          ((c.step_to_file.ensures.disks honest).room (c.in_ok-needs_sync.ensures.small honest));
+          ((c.step_to_file.ensures.disks honest c.in_ok-needs_sync.needs_sync).room
+          (c.in_ok-needs_sync.ensures.small honest));
     }
 
 pub returns-in_err-add-clause-grows : goal.returns-in_err-add-clause-grows
 returns-in_err-add-clause-grows g c honest =
     grown_then (disks c.args.store.now) (disks c.make_room.new.store) (disks c.step_to_file.new.store)
-    (c.make_room.ensures.disks honest).room ((c.step_to_file.ensures.disks honest).grows)
+    (c.make_room.ensures.disks honest).room ((c.step_to_file.ensures.disks honest c.in_ok-needs_sync.needs_sync).grows)
 
 pub returns-clause-disks : goal.returns-clause-disks
 returns-clause-disks g c honest =
     let m = g.M.Machine.meaning in
     let w = sym (ap (λ (y : GroupValue). y.needs_sync) c.group.view_is) in
     record {
-      ends = λ h n s heard. (c.step_to_file.ensures.disks honest).ends h n
+      ends = λ h n s heard. (c.step_to_file.ensures.disks honest c.in_ok-needs_sync.needs_sync).ends h n
           ((c.in_ok-needs_sync.ensures.keeps honest).stays h n
           (subst (λ (w : Bool). GroupStays m h n c.args.node.now c.args.store.now w) w s)) heard;
       covers = λ genesis n x r every.
           let mine = subst (λ (w : Bool). RemembersInGroup c.args.node.now c.args.store.now w genesis n) w r in
-          (c.step_to_file.ensures.disks honest).covers genesis n x
+          (c.step_to_file.ensures.disks honest c.in_ok-needs_sync.needs_sync).covers genesis n x
           ((c.in_ok-needs_sync.ensures.keeps honest).recalls genesis n mine)
           ((c.make_room.ensures.disks honest).covers genesis n x mine every);
       room = within_first 132704 (disks c.args.store.now) (disks c.make_room.new.store)
           (disks c.step_to_file.new.store)
           (refused_room (disks c.args.store.now) (disks c.make_room.new.store) (c.make_room.ensures.disks honest).room)
-          ((c.step_to_file.ensures.disks honest).room (c.in_ok-needs_sync.ensures.small honest));
+          ((c.step_to_file.ensures.disks honest c.in_ok-needs_sync.needs_sync).room
+          (c.in_ok-needs_sync.ensures.small honest));
     }
 
 pub returns-clause-grows : goal.returns-clause-grows
 returns-clause-grows g c honest =
     grown_then (disks c.args.store.now) (disks c.make_room.new.store) (disks c.step_to_file.new.store)
-    (c.make_room.ensures.disks honest).room ((c.step_to_file.ensures.disks honest).grows)
+    (c.make_room.ensures.disks honest).room ((c.step_to_file.ensures.disks honest c.in_ok-needs_sync.needs_sync).grows)
 
 -- ---- what it has done
 
@@ -198,11 +201,9 @@ returns-clause-alive g c = (
 pub returns-in_err-needs_sync-clause-refused : goal.returns-in_err-needs_sync-clause-refused
 returns-in_err-needs_sync-clause-refused g c =
     let was = c.in_err-needs_sync.ensures.refused in
-    let left : (c.group.inside.needs_sync ≡ false
-    → AreSame (disks c.args.store.now) (disks c.make_room.new.store))
+    let left : AreSame (disks c.args.store.now) (disks c.make_room.new.store)
     → c.args.group.now ≡ empty_group → AreLeft c.args.node.now c.args.store.now c.make_room.new.store =
-    λ same fresh. inl (same (ap (λ (y : GroupValue). y.needs_sync) c.group.view_is
-    ∙ ap (λ (y : GroupValue). y.needs_sync) fresh)) in
+    λ same fresh. inl same in
     err_as _ _ _ c.from_residual.ensures.1 (record {
       told = was.told;
       only = was.only;
@@ -219,13 +220,11 @@ pub returns-in_err-outbox-clause-refused : goal.returns-in_err-outbox-clause-ref
 returns-in_err-outbox-clause-refused g c =
     let was = c.in_err-outbox.ensures.refused in
     let before = c.in_ok-needs_sync.ensures in
-    let left : (honest : g.D.LogDisk.is_honest) → (c.in_ok-needs_sync.needs_sync ≡ false
-    → AreSame (disks c.make_room.new.store) (disks c.step_to_file.new.store))
+    let left : (honest : g.D.LogDisk.is_honest)
+    → AreSame (disks c.make_room.new.store) (disks c.step_to_file.new.store)
     → c.args.group.now ≡ empty_group → AreLeft c.args.node.now c.args.store.now c.step_to_file.new.store =
     λ honest same fresh. left_after c.args.node.now c.make_room.new.node c.args.store.now c.make_room.new.store
-    c.step_to_file.new.store (before.exact honest).rebases
-    (same (none_still _ _ _ _ _ _ _ (ap (λ (y : GroupValue). y.needs_sync) c.group.view_is
-    ∙ ap (λ (y : GroupValue). y.needs_sync) fresh) (before.exact honest))) in
+    c.step_to_file.new.store (before.exact honest).rebases same in
     err_as _ _ _ c.from_residual-in_err-outbox.ensures.1 (record {
       told = was.told;
       only = was.only;

@@ -1,30 +1,30 @@
 use Rattle.std.proofs.Common.{◌≤◌, ◌∙◌, length, refl, sym, subst, arith}
 use Rattle.lk_store_format.specs.Entries.{plain}
-use Rattle.lk_log.specs.StoreValue.{StoreValue, disks}
+use Rattle.lk_log.specs.StoreValue.{disks}
 use Rattle.lk_log.proofs.Room.{within_same, behind_room, refused_room}
 use Rattle.lk_node.proofs.Nodes.{few_entries, step_told}
 use Rattle.lk_state.specs.Meanings.{Meaning}
 use Rattle.lk_node_interface.specs.Letters.{batch_of}
 use Rattle.lk_node.specs.Executing.{NothingToRun}
-use Rattle.lk_node.specs.Leavings.{DisksFit, AllCover}
 use Rattle.lk_node.specs.NodeValue.{NodeValue}
-use Rattle.lk_replica.specs.Groups.{needs_sync_after, GroupLeavesFit, GroupStays, RemembersInGroup}
+use Rattle.lk_replica.specs.Groups.{as_released, needs_sync_after, GroupLeavesFit, GroupStays, RemembersInGroup}
 use Rattle.lk_replica.proofs.Behind.{still_keeps, still_remembers, sent_is_covered, stepped_fits}
-use Rattle.lk_replica.proofs.Going.{by_kind, of_either}
+use Rattle.lk_replica.proofs.Based.{based_ends, based_covers}
+use Rattle.lk_replica.proofs.Going.{by_kind}
 use Rattle.lk_replica.proofs.Grouped.{gather_goes, group_leaves, group_stays, gather_recalls, gather_syncs}
 use Rattle.lk_replica.proofs.Grouped.{gather_covers, gather_still_covers}
-use Rattle.lk_replica.proofs.Grouped.{settled_keeps, settled_fits, settled_covers, settle_leaves, settle_covers}
+use Rattle.lk_replica.proofs.Grouped.{group_fits, group_keeps}
 use Rattle.lk_replica.proofs.Grouped.{begin_recalls, based_cover, based_goes, based_stays}
 use Rattle.lk_disk.specs.Meters.{start}
 use Rattle.lk_node_interface.specs.declared.fault.ReplicaFault.TheVariants as fault
-use Rattle.lk_recovery.proofs.Recoveries.{err_as, grown_none, grown_base, grown_put, grown_less}
+use Rattle.lk_recovery.proofs.Recoveries.{err_as, grown_none, grown_base, grown_put, grown_less, node_covers}
 use Rattle.lk_replica.proofs.Refusals.{store_told, store_only, store_awake}
 use Rattle.lk_replica.proofs.grouping.step_to_file.Goals as goal
 
 -- ---- at every exit
 
 pub returns-in_err-outbox-clause-disks : goal.returns-in_err-outbox-clause-disks
-returns-in_err-outbox-clause-disks g c honest =
+returns-in_err-outbox-clause-disks g c honest w =
     record {
       ends = λ h n s heard. s.left;
       covers = λ genesis n x r every. every;
@@ -33,7 +33,7 @@ returns-in_err-outbox-clause-disks g c honest =
     }
 
 pub returns-in_err-write_to_file-clause-disks : goal.returns-in_err-write_to_file-clause-disks
-returns-in_err-write_to_file-clause-disks g c honest =
+returns-in_err-write_to_file-clause-disks g c honest w =
     let m : Meaning = g.M.Machine.meaning in
     let out = c.in_ok-outbox.outbox in
     let after = c.write_to_file.new.store in
@@ -43,31 +43,22 @@ returns-in_err-write_to_file-clause-disks g c honest =
     record {
       ends = λ h n s heard. by_kind out.rebase
           (λ is. let b = left.based is in
-          of_either b.safe
-          (λ same. subst (λ (x : StoreValue). DisksFit m h n (disks x)) (sym same)
-          (settle_leaves m h n c.args.node.now c.args.store.now b.mid c.args.needs_sync s
-          (b.every_image _ _ s.fits.shown.keeps.holds)))
-          (λ both. both.1.fits h n
-          (stepped_fits m h n c.args.node.now c.step.new.self b.mid c.args.input out
-          (settled_fits m h n c.args.node.now c.args.store.now b.mid c.args.needs_sync both.0 s.fits) heard
-          c.in_ok-outbox.ensures.safe is)))
-          (λ not_so. group_leaves m h n c.args.node.now c.step.new.self c.args.store.now after c.args.needs_sync
+          based_ends m c.args.node.now c.step.new.self c.args.store.now after w b.near h n s
+          (stepped_fits m h n c.args.node.now c.step.new.self (as_released w c.args.store.now) c.args.input out
+          (group_fits m h n c.args.node.now c.args.store.now w s.fits) heard c.in_ok-outbox.ensures.safe is)
+          (b.every_image _ _ s.fits.shown.keeps.holds))
+          (λ not_so. group_leaves m h n c.args.node.now c.step.new.self c.args.store.now after w
           c.args.input out s heard
           c.in_ok-outbox.ensures.safe (step_told _ _ c.args.node.now _ c.step.new.self out
           c.in_ok-outbox.ensures.steps not_so)
           ((left.put not_so).every_image _ _ s.fits.shown.keeps.holds));
       covers = λ genesis n x r every. by_kind out.rebase
           (λ is. let b = left.based is in
-          let is_synced = settle_covers m genesis n c.args.node.now c.args.store.now b.mid c.args.needs_sync r
-          (b.every_image _ _ r.keeps.holds) x every in
-          of_either b.safe
-          (λ same. subst (λ (y : StoreValue). AllCover m genesis n (disks y) x) (sym same) is_synced)
-          (λ both. both.1.covers genesis n x
-          (still_keeps m _ genesis n c.args.node.now c.step.new.self b.mid r.whose
-          (settled_keeps _ c.args.store.now b.mid c.args.needs_sync _ both.0 r.keeps) out
-          c.in_ok-outbox.ensures.safe is)
-          is_synced))
-          (λ not_so. gather_still_covers m genesis n c.args.node.now c.args.store.now after c.args.needs_sync
+          based_covers m c.args.node.now c.step.new.self c.args.store.now after w b.near genesis n r
+          (still_keeps m _ genesis n c.args.node.now c.step.new.self (as_released w c.args.store.now) r.whose
+          (group_keeps _ c.args.store.now w _ r.keeps) out c.in_ok-outbox.ensures.safe is) x every
+          (b.every_image _ _ r.keeps.holds))
+          (λ not_so. gather_still_covers m genesis n c.args.node.now c.args.store.now after w
           out.entries r
           ((left.put not_so).every_image _ _ r.keeps.holds) x every);
       room = λ small. by_kind out.rebase
@@ -83,7 +74,7 @@ returns-in_err-write_to_file-clause-disks g c honest =
     }
 
 pub returns-clause-disks : goal.returns-clause-disks
-returns-clause-disks g c honest =
+returns-clause-disks g c honest w =
     let m : Meaning = g.M.Machine.meaning in
     let out = c.in_ok-outbox.outbox in
     let after = c.write_to_file.new.store in
@@ -93,31 +84,22 @@ returns-clause-disks g c honest =
     record {
       ends = λ h n s heard. by_kind out.rebase
           (λ is. let b = left.based is in
-          of_either b.safe
-          (λ same. subst (λ (x : StoreValue). DisksFit m h n (disks x)) (sym same)
-          (settle_leaves m h n c.args.node.now c.args.store.now b.mid c.args.needs_sync s
-          (b.every_image _ _ s.fits.shown.keeps.holds)))
-          (λ both. both.1.fits h n
-          (stepped_fits m h n c.args.node.now c.step.new.self b.mid c.args.input out
-          (settled_fits m h n c.args.node.now c.args.store.now b.mid c.args.needs_sync both.0 s.fits) heard
-          c.in_ok-outbox.ensures.safe is)))
-          (λ not_so. group_leaves m h n c.args.node.now c.step.new.self c.args.store.now after c.args.needs_sync
+          based_ends m c.args.node.now c.step.new.self c.args.store.now after w b.near h n s
+          (stepped_fits m h n c.args.node.now c.step.new.self (as_released w c.args.store.now) c.args.input out
+          (group_fits m h n c.args.node.now c.args.store.now w s.fits) heard c.in_ok-outbox.ensures.safe is)
+          (b.every_image _ _ s.fits.shown.keeps.holds))
+          (λ not_so. group_leaves m h n c.args.node.now c.step.new.self c.args.store.now after w
           c.args.input out s heard
           c.in_ok-outbox.ensures.safe (step_told _ _ c.args.node.now _ c.step.new.self out
           c.in_ok-outbox.ensures.steps not_so)
           ((left.put not_so).every_image _ _ s.fits.shown.keeps.holds));
       covers = λ genesis n x r every. by_kind out.rebase
           (λ is. let b = left.based is in
-          let is_synced = settle_covers m genesis n c.args.node.now c.args.store.now b.mid c.args.needs_sync r
-          (b.every_image _ _ r.keeps.holds) x every in
-          of_either b.safe
-          (λ same. subst (λ (y : StoreValue). AllCover m genesis n (disks y) x) (sym same) is_synced)
-          (λ both. both.1.covers genesis n x
-          (still_keeps m _ genesis n c.args.node.now c.step.new.self b.mid r.whose
-          (settled_keeps _ c.args.store.now b.mid c.args.needs_sync _ both.0 r.keeps) out
-          c.in_ok-outbox.ensures.safe is)
-          is_synced))
-          (λ not_so. gather_still_covers m genesis n c.args.node.now c.args.store.now after c.args.needs_sync
+          based_covers m c.args.node.now c.step.new.self c.args.store.now after w b.near genesis n r
+          (still_keeps m _ genesis n c.args.node.now c.step.new.self (as_released w c.args.store.now) r.whose
+          (group_keeps _ c.args.store.now w _ r.keeps) out c.in_ok-outbox.ensures.safe is) x every
+          (b.every_image _ _ r.keeps.holds))
+          (λ not_so. gather_still_covers m genesis n c.args.node.now c.args.store.now after w
           out.entries r
           ((left.put not_so).every_image _ _ r.keeps.holds) x every);
       room = λ small. by_kind out.rebase
@@ -135,7 +117,7 @@ returns-clause-disks g c honest =
 -- ---- what it has done
 
 pub returns-clause-keeps : goal.returns-clause-keeps
-returns-clause-keeps g c honest =
+returns-clause-keeps g c honest w =
     let m : Meaning = g.M.Machine.meaning in
     let out = c.in_ok-outbox.outbox in
     let after = c.write_to_file.new.store in
@@ -144,73 +126,66 @@ returns-clause-keeps g c honest =
     let left = c.write_to_file.ensures.disks honest in
     record {
       goes = λ h n f heard sent among. by_kind out.rebase
-          (λ is. let s = done.switches is in
-          let mid = settled_fits m h n c.args.node.now c.args.store.now s.mid c.args.needs_sync s.syncs_all f in
-          subst (λ (k : NodeValue). GroupLeavesFit m h n k after (needs_sync_after c.args.needs_sync out) out.notes
+          (λ is. let mid = group_fits m h n c.args.node.now c.args.store.now w f in
+          let sw = done.switches is w _ _ f.shown.keeps.holds in
+          subst (λ (k : NodeValue). GroupLeavesFit m h n k after (needs_sync_after w out) out.notes
           (batch_of n sent)) (sym (on.stands is).0.becomes)
-          (based_goes m h n c.args.node.now c.step.new.self s.mid after c.args.needs_sync c.args.input out mid heard
-          c.in_ok-outbox.ensures.safe is (on.stands is).0.fits_base (on.stands is).1
-          (s.switches.rebases.writes mid.shown.keeps.entries (plain mid.shown.keeps.loose) mid.shown.keeps.holds)
+          (based_goes m h n c.args.node.now c.step.new.self (as_released w c.args.store.now) after w c.args.input out
+          mid heard c.in_ok-outbox.ensures.safe is (on.stands is).0.fits_base (on.stands is).1
+          (sw.rebases.writes mid.shown.keeps.entries (plain mid.shown.keeps.loose) mid.shown.keeps.holds)
           sent among))
-          (λ not_so. subst (λ (k : NodeValue). GroupLeavesFit m h n k after (needs_sync_after c.args.needs_sync out)
+          (λ not_so. subst (λ (k : NodeValue). GroupLeavesFit m h n k after (needs_sync_after w out)
           out.notes
           (batch_of n sent)) (sym (on.rests not_so))
-          (gather_goes m h n c.args.node.now c.step.new.self c.args.store.now after c.args.needs_sync c.args.input
+          (gather_goes m h n c.args.node.now c.step.new.self c.args.store.now after w c.args.input
           out f heard c.in_ok-outbox.ensures.safe
           (step_told _ _ c.args.node.now _ c.step.new.self out c.in_ok-outbox.ensures.steps not_so) not_so
           (done.puts not_so _ _ f.shown.keeps.holds) sent among));
       stays = λ h n s heard. by_kind out.rebase
-          (λ is. let w = done.switches is in
-          let mid = settled_fits m h n c.args.node.now c.args.store.now w.mid c.args.needs_sync w.syncs_all s.fits in
-          subst (λ (k : NodeValue). GroupStays m h n k after (needs_sync_after c.args.needs_sync out))
+          (λ is. let mid = group_fits m h n c.args.node.now c.args.store.now w s.fits in
+          let sw = done.switches is w _ _ s.fits.shown.keeps.holds in
+          subst (λ (k : NodeValue). GroupStays m h n k after (needs_sync_after w out))
           (sym (on.stands is).0.becomes)
-          (based_stays m h n c.args.node.now c.step.new.self w.mid after c.args.needs_sync c.args.input out mid heard
-          c.in_ok-outbox.ensures.safe is (on.stands is).0.fits_base (on.stands is).1
-          (w.switches.rebases.writes mid.shown.keeps.entries (plain mid.shown.keeps.loose) mid.shown.keeps.holds)
-          ((returns-clause-disks g c honest).ends h n s heard)))
-          (λ not_so. subst (λ (k : NodeValue). GroupStays m h n k after (needs_sync_after c.args.needs_sync out))
+          (based_stays m h n c.args.node.now c.step.new.self (as_released w c.args.store.now) after w c.args.input out
+          mid heard c.in_ok-outbox.ensures.safe is (on.stands is).0.fits_base (on.stands is).1
+          (sw.rebases.writes mid.shown.keeps.entries (plain mid.shown.keeps.loose) mid.shown.keeps.holds)
+          ((returns-clause-disks g c honest w).ends h n s heard)))
+          (λ not_so. subst (λ (k : NodeValue). GroupStays m h n k after (needs_sync_after w out))
           (sym (on.rests not_so))
-          (group_stays m h n c.args.node.now c.step.new.self c.args.store.now after c.args.needs_sync c.args.input
+          (group_stays m h n c.args.node.now c.step.new.self c.args.store.now after w c.args.input
           out s heard c.in_ok-outbox.ensures.safe
           (step_told _ _ c.args.node.now _ c.step.new.self out c.in_ok-outbox.ensures.steps not_so) not_so
           ((left.put not_so).every_image _ _ s.fits.shown.keeps.holds)
           (done.puts not_so _ _ s.fits.shown.keeps.holds)));
       recalls = λ genesis n r. by_kind out.rebase
-          (λ is. let s = done.switches is in
-          begin_recalls _ after genesis n c.args.needs_sync out is
-          (s.switches.remembers genesis n
-          (still_remembers m _ genesis n c.args.node.now c.step.new.self s.mid r.whose
-          (settled_keeps _ c.args.store.now s.mid c.args.needs_sync _ s.syncs_all r.keeps) out
-          c.in_ok-outbox.ensures.safe is)))
-          (λ not_so. subst (λ (k : NodeValue). RemembersInGroup k after (needs_sync_after c.args.needs_sync out)
+          (λ is. begin_recalls _ after genesis n w out is
+          ((done.switches is w _ _ r.keeps.holds).remembers genesis n
+          (still_remembers m _ genesis n c.args.node.now c.step.new.self (as_released w c.args.store.now) r.whose
+          (group_keeps _ c.args.store.now w _ r.keeps) out c.in_ok-outbox.ensures.safe is)))
+          (λ not_so. subst (λ (k : NodeValue). RemembersInGroup k after (needs_sync_after w out)
           genesis n)
           (sym (on.rests not_so))
-          (gather_recalls m genesis n c.args.node.now c.step.new.self c.args.store.now after c.args.needs_sync _ out r
+          (gather_recalls m genesis n c.args.node.now c.step.new.self c.args.store.now after w _ out r
           c.in_ok-outbox.ensures.safe not_so (done.puts not_so _ _ r.keeps.holds)));
       syncs = λ genesis n x r d listed said. by_kind out.rebase
-          (λ is. let s = done.switches is in
-          based_cover m genesis n after c.args.needs_sync out x is
-          (s.switches.syncs genesis n x
-          (still_keeps m _ genesis n c.args.node.now c.step.new.self s.mid r.whose
-          (settled_keeps _ c.args.store.now s.mid c.args.needs_sync _ s.syncs_all r.keeps) out
+          (λ is. let mid = group_keeps _ c.args.store.now w _ r.keeps in
+          based_cover m genesis n after w out x is
+          ((done.switches is w _ _ r.keeps.holds).syncs genesis n x
+          (still_keeps m _ genesis n c.args.node.now c.step.new.self (as_released w c.args.store.now) r.whose mid out
           c.in_ok-outbox.ensures.safe is)
-          (sent_is_covered m _ genesis n c.args.node.now c.step.new.self s.mid r.whose
-          (settled_keeps _ c.args.store.now s.mid c.args.needs_sync _ s.syncs_all r.keeps) out
-          c.in_ok-outbox.ensures.safe is x d
-          listed said)))
-          (λ not_so. gather_syncs m genesis n c.args.node.now c.step.new.self c.args.store.now after c.args.needs_sync
+          (sent_is_covered m _ genesis n c.args.node.now c.step.new.self (as_released w c.args.store.now) r.whose mid
+          out c.in_ok-outbox.ensures.safe is x d listed said)))
+          (λ not_so. gather_syncs m genesis n c.args.node.now c.step.new.self c.args.store.now after w
           _ out r
           c.in_ok-outbox.ensures.safe not_so (done.puts not_so _ _ r.keeps.holds) x d listed said);
       still = λ genesis n x r every. by_kind out.rebase
-          (λ is. let s = done.switches is in
-          based_cover m genesis n after c.args.needs_sync out x is
-          (s.safe.covers genesis n x
-          (still_keeps m _ genesis n c.args.node.now c.step.new.self s.mid r.whose
-          (settled_keeps _ c.args.store.now s.mid c.args.needs_sync _ s.syncs_all r.keeps) out
-          c.in_ok-outbox.ensures.safe
-          is)
-          (settled_covers m genesis n c.args.node.now c.args.store.now s.mid c.args.needs_sync s.syncs_all r x every)))
-          (λ not_so. gather_covers m genesis n c.args.node.now c.step.new.self c.args.store.now after c.args.needs_sync
+          (λ is. let kept = still_keeps m _ genesis n c.args.node.now c.step.new.self (as_released w c.args.store.now)
+          r.whose (group_keeps _ c.args.store.now w _ r.keeps) out c.in_ok-outbox.ensures.safe is in
+          based_cover m genesis n after w out x is
+          ((done.switches is w _ _ r.keeps.holds).syncs genesis n x kept
+          (node_covers m genesis n c.step.new.self (as_released w c.args.store.now) after kept
+          (on.stands is).0.fits_base (on.stands is).1.0.snapshot x every)))
+          (λ not_so. gather_covers m genesis n c.args.node.now c.step.new.self c.args.store.now after w
           _ out r
           c.in_ok-outbox.ensures.safe not_so (done.puts not_so _ _ r.keeps.holds) x every);
     }
@@ -230,7 +205,7 @@ returns-clause-exact g c honest =
     record {
       stepped = c.step.new.self;
       steps = c.in_ok-outbox.ensures.steps;
-      rebases = λ yes. (done.switches yes).rebases;
+      rebases = done.rebases;
       puts = λ no. (c.in_ok-write_to_file.ensures.goes.rests no, done.puts no);
       grows = λ no. let put = (c.write_to_file.ensures.disks honest).put no in
           grown_put c.args.store.now c.write_to_file.new.store put.live
@@ -255,7 +230,7 @@ returns-in_err-outbox-clause-refused g c =
       earlier = λ is alive further. cc is;
       second = λ honest is alive less. absurd (cc is);
       file = λ honest. (refl, refl, refl, refl);
-      stays = λ honest none s. refl;
+      stays = λ honest s. refl;
       halts = λ is. c.in_err-outbox.ensures.halts;
       awake = λ was other. absurd (other refl);
     })

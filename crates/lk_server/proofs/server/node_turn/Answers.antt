@@ -21,15 +21,15 @@ returns-clause-turn g c =
     subst (λ (s : ServerValue _). (frames : List (SocketAddr × List ℕ))
     × HasReceived observable frames c.args.server.now s
     × TurnOrIdle r.Says observable frames c.args.server.now s
-    × KeepsOf c.args.server.now.node c.args.server.now.addresses.seals frames c.args.buffer.now
+    × KeepsOf c.args.server.now.addresses.seals frames c.args.buffer.now
     c.fill_group.new.buffer) (sym c.note_sync.ensures) (
       t.0,
       received_on observable t.0 c.args.server.now c.fill_group.new.self c.end_group.new.self e.still t.1.received,
       inl (turn_of r.Says r.Gathers observable t.0 c.new_group-group.result c.fill_group.new.group c.args.server.now
           c.fill_group.new.self c.end_group.new.self c.new_group-group.ensures t.1 c.in_ok-end_group.ensures.gives
           (ap (λ (s : ServerValue _). s.sent) o) (ap (λ (s : ServerValue _). s.socket_failures) o)
-          (same_by c.args.server.now c.fill_group.new.self o) e.addresses e.received e.ticks e.same
-          c.in_ok-end_group.ensures.alive),
+          (same_by c.args.server.now c.fill_group.new.self o) e.addresses e.counts.received e.counts.ticks
+          e.counts.withheld e.same c.in_ok-end_group.ensures.alive),
       t.2,
     )
 
@@ -46,7 +46,7 @@ returns-in_err-end_group-clause-ends g c =
       last_of r.Says r.Gathers observable t.0 c.new_group-group.result c.fill_group.new.group c.args.server.now
           c.fill_group.new.self c.end_group.new.self c.new_group-group.ensures t.1 c.in_err-end_group.ensures.silent
           (ap (λ (s : ServerValue _). s.sent) o) (ap (λ (s : ServerValue _). s.socket_failures) o)
-          (same_by c.args.server.now c.fill_group.new.self o) e.addresses e.ticks e.same
+          (same_by c.args.server.now c.fill_group.new.self o) e.addresses e.counts.ticks e.same
           c.in_err-end_group.ensures.broken,
     )
 

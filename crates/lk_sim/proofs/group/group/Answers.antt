@@ -2,7 +2,7 @@ use Rattle.std.proofs.Common.{rules, ◌≡◌, ◌∙◌, List, map, refl, inr,
 use Rattle.lk_node_interface.specs.declared.input.Input.{Input}
 use Rattle.lk_node.specs.Histories.{Datagram}
 use Rattle.lk_sim.specs.Events.{IsGivenTogether, IsHalted, IsNotGrouped, LeftByGroup}
-use Rattle.lk_sim.specs.Groups.{copied, given_by}
+use Rattle.lk_sim.specs.Groups.{given_by, input_of}
 use Rattle.lk_sim.specs.Refusals.{AreFor, HasRoom}
 use Rattle.lk_sim_nodes.specs.Seats.{IsUpAt}
 use Rattle.lk_sim.specs.Worlds.{scene_of}
@@ -24,7 +24,7 @@ give_all-requires-clause-heard g c =
     let for_it = subst (λ (l : List Datagram). AreFor l n group_inputs) c.deref-2.ensures.value
     (c.are_for.ensures.0 (cc c.if-not-are_for.false)) in
     let same : c.in_ok-inputs.inputs.items ≡ map (given_by p.sent.items) group_inputs = c.in_ok-inputs.ensures.ok
-    ∙ ap (map copied) c.deref-4.ensures.value ∙ c.in_ok-bytes.ensures.ok in
+    ∙ ap (map input_of) c.deref-4.ensures.value ∙ c.in_ok-copies.ensures.ok in
     were_brought p.sent.items n group_inputs c.in_ok-inputs.inputs.items for_it same
 
 pub returns-in_err-give_all-clause-err : goal.returns-in_err-give_all-clause-err
@@ -39,7 +39,7 @@ returns-in_err-give_all-clause-err g c =
     let room = subst (λ (l : List Datagram). HasRoom l) c.deref-3.ensures.value
     (c.has_room.ensures.0 (cc c.if-not-has_room.false)) in
     let same : c.in_ok-inputs.inputs.items ≡ map (given_by p.sent.items) group_inputs = c.in_ok-inputs.ensures.ok
-    ∙ ap (map copied) c.deref-4.ensures.value ∙ c.in_ok-bytes.ensures.ok in
+    ∙ ap (map input_of) c.deref-4.ensures.value ∙ c.in_ok-copies.ensures.ok in
     let halted = subst (λ (l : List Input). IsHalted (LeftByGroup b l) (scene_of p)
     (scene_of c.give_all.new.parts) n) same (c.in_err-give_all.ensures.halted n u) in
     err_as _ WorldMemory (λ e. IsNotGrouped b (scene_of p) n group_inputs e (scene_of c.give_all.new.parts))
@@ -58,7 +58,7 @@ returns-clause-ok g c =
     let room = subst (λ (l : List Datagram). HasRoom l) c.deref-3.ensures.value
     (c.has_room.ensures.0 (cc c.if-not-has_room.false)) in
     let same : c.in_ok-inputs.inputs.items ≡ map (given_by p.sent.items) group_inputs = c.in_ok-inputs.ensures.ok
-    ∙ ap (map copied) c.deref-4.ensures.value ∙ c.in_ok-bytes.ensures.ok in (
+    ∙ ap (map input_of) c.deref-4.ensures.value ∙ c.in_ok-copies.ensures.ok in (
       (((u.1, (c.in_ok-i.i, u.0, u.2, u.3, u.4)), room), for_it),
       subst (λ (l : List Input). IsGivenTogether b (scene_of p) (scene_of c.give_all.new.parts) n l) same
           (c.in_ok-give_all.ensures.given n u),

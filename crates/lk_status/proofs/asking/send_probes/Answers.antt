@@ -15,7 +15,7 @@ targets-preserved g c =
     let targets = c.as_slice-targets.result.now in
     let rs = c.args.reports.now in
     let asks = ProbesEach g.S.DatagramSocket.sent g.S.DatagramSocket.incoming
-    g.S.DatagramSocket.failures c.args.inquiry.now in
+    g.S.DatagramSocket.failures c.args.inquiry.now c.args.asks_reach in
     let next : drop c.targets.target-index targets ≡ c.target-item.result ∷ drop (c.targets.target-index + 1) targets =
     drop-cons targets c.targets.target-index c.target-item.result c.targets-test.true
     ∙ ap (λ (t : Target). t ∷ drop (suc c.targets.target-index) targets) (sym c.target-item.is)
@@ -29,7 +29,7 @@ pub returns : goal.returns
 returns g c =
     let targets = c.as_slice-targets.result.now in
     let asks = ProbesEach g.S.DatagramSocket.sent g.S.DatagramSocket.incoming
-    g.S.DatagramSocket.failures c.args.inquiry.now in
+    g.S.DatagramSocket.failures c.args.inquiry.now c.args.asks_reach in
     let none = drop_all c.targets.target-index targets c.targets-test.false in
     let are : targets ≡ c.args.inquiry.now.targets.items = search rules in
     λ observable.

@@ -13,6 +13,7 @@ returns g c =
     (members_text r.status.members) = search rules in
     appends_more _ _ _ _ _ name
     (appends_more _ _ _ _ _ c.in_ok-write_leadership.ensures
+    (appends_more _ _ _ _ _ c.in_ok-write_hearing.ensures
     (appends_more _ _ _ _ _ c.in_ok-write_progress.ensures
     (appends_more _ _ _ _ _ members
-    (appends_more _ _ _ _ _ c.in_ok-write_traffic.ensures c.in_ok-write_all.ensures.bytes))))
+    (appends_more _ _ _ _ _ c.in_ok-write_traffic.ensures c.in_ok-write_all.ensures.bytes)))))

@@ -12,11 +12,12 @@ all-init g c = appends_nothing _
 
 pub all-preserved : goal.all-preserved
 all-preserved g c =
-    writes_more (field_text c.args.reports.now) [] _ _ _ c.args.fields.now c.all.field-index _
-    (take_more c.args.fields.now c.all.field-index _ c.all-test.true) c.all.invariant c.in_ok-write_field.ensures
+    writes_more (field_text c.args.first c.args.inquiry.now c.args.reports.now) [] _ _ _ c.args.fields.now
+    c.all.field-index _ (take_more c.args.fields.now c.all.field-index _ c.all-test.true) c.all.invariant
+    c.in_ok-write_field.ensures
 
 pub returns : goal.returns
 returns g c =
     subst (λ (l : List Field). Appends (g.W.Write.contents c.args.out.now) (g.W.Write.contents c.all.out)
-    (flat_map (field_text c.args.reports.now) l))
+    (flat_map (field_text c.args.first c.args.inquiry.now c.args.reports.now) l))
     (take_all c.all.field-index c.args.fields.now c.all-test.false) c.all.invariant

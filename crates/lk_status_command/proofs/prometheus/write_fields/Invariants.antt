@@ -7,4 +7,4 @@ use Rattle.lk_status_command.proofs.prometheus.write_fields.Given as goal
 -- those so far were written
 abbrev pub invariant-all : goal.invariant-all
 invariant-all g l = Appends (g.W.Write.contents l.fn.out) (g.W.Write.contents l.out)
-    (flat_map (field_text l.reports) (take l.field-index l.fields))
+    (flat_map (field_text l.first l.inquiry l.reports) (take l.field-index l.fields))

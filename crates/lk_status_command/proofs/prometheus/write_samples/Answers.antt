@@ -1,24 +1,36 @@
-use Rattle.std.proofs.Common.{◌∙◌, ◌∷◌, ◌++◌, [], List, sym, ap, subst, take}
-use Rattle.std.proofs.lemmas.List.{take_more, take_all}
+use Rattle.std.proofs.Common.{List, [], ℕ, Option, ap, subst}
 use Rattle.std.specs.Io.KnownBytes.{Appends}
-use Rattle.std.specs.Prelude.{flat_map}
 use Rattle.lk_probe.specs.declared.probe.Report.{Report}
+use Rattle.lk_status.specs.Rounds.{report_of}
+use Rattle.lk_status.specs.declared.target.Target.{Target}
 use Rattle.lk_status_command.specs.Metrics.{sample_line}
-use Rattle.lk_status_command.proofs.Writing.{appends_nothing, writes_more}
+use Rattle.lk_status_command.specs.Tokens.{by_token}
+use Rattle.lk_status_command.proofs.Writing.{appends_nothing, next_target, targets_more, targets_done}
 use Rattle.lk_status_command.proofs.prometheus.write_samples.Goals as goal
 
-pub all-init : goal.all-init
-all-init g c = appends_nothing _
+pub targets-init : goal.targets-init
+targets-init g c = (
+  [],
+  appends_nothing _,
+  ap (λ (ts : List Target). by_token (λ (token : ℕ) (t : Target). sample_line c.args.field c.args.inquiry.now t
+      (report_of token c.args.reports.now)) c.args.first ts) c.as_slice-targets.ensures.value,
+)
 
-pub all-preserved : goal.all-preserved
-all-preserved g c =
-    writes_more (sample_line c.args.field) [] _ _ _ c.args.reports.now c.all.report-index c.report-item.result
-    (take_more c.args.reports.now c.all.report-index c.report-item.result c.all-test.true
-    ∙ ap (λ (r : Report). take c.all.report-index c.args.reports.now ++ r ∷ []) (sym c.report-item.is))
-    c.all.invariant c.in_ok-write_sample.ensures
+pub targets-preserved : goal.targets-preserved
+targets-preserved g c =
+    let t = c.target-item.result in
+    let targets = c.as_slice-targets.result.now in
+    let text = λ (token : ℕ) (t : Target). sample_line c.args.field c.args.inquiry.now t
+    (report_of token c.args.reports.now) in
+    let written = subst (λ (r : Option Report). Appends (g.W.Write.contents c.targets.out)
+    (g.W.Write.contents c.write_field_value.new.out) (sample_line c.args.field c.args.inquiry.now t r))
+    c.report_with.ensures.report c.in_ok-write_field_value.ensures in
+    targets_more text _ _ _ _ c.targets.token targets c.targets.target-index t
+    (next_target targets c.targets.target-index t c.targets-test.true c.target-item.is)
+    c.targets.invariant written
 
 pub returns : goal.returns
 returns g c =
-    subst (λ (l : List Report). Appends (g.W.Write.contents c.args.out.now) (g.W.Write.contents c.all.out)
-    (flat_map (sample_line c.args.field) l))
-    (take_all c.all.report-index c.args.reports.now c.all-test.false) c.all.invariant
+    targets_done (λ (token : ℕ) (t : Target). sample_line c.args.field c.args.inquiry.now t
+    (report_of token c.args.reports.now))
+    _ _ _ c.targets.token c.as_slice-targets.result.now c.targets.target-index c.targets-test.false c.targets.invariant

@@ -9,5 +9,5 @@ pub returns : goal.returns
 returns g c =
     subst (λ (is : Bool). Appends (g.W.Write.contents c.args.out.now) (g.W.Write.contents c.write_flag.new.out)
     (gauge_text c.args.cluster (codes "served")
-    (codes "Whether somebody leads with a majority, and nobody tells another genesis.") (flag is)))
+    (codes "Whether a majority follows a leader, and nobody tells another genesis.") (flag is)))
     c.is_served.ensures.value c.in_ok-write_flag.ensures

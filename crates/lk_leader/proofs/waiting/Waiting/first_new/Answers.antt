@@ -1,5 +1,7 @@
 -- The requests are looked at in order.
-use Rattle.std.proofs.Common.{◌∙◌, ◌≤◌, List, Contains, length, take, sym, subst, inl, inr, true≢false, arith}
+use Rattle.std.proofs.Common.{◌≡◌, ℕ, zero, suc, ◌<◌, ◌≤◌, Some, List, [], ◌∷◌, Contains, length, take, refl, sym}
+use Rattle.std.proofs.Common.{subst, inl, inr, arith}
+use Rattle.std.specs.Prelude.{slice_get}
 use Rattle.std.proofs.lemmas.List.{take_all}
 use Rattle.std.proofs.lemmas.List.Elements.{Contains-push_cases}
 use Rattle.lk_members.specs.Effects.{Request}
@@ -8,20 +10,27 @@ use Rattle.lk_leader.specs.Values.{IsUnderWay}
 use Rattle.lk_leader.proofs.ValueLaws.{take-one, first-at}
 use Rattle.lk_leader.proofs.waiting.Waiting.first_new.Goals as goal
 
-pub returns-then-not-is_under_way : goal.returns-then-not-is_under_way
-returns-then-not-is_under_way c =
-    first-at c.args.executed c.args.proposals.now c.args.self.now c.loop-index.index c.request_at-request.result
-    c.request_at-request.ensures c.loop-index.invariant
-    (λ under. true≢false (sym (c.is_under_way.ensures.1 under) ∙ c.if-not-is_under_way.true))
+there : (xs : List RequestValue) (k : ℕ) → k < length xs → (q : RequestValue) × (slice_get xs k ≡ Some q)
+there [] k lt = absurd (omega (arith, lt))
+there (x ∷ xs) zero lt = (x, refl)
+there (x ∷ xs) (suc k) lt = there xs k (omega (arith, lt))
+
+pub returns-in_default : goal.returns-in_default
+returns-in_default c =
+    first-at c.args.executed c.args.proposals.now c.args.self.now c.loop-index.index c.request_at.result
+    c.request_at.ensures c.loop-index.invariant (c.in_default.ensures c.request_at.result c.request_at.ensures)
 
 pub loop-index-preserved : goal.loop-index-preserved
 loop-index-preserved c = λ r h.
-    let more = take-one c.args.self.now c.loop-index.index c.request_at-request.result c.request_at-request.ensures in
-    elim (Contains-push_cases (take c.loop-index.index c.args.self.now) c.request_at-request.result r
+    let lt : c.loop-index.index < length c.args.self.now = omega (arith, c.len-index-end.ensures) in
+    let at : (q : RequestValue) × (slice_get c.args.self.now c.loop-index.index ≡ Some q) =
+    there c.args.self.now c.loop-index.index lt in
+    let more = take-one c.args.self.now c.loop-index.index at.0 at.1 in
+    elim (Contains-push_cases (take c.loop-index.index c.args.self.now) at.0 r
     (subst (λ (l : List RequestValue). Contains l r) more h)) [
       | inl old ↦ c.loop-index.invariant r old
       | inr is ↦ subst (λ (q : RequestValue). IsUnderWay c.args.executed c.args.proposals.now (Request q)) is
-          (c.is_under_way.ensures.0 c.if-not-is_under_way.false)
+          (c.in-Some.ensures.1 at.0 at.1)
     ]
 
 pub returns : goal.returns

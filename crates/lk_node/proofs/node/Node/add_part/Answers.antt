@@ -14,6 +14,7 @@ invariant_of-self-in_err-went g c = (
   subst (AreNear c.self.inside.acceptor)
       (sym (c.in_err-went.ensures.err ∙ c.in_ok-add_part.ensures.ok))
       (hearing_near c.args.part.now c.self.inside.acceptor c.self.inside.learner c.self.invariant.1),
+  tt,
 )
 
 pub invariant_of-self-2 : goal.invariant_of-self-2
@@ -23,6 +24,7 @@ invariant_of-self-2 g c = (
       c.install.new.self c.self.invariant.1
       (subst (λ (l : LearnerValue). Installs g.M.Machine.IsText c.in_ok-went.went l c.install.new.self)
       c.in_ok-add_part.ensures.ok c.in_ok-went.ensures.exact),
+  tt,
 )
 
 pub returns : goal.returns

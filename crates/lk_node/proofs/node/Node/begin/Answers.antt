@@ -7,6 +7,7 @@ pub invariant_of-self : goal.invariant_of-self
 invariant_of-self g c = (
   search rules,
   own_near c.self.inside.acceptor c.own.new.self c.self.inside.learner _ c.self.invariant.1 c.own.ensures.state,
+  c.self.invariant.2,
 )
 
 pub invariant_of-self-in-Some : goal.invariant_of-self-in-Some
@@ -14,6 +15,7 @@ invariant_of-self-in-Some g c = (
   search rules,
   own_near c.self.inside.acceptor c.own.new.self c.self.inside.learner
       _ c.self.invariant.1 c.own.ensures.state,
+  tt,
 )
 
 pub invariant_of-self-in_default : goal.invariant_of-self-in_default
@@ -21,6 +23,7 @@ invariant_of-self-in_default g c = (
   search rules,
   own_near c.self.inside.acceptor c.own.new.self c.self.inside.learner
       _ c.self.invariant.1 c.own.ensures.state,
+  tt,
 )
 
 pub returns-clause-safe : goal.returns-clause-safe

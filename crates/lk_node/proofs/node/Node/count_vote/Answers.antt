@@ -4,7 +4,7 @@ use Rattle.lk_types.specs.declared.member.Member.{Member}
 use Rattle.lk_state.specs.States.{WholeValue}
 use Rattle.lk_node.specs.Deciding.{IsOnlyHeard, HandlesVote}
 use Rattle.lk_node.specs.NodeValue.{NodeValue}
-use Rattle.lk_node.proofs.DecidingLaws.{with_leader, only_heard, heard_and_decided, still_promised}
+use Rattle.lk_node.proofs.DecidingLaws.{with_leader, only_heard, heard_and_decided, still_promised, still_nothing}
 use Rattle.lk_node.proofs.node.Node.count_vote.Goals as goal
 
 pub returns-then-not-chosen : goal.returns-then-not-chosen
@@ -77,6 +77,11 @@ invariant_of-self g c =
           c.accepted-chosen.ensures.heard c.accepted-chosen.ensures.other
           c.self.inside.acceptor.state.promised c.self.invariant.0,
       c.self.invariant.1,
+      still_nothing c.args.from c.args.vote.now was c.accepted-chosen.new.self c.accepted-chosen.result
+          c.in-Some.members.now c.roster-roster.result.now same
+          ((c.members_at.ensures.some.0 (ap is_some c.in-Some.is)).0, c.in-Some.ensures.value)
+          c.accepted-chosen.ensures.heard c.accepted-chosen.ensures.other
+          c.self.inside.nothing_to_propose c.self.invariant.2,
     )
 
 pub invariant_of-self-2 : goal.invariant_of-self-2
@@ -100,4 +105,9 @@ invariant_of-self-2 g c =
           c.accepted-chosen.ensures.heard c.accepted-chosen.ensures.other
           c.self.inside.acceptor.state.promised c.self.invariant.0,
       c.self.invariant.1,
+      still_nothing c.args.from c.args.vote.now was c.accepted-chosen.new.self c.accepted-chosen.result
+          c.in-Some.members.now c.roster-roster.result.now same
+          ((c.members_at.ensures.some.0 (ap is_some c.in-Some.is)).0, c.in-Some.ensures.value)
+          c.accepted-chosen.ensures.heard c.accepted-chosen.ensures.other
+          c.self.inside.nothing_to_propose c.self.invariant.2,
     )

@@ -6,4 +6,5 @@ invariant_of-self g c = (
   c.self.invariant.0,
   forgotten_near c.self.inside.acceptor c.self.inside.learner c.forget_gathered.new.self c.self.invariant.1
       c.forget_gathered.ensures,
+  tt,
 )

@@ -10,6 +10,7 @@ invariant_of-self-2 g c = (
   search rules,
   prepare_near c.self.inside.acceptor c.prepare.new.self c.self.inside.learner c.executed.result
       c.args.ballot c.args.first c.in_ok-response.response c.self.invariant.1 c.in_ok-response.ensures.reply,
+  c.self.invariant.2,
 )
 
 pub returns-clause-safe : goal.returns-clause-safe

@@ -10,6 +10,7 @@ invariant_of-self-2 g c = (
       c.args.from c.ballot-ballot.result _ _ c.self.invariant.0 c.in_ok-promise.ensures.kept
       c.in_ok-promise.ensures.other,
   c.self.invariant.1,
+  tt,
 )
 
 pub returns-clause-exact : goal.returns-clause-exact

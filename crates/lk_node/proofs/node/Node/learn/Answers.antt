@@ -9,6 +9,7 @@ invariant_of-self g c = (
   decided_near c.self.inside.acceptor c.self.inside.learner c.decided.new.self
       (c.args.position, c.args.command.now) c.decided.result c.self.invariant.1 c.decided.ensures.kept
       c.decided.ensures.unchanged,
+  tt,
 )
 
 pub invariant_of-self-2 : goal.invariant_of-self-2
@@ -17,6 +18,7 @@ invariant_of-self-2 g c = (
   decided_near c.self.inside.acceptor c.self.inside.learner c.decided.new.self
       (c.args.position, c.args.command.now) c.decided.result c.self.invariant.1 c.decided.ensures.kept
       c.decided.ensures.unchanged,
+  tt,
 )
 
 pub returns-clause-safe : goal.returns-clause-safe

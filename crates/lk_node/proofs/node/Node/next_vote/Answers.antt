@@ -15,6 +15,7 @@ invariant_of-self-2 g c = (
   next_promised c.self.inside.acceptor c.self.inside.leader c.propose.new.self c.roster-roster.result.now
       _ _ c.self.invariant.0 c.in-Some-propose.ensures.some c.in-Some-propose.ensures.term,
   c.self.invariant.1,
+  tt,
 )
 
 pub returns : goal.returns

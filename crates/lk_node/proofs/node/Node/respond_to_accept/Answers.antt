@@ -12,6 +12,7 @@ invariant_of-self-2 g c = (
   accept_near c.self.inside.acceptor c.accept.new.self c.self.inside.learner c.executed.result c.args.vote
       c.in_ok-response.response c.self.invariant.1
       (c.executed.ensures ∙ ap (λ (w : WholeValue). w.roster.executed) c.whole.ensures) c.in_ok-response.ensures.reply,
+  c.self.invariant.2,
 )
 
 pub returns : goal.returns

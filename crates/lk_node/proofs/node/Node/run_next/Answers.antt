@@ -83,6 +83,7 @@ invariant_of-self-in_default g c =
       runs_near m c.self.inside.acceptor was c.execute_next.new.self None c.facts.ensures c.self.invariant.1
           (none_next m was c.execute_next.new.self c.in_ok-ran.field-0 c.in_ok-ran.ensures.ran
           (λ none. (c.in_ok-ran.ensures.none none).0) c.in_default.not-Some),
+      tt,
     )
 
 pub invariant_of-self-in_default-executed_at : goal.invariant_of-self-in_default-executed_at
@@ -125,4 +126,5 @@ invariant_of-self-2 g c =
           (λ v h. sym c.in-Some.is ∙ c.in_ok-ran.ensures.ran v h)
           (λ none. let k = c.in_ok-ran.ensures.none none in cc (k.1, c.in-Some.is)) c.copy.result
           (c.in-Some-executed_at.ensures.some.1 ∙ ap Some (sym c.copy.ensures))),
+      tt,
     )

@@ -10,4 +10,5 @@ invariant_of-self g c = (
       c.executed-executed.result c.self.invariant.1
       (c.executed-executed.ensures ∙ ap (λ (w : WholeValue). w.roster.executed) c.whole.ensures)
       c.forget.ensures c.set_snapshot.ensures,
+  tt,
 )

@@ -5,8 +5,8 @@ use Rattle.lk_node_events.proofs.watch.Watch.put_times.Goals as goal
 pub returns : goal.returns
 returns c = record {
   leaderless = c.observe-leaderless.result;
-  quiet = subst (λ (b : Bool). TurnsQuiet c.args.self.now.quiet c.args.now b c.observe-leaderless.result
-      c.observe-leaderless.new.self) c.has_leader.ensures
+  quiet = subst (λ (b : Bool). TurnsQuiet c.args.self.now.quiet c.args.now b c.args.seen.now.is_member
+      c.observe-leaderless.result c.observe-leaderless.new.self) c.has_leader.ensures
       (record {
         some = c.observe-leaderless.ensures.some;
         none = c.observe-leaderless.ensures.none;

@@ -1,4 +1,4 @@
 use Rattle.lk_random_schedules.proofs.schedule.Schedule.kind.Goals as goal
 
 pub returns : goal.returns
-returns c = c.of-kind.ensures c.args.groups
+returns c = c.of-kind.ensures c.args.plan

@@ -154,9 +154,9 @@ returns-in_err-keep-clause-calls_err g c =
     let s = c.inputs.invariant in
     let exact = c.in_ok-gather.ensures.exact tt in
     let room = exact.room.calls tt in
-    let made : ℕ = room.0 + gather_calls exact.needs_sync exact.out in
+    let made : ℕ = room.0 + gather_calls exact.out in
     let passes = passes_on s.calls s.passes made
-    (passes_on room.0 room.2 (gather_calls exact.needs_sync exact.out) (exact.steps.calls tt)) in
+    (passes_on room.0 room.2 (gather_calls exact.out) (exact.steps.calls tt)) in
     err_as (λ e. RefusedAfter (fault_number e) own.store.meter c.keep.new.self.store.meter)
     _ _ c.from_residual-in_err-keep.ensures.1
     (not_by_the_device _ own.store.meter c.keep.new.self.store.meter c.in_err-keep.ensures.refused.no_memory (

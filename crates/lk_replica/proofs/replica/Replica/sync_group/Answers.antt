@@ -1,4 +1,4 @@
-use Rattle.std.proofs.Common.{◌≡◌, ◌||◌, inl, inr, Bool, true, false, not, refl, sym, ap, subst, ◌∙◌, arith, Ok}
+use Rattle.std.proofs.Common.{◌≡◌, ◌||◌, inl, inr, Bool, true, false, refl, sym, ap, subst, ◌∙◌, arith, Ok}
 use Rattle.std.specs.Prelude.{IfErr, ⊤}
 use Rattle.lk_disk.specs.Meters.{start}
 use Rattle.lk_log.specs.StoreValue.{disks}

@@ -27,9 +27,11 @@ returns-clause-adds g c =
           (λ telling. come_one c.receive.new.buffer.last c.args.self.now.incoming c.receive.new.self.incoming
           (l.comes telling)) l.others
           (ap (λ (s : ServerValue _). s.incoming) h.others) t.3,
-      keeps_given c.args.self.now.node c.args.self.now.addresses.seals t.0 c.args.buffer.now c.add_received.new.buffer
+      keeps_given c.args.self.now.addresses.seals t.0 c.args.buffer.now c.add_received.new.buffer
           (not_beside (filter_of c.args.self.now.addresses) t.0 apart)
           (ap (λ (b : BufferValue). b.asked) same ∙ l.asked) (ap (λ (b : BufferValue). b.reported) same ∙ l.reported),
+      ap (λ (b : BufferValue). b.asked) same ∙ l.asked,
+      ap (λ (b : BufferValue). b.reported) same ∙ l.reported,
     )) h.adds h.rest
 
 pub returns-clause-none : goal.returns-clause-none
@@ -43,9 +45,8 @@ returns-clause-none g c =
       listed c.receive.new.buffer.last,
       f.0,
       f.1,
-      keeps_found c.args.self.now.node c.receive.new.self.node c.args.self.now.addresses.seals
+      keeps_found c.args.self.now.addresses.seals
           c.receive.new.self.addresses.seals found c.args.buffer.now c.receive.new.buffer c.add_received.new.buffer
-          (ap (λ (s : ServerValue _). s.node) l.others)
           (ap (λ (s : ServerValue _). s.addresses.seals) l.others) l.asked l.reported
           (λ is. (none is).0) (λ is. let b = beside is in (b.0, b.1)) kept rest apart,
     )) h.none h.beside h.kept h.rest

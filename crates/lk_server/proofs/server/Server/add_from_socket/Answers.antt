@@ -34,11 +34,11 @@ returns-clause-adds g c = λ yes.
           (first.0 ∷ []) more.0 c.args.group.now c.add_first_datagram.new.group c.add_further_datagrams.new.group
           c.args.self.now c.add_first_datagram.new.self c.add_further_datagrams.new.self
           (ap (λ (s : ServerValue _). s.cluster) one) first.2 more.2).adds,
-      keeps_more c.args.self.now.node c.add_first_datagram.new.self.node c.args.self.now.addresses.seals
+      keeps_more c.args.self.now.addresses.seals
           c.add_first_datagram.new.self.addresses.seals
           (first.0 ∷ []) more.0 c.args.buffer.now c.add_first_datagram.new.buffer c.add_further_datagrams.new.buffer
-          (ap (λ (s : ServerValue _). s.node) one)
-          (ap (λ (c : Filter). c.seals) first.2.adds.network.1) first.3 more.3,
+          (ap (λ (c : Filter). c.seals) first.2.adds.network.1) first.3 more.3
+          (λ unasked untold. (first.4 ∙ unasked, first.5 ∙ untold)),
     )
 
 pub returns-in_err-found-clause-ends : goal.returns-in_err-found-clause-ends

@@ -13,7 +13,7 @@ datagrams-init g c = (
   socket_nothing g.R.ServerReplica.Gathers g.S.DatagramSocket.is_observable c.args.group.now c.args.group.now
       c.args.self.now c.args.self.now refl refl,
   refl,
-  keeps_still c.args.self.now.node c.args.self.now.addresses.seals c.args.buffer.now c.args.buffer.now refl refl,
+  keeps_still c.args.self.now.addresses.seals c.args.buffer.now c.args.buffer.now refl refl,
 )
 
 pub datagrams-preserved : goal.datagrams-preserved
@@ -38,10 +38,11 @@ datagrams-preserved g c =
             addresses = new.addresses;
             incoming = new.incoming;
           }) i.3,
-      keeps_more c.args.self.now.node c.datagrams.self.node c.args.self.now.addresses.seals
+      keeps_more c.args.self.now.addresses.seals
           c.datagrams.self.addresses.seals i.0
           (t.0 ∷ []) c.args.buffer.now c.datagrams.buffer c.add_next_datagram.new.buffer
-          (ap (λ (s : ServerValue _). s.node) i.3) (ap (λ (c : Filter). c.seals) i.2.adds.network.1) i.4 t.2,
+          (ap (λ (c : Filter). c.seals) i.2.adds.network.1) i.4 t.2
+          (λ unasked untold. c.has_kept.ensures.none (cc c.if-has_kept.false)),
     )
 
 pub returns-then-not-branch-clause-adds : goal.returns-then-not-branch-clause-adds
@@ -56,8 +57,19 @@ returns-then-not-branch-clause-adds g c =
           (socket_still g.R.ServerReplica.Gathers g.S.DatagramSocket.is_observable (2 * c.datagrams.counter) i.0
           c.args.group.now c.datagrams.group c.add_next_datagram.new.group c.args.self.now c.datagrams.self
           c.add_next_datagram.new.self i.2 n.2 n.1 n.0),
-      keeps_on c.args.self.now.node c.args.self.now.addresses.seals i.0 c.args.buffer.now c.datagrams.buffer
+      keeps_on c.args.self.now.addresses.seals i.0 c.args.buffer.now c.datagrams.buffer
           c.add_next_datagram.new.buffer i.4 n.3 n.4,
+    )
+
+pub returns-then-has_kept-clause-adds : goal.returns-then-has_kept-clause-adds
+returns-then-has_kept-clause-adds g c =
+    let i = c.datagrams.invariant in (
+      i.0,
+      omega (arith, i.1, c.datagrams-test.true),
+      socket_wider g.R.ServerReplica.Gathers g.S.DatagramSocket.is_observable (2 * c.datagrams.counter)
+          (2 * length i.0 + 2) i.0 c.args.group.now c.datagrams.group c.args.self.now c.datagrams.self
+          (omega (arith, i.1)) i.2,
+      i.4,
     )
 
 pub returns-clause-adds : goal.returns-clause-adds

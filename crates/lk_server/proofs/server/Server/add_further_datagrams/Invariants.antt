@@ -19,4 +19,4 @@ invariant-datagrams g l =
       addresses = l.self.addresses;
       incoming = l.self.incoming;
     })
-    × KeepsOf l.fn.self.node l.fn.self.addresses.seals frames l.fn.buffer l.buffer
+    × KeepsOf l.fn.self.addresses.seals frames l.fn.buffer l.buffer

@@ -18,7 +18,7 @@ returns-in-Something-clause-adds g c = λ came.
           c.args.group.now c.add_received.new.group c.args.self.now c.receive_or_pause.new.self
           c.add_received.new.self t.1 l.comes l.others
           (ap (λ (s : ServerValue _). s.incoming) c.add_received.ensures.others) t.3,
-      keeps_given c.args.self.now.node c.args.self.now.addresses.seals t.0 c.args.buffer.now c.add_received.new.buffer
+      keeps_given c.args.self.now.addresses.seals t.0 c.args.buffer.now c.add_received.new.buffer
           (not_beside (filter_of c.args.self.now.addresses) t.0
           (still_not_out c.args.self.now c.receive_or_pause.new.self t.0 l.others t.2))
           (ap (λ (b : BufferValue). b.asked) same ∙ l.asked) (ap (λ (b : BufferValue). b.reported) same ∙ l.reported),
@@ -32,10 +32,9 @@ returns-in-Filtered-clause-adds g c = λ came.
       socket_beside g.R.ServerReplica.Gathers g.S.DatagramSocket.is_observable 2 c.receive_or_pause.new.buffer.last b.0
           c.args.group.now c.add_received.new.group c.args.self.now c.receive_or_pause.new.self c.add_received.new.self
           b.1 l.comes l.others b.2 b.3 b.4,
-      keeps_beside c.args.self.now.node c.receive_or_pause.new.self.node c.args.self.now.addresses.seals
+      keeps_beside c.args.self.now.addresses.seals
           c.receive_or_pause.new.self.addresses.seals b.0 c.args.buffer.now c.receive_or_pause.new.buffer
           c.add_received.new.buffer
-          (ap (λ (s : ServerValue _). s.node) l.others)
           (ap (λ (s : ServerValue _). s.addresses.seals) l.others) l.asked l.reported b.1
           (c.in_ok-add_received.ensures.kept (search rules)),
     )

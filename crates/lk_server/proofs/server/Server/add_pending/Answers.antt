@@ -19,7 +19,7 @@ returns-then-not-branch-clause-adds g c =
     → (frames : List (SocketAddr × List ℕ))
     × AddsWaiting g.R.ServerReplica.Gathers g.S.DatagramSocket.is_observable frames x c.add_from_socket.new.group s
     c.add_from_socket.new.self
-    × KeepsOf s.node s.addresses.seals frames c.args.buffer.now c.add_from_socket.new.buffer))
+    × KeepsOf s.addresses.seals frames c.args.buffer.now c.add_from_socket.new.buffer))
     n.2 n.1 c.add_from_socket.ensures.adds
 
 pub returns-then-not-branch-clause-none : goal.returns-then-not-branch-clause-none
@@ -30,7 +30,7 @@ returns-then-not-branch-clause-none g c =
     → (s.loopback ≡ []) × (frames : List (SocketAddr × List ℕ))
     × Finds g.S.DatagramSocket.is_observable found frames s c.add_from_socket.new.self
     × (c.add_from_socket.new.group ≡ x)
-    × KeepsOf s.node s.addresses.seals frames c.args.buffer.now c.add_from_socket.new.buffer))
+    × KeepsOf s.addresses.seals frames c.args.buffer.now c.add_from_socket.new.buffer))
     n.2 n.1 c.add_from_socket.ensures.none
 
 pub returns-then-not-branch-clause-ends : goal.returns-then-not-branch-clause-ends
@@ -54,7 +54,7 @@ returns-clause-adds g c = λ yes.
           (ap (λ (s : ServerValue _). s.incoming) c.add_loopbacks.ensures.others
           ∙ ap (λ (s : ServerValue _). s.incoming) c.add_loopback.ensures.others) first.2
           c.in_ok-add_loopbacks.ensures.adds,
-      keeps_still c.args.self.now.node c.args.self.now.addresses.seals c.args.buffer.now c.args.buffer.now refl refl,
+      keeps_still c.args.self.now.addresses.seals c.args.buffer.now c.args.buffer.now refl refl,
     )
 
 pub returns-in_err-add_loopback-clause-ends : goal.returns-in_err-add_loopback-clause-ends

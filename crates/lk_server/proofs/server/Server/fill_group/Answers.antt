@@ -1,9 +1,10 @@
-use Rattle.std.proofs.Common.{rules, ◌≡◌, ◌∙◌, ℕ, List, ap, subst}
+use Rattle.std.proofs.Common.{rules, ◌≡◌, ◌∙◌, ℕ, true, false, List, ap, sym, subst}
 use Rattle.std.specs.declared.net.socket_addr.SocketAddr.{SocketAddr}
 use Rattle.lk_server.specs.Gatherings.{AddsGroup, EndsGroup}
 use Rattle.lk_server.specs.Servers.{ServerValue, HasReceived, IsIdle}
 use Rattle.lk_server.proofs.Carrying.{on_err, apart_by}
-use Rattle.lk_server.proofs.Turning.{untimely_takes, untimely_rests, tick_turn, tick_turn_ends}
+use Rattle.lk_server.proofs.Turning.{untimely_takes, untimely_rests, withheld_takes, withheld_rests}
+use Rattle.lk_server.proofs.Turning.{tick_turn, tick_turn_ends}
 use Rattle.lk_server.proofs.server.Server.fill_group.Goals as goal
 use Rattle.lk_transport.specs.Kept.{KeepsOf}
 
@@ -13,10 +14,11 @@ returns-then-not-is_due-clause-adds g c = λ is.
     let observable = g.S.DatagramSocket.is_observable in
     subst (λ (s : ServerValue _). (frames : List (SocketAddr × List ℕ))
     × AddsGroup r.Gathers observable frames c.args.group.now c.add_pending.new.group s c.add_pending.new.self
-    × KeepsOf s.node s.addresses.seals frames c.args.buffer.now c.add_pending.new.buffer) c.set_timeout.ensures
+    × KeepsOf s.addresses.seals frames c.args.buffer.now c.add_pending.new.buffer) c.set_timeout.ensures
     (untimely_takes r.Says r.Gathers observable
-    (λ frames. KeepsOf c.set_timeout.new.self.node c.set_timeout.new.self.addresses.seals frames c.args.buffer.now
+    (λ frames. KeepsOf c.set_timeout.new.self.addresses.seals frames c.args.buffer.now
     c.add_pending.new.buffer) c.args.group.now c.add_pending.new.group c.set_timeout.new.self c.add_pending.new.self
+    (ap (λ (s : ServerValue _). s.withheld) c.add_pending.ensures.others)
     (c.in_ok-found.ensures.adds (c.is_something.ensures.0 is)))
 
 pub returns-then-not-is_due-clause-idle : goal.returns-then-not-is_due-clause-idle
@@ -27,13 +29,41 @@ returns-then-not-is_due-clause-idle g c = λ isnt.
     let apart = apart_by isnt c.is_something.ensures.1 in
     subst (λ (s : ServerValue _). (frames : List (SocketAddr × List ℕ))
     × HasReceived observable frames s c.add_pending.new.self × IsIdle observable frames s c.add_pending.new.self
-    × KeepsOf s.node s.addresses.seals frames c.args.buffer.now c.add_pending.new.buffer) c.set_timeout.ensures
+    × KeepsOf s.addresses.seals frames c.args.buffer.now c.add_pending.new.buffer) c.set_timeout.ensures
     (untimely_rests r.Says r.Gathers observable
-    (λ frames. KeepsOf c.set_timeout.new.self.node c.set_timeout.new.self.addresses.seals frames c.args.buffer.now
+    (λ frames. KeepsOf c.set_timeout.new.self.addresses.seals frames c.args.buffer.now
     c.add_pending.new.buffer) c.in_ok-found.found c.is_due.result c.args.group.now c.add_pending.new.group
     c.set_timeout.new.self c.add_pending.new.self
     (ap (λ (s : ServerValue _). s.pace) c.add_pending.ensures.others) (cc c.if-not-is_due.true)
     (λ is. c.is_due.ensures.none (pace ∙ is)) (c.in_ok-found.ensures.none apart))
+
+pub returns-then-withholds-clause-adds : goal.returns-then-withholds-clause-adds
+returns-then-withholds-clause-adds g c = λ is.
+    let r = g.R.ServerReplica in
+    let observable = g.S.DatagramSocket.is_observable in
+    subst (λ (s : ServerValue _). (frames : List (SocketAddr × List ℕ))
+    × AddsGroup r.Gathers observable frames c.args.group.now c.add_pending.new.group s c.withhold_tick.new.self
+    × KeepsOf s.addresses.seals frames c.args.buffer.now c.add_pending.new.buffer) c.set_timeout.ensures
+    (withheld_takes r.Says r.Gathers observable
+    (λ frames. KeepsOf c.set_timeout.new.self.addresses.seals frames c.args.buffer.now
+    c.add_pending.new.buffer) c.args.group.now c.add_pending.new.group c.set_timeout.new.self c.add_pending.new.self
+    c.withhold_tick.new.self (ap (λ (s : ServerValue _). s.withheld) c.add_pending.ensures.others)
+    c.withhold_tick.ensures (c.withholds.ensures.0 (cc c.if-withholds.true))
+    (c.in_ok-found.ensures.adds (c.is_something-then-withholds.ensures.0 is)))
+
+pub returns-then-withholds-clause-idle : goal.returns-then-withholds-clause-idle
+returns-then-withholds-clause-idle g c = λ isnt.
+    let r = g.R.ServerReplica in
+    let observable = g.S.DatagramSocket.is_observable in
+    let apart = apart_by isnt c.is_something-then-withholds.ensures.1 in
+    subst (λ (s : ServerValue _). (frames : List (SocketAddr × List ℕ))
+    × HasReceived observable frames s c.withhold_tick.new.self × IsIdle observable frames s c.withhold_tick.new.self
+    × KeepsOf s.addresses.seals frames c.args.buffer.now c.add_pending.new.buffer) c.set_timeout.ensures
+    (withheld_rests r.Says r.Gathers observable
+    (λ frames. KeepsOf c.set_timeout.new.self.addresses.seals frames c.args.buffer.now
+    c.add_pending.new.buffer) c.in_ok-found.found c.args.group.now c.add_pending.new.group
+    c.set_timeout.new.self c.add_pending.new.self c.withhold_tick.new.self c.withhold_tick.ensures
+    (c.withholds.ensures.0 (cc c.if-withholds.true)) (c.in_ok-found.ensures.none apart))
 
 pub returns-clause-adds : goal.returns-clause-adds
 returns-clause-adds g c = λ is.
@@ -43,12 +73,14 @@ returns-clause-adds g c = λ is.
     let pace : c.self.inside.pace ≡ c.add_pending.new.self.pace = search rules in
     subst (λ (s : ServerValue _). (frames : List (SocketAddr × List ℕ))
     × AddsGroup r.Gathers observable frames c.args.group.now c.add_tick.new.group s c.add_tick.new.self
-    × KeepsOf s.node s.addresses.seals frames c.args.buffer.now c.add_pending.new.buffer) c.set_timeout.ensures
+    × KeepsOf s.addresses.seals frames c.args.buffer.now c.add_pending.new.buffer) c.set_timeout.ensures
     (tick_turn r.Says r.Gathers observable
-    (λ frames. KeepsOf c.set_timeout.new.self.node c.set_timeout.new.self.addresses.seals frames c.args.buffer.now
+    (λ frames. KeepsOf c.set_timeout.new.self.addresses.seals frames c.args.buffer.now
     c.add_pending.new.buffer) c.is_due.result c.args.group.now c.add_pending.new.group c.set_timeout.new.self
     c.add_pending.new.self c.add_tick.new.self (ap (λ (s : ServerValue _). s.pace) c.add_pending.ensures.others)
-    (cc c.if-not-is_due.false) c.add_tick.ensures.others c.add_tick.ensures.ticks c.in_ok-found.found
+    (cc c.if-not-is_due.false) (ap (λ (s : ServerValue _). s.withheld) c.add_pending.ensures.others)
+    (λ m. let both : false ≡ true = sym (cc c.if-withholds.false) ∙ c.withholds.ensures.1 m in cc both)
+    c.add_tick.ensures.others c.add_tick.ensures.ticks c.in_ok-found.found
     c.add_tick.new.group a.adds a.none (λ same. c.is_due.ensures.given (pace ∙ same)) c.in_ok-add_tick.ensures.gathers)
 
 pub returns-in_err-found-clause-ends : goal.returns-in_err-found-clause-ends
@@ -70,8 +102,10 @@ returns-in_err-add_tick-clause-ends g c =
     (subst (λ (s : ServerValue _). (frames : List (SocketAddr × List ℕ))
     × EndsGroup r.Says r.Gathers observable frames c.args.group.now s c.add_tick.new.self) c.set_timeout.ensures
     (tick_turn_ends r.Says r.Gathers observable
-    (λ frames. KeepsOf c.set_timeout.new.self.node c.set_timeout.new.self.addresses.seals frames c.args.buffer.now
+    (λ frames. KeepsOf c.set_timeout.new.self.addresses.seals frames c.args.buffer.now
     c.add_pending.new.buffer) c.is_due.result c.args.group.now c.add_pending.new.group c.set_timeout.new.self
     c.add_pending.new.self c.add_tick.new.self (ap (λ (s : ServerValue _). s.pace) c.add_pending.ensures.others)
-    (cc c.if-not-is_due.false) c.add_tick.ensures.others c.add_tick.ensures.ticks c.in_ok-found.found a.adds a.none
+    (cc c.if-not-is_due.false) (ap (λ (s : ServerValue _). s.withheld) c.add_pending.ensures.others)
+    (λ m. let both : false ≡ true = sym (cc c.if-withholds.false) ∙ c.withholds.ensures.1 m in cc both)
+    c.add_tick.ensures.others c.add_tick.ensures.ticks c.in_ok-found.found a.adds a.none
     (λ same. c.is_due.ensures.given (pace ∙ same)) c.in_err-add_tick.ensures.silent))

@@ -1,5 +1,5 @@
-use Rattle.std.proofs.Common.{rules, ◌≡◌, ◌∙◌, refl}
-use Rattle.lk_transport.specs.Posts.{send_state_of}
+use Rattle.std.proofs.Common.{rules, ◌≡◌, ◌∙◌, ap, sym}
+use Rattle.lk_transport.specs.Posts.{SocketPostValue, send_state_of}
 use Rattle.lk_server.specs.Servers.{send_state_at}
 use Rattle.lk_server.proofs.Carrying.{same_post, hands_on_all, says_nothing}
 use Rattle.lk_server.proofs.server.Server.sync_and_send.Goals as goal
@@ -8,7 +8,8 @@ pub returns-clause-addresses : goal.returns-clause-addresses
 returns-clause-addresses g c =
     let e = c.release-released.ensures in
     let begun : c.start_group.new.self.addresses ≡ c.args.self.now.addresses = search rules in
-    (same_post g.S.DatagramSocket.is_observable c.release-released.result _ c.start_group.new.self
+    ap (λ (p : SocketPostValue). p.addresses) c.end_group.ensures
+    ∙ (same_post g.S.DatagramSocket.is_observable c.release-released.result _ c.start_group.new.self
     c.release-released.new.post e.hands e.unsent).1 ∙ begun
 
 pub returns-clause-same : goal.returns-clause-same
@@ -17,7 +18,8 @@ returns-clause-same g c =
     let begun : c.start_group.new.self.node ≡ c.args.self.now.node = search rules in
     record {
       cluster = search rules;
-      node = (same_post g.S.DatagramSocket.is_observable c.release-released.result _ c.start_group.new.self
+      node = ap (λ (p : SocketPostValue). p.node) c.end_group.ensures
+          ∙ (same_post g.S.DatagramSocket.is_observable c.release-released.result _ c.start_group.new.self
           c.release-released.new.post e.hands e.unsent).0 ∙ begun;
       pace = search rules;
     }
@@ -26,7 +28,8 @@ pub returns-clause-still : goal.returns-clause-still
 returns-clause-still g c observable =
     let e = c.release-released.ensures in
     let begun : c.start_group.new.self.incoming ≡ c.args.self.now.incoming = search rules in
-    (same_post g.S.DatagramSocket.is_observable c.release-released.result _ c.start_group.new.self
+    ap (λ (p : SocketPostValue). p.incoming) c.end_group.ensures
+    ∙ (same_post g.S.DatagramSocket.is_observable c.release-released.result _ c.start_group.new.self
     c.release-released.new.post e.hands e.unsent).2 observable ∙ begun
 
 pub returns-clause-gives : goal.returns-clause-gives
@@ -40,11 +43,15 @@ returns-clause-gives g c =
     let begun : send_state_of c.start_group.new.self ≡ send_state_at c.args.self.now.loopback c.args.self.now =
     search rules in
     hands_on_all r.Says r.Gathers observable c.args.self.now _ c.start_group.new.self c.release-released.new.post
-    c.args.group.now c.self.inside.replica mine c.release-released.result e.hands same.0 same.1 begun refl
+    c.args.group.now c.self.inside.replica mine c.release-released.result e.hands
+    (ap (λ (p : SocketPostValue). p.node) c.end_group.ensures ∙ same.0)
+    (ap (λ (p : SocketPostValue). p.addresses) c.end_group.ensures ∙ same.1) begun
+    (sym (ap send_state_of c.end_group.ensures))
 
 pub returns-clause-silent : goal.returns-clause-silent
 returns-clause-silent g c =
     let e = c.release-released.ensures in
     let r = g.R.ServerReplica in
     rw (← c.self.view_is) (says_nothing r.Says r.Gathers g.S.DatagramSocket.is_observable _ _ c.start_group.new.self
-    c.release-released.new.post c.args.group.now c.release-released.result e.silent e.unsent (search rules) refl)
+    c.release-released.new.post c.args.group.now c.release-released.result e.silent e.unsent (search rules)
+    (sym (ap send_state_of c.end_group.ensures)))

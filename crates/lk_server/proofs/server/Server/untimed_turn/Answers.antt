@@ -1,7 +1,7 @@
 use Rattle.std.proofs.Common.{◌≡◌, ◌∙◌, true, false, ap, sym}
 use Rattle.lk_server.specs.Servers.{ServerValue}
 use Rattle.lk_server.proofs.Carrying.{on_err}
-use Rattle.lk_server.proofs.Turning.{same_by, received_on, without_tick, turn_of, last_of, last_within}
+use Rattle.lk_server.proofs.Turning.{same_in_group, received_on, without_tick, turn_of, last_of, last_within}
 use Rattle.lk_server.proofs.server.Server.untimed_turn.Goals as goal
 
 pub returns-clause-turn : goal.returns-clause-turn
@@ -16,10 +16,10 @@ returns-clause-turn g c = λ yes.
       turn_of r.Says r.Gathers observable t.0 c.new_group-group.result c.add_pending.new.group c.args.self.now
           c.add_pending.new.self c.end_group.new.self c.new_group-group.ensures
           (without_tick r.Says r.Gathers observable t.0 c.new_group-group.result c.add_pending.new.group c.args.self.now
-          c.add_pending.new.self t.1) c.in_ok-end_group.ensures.gives
+          c.add_pending.new.self (ap (λ (s : ServerValue _). s.withheld) o) t.1) c.in_ok-end_group.ensures.gives
           (ap (λ (s : ServerValue _). s.sent) o) (ap (λ (s : ServerValue _). s.socket_failures) o)
-          (same_by c.args.self.now c.add_pending.new.self o) e.addresses e.received e.ticks e.same
-          c.in_ok-end_group.ensures.alive,
+          (same_in_group c.args.self.now c.add_pending.new.self o) e.addresses e.counts.received e.counts.ticks
+          e.counts.withheld e.same c.in_ok-end_group.ensures.alive,
       t.2,
     )
 
@@ -36,9 +36,9 @@ returns-in_err-end_group-clause-ends g c =
       last_of r.Says r.Gathers observable t.0 c.new_group-group.result c.add_pending.new.group c.args.self.now
           c.add_pending.new.self c.end_group.new.self c.new_group-group.ensures
           (without_tick r.Says r.Gathers observable t.0 c.new_group-group.result c.add_pending.new.group c.args.self.now
-          c.add_pending.new.self t.1) c.in_err-end_group.ensures.silent
+          c.add_pending.new.self (ap (λ (s : ServerValue _). s.withheld) o) t.1) c.in_err-end_group.ensures.silent
           (ap (λ (s : ServerValue _). s.sent) o) (ap (λ (s : ServerValue _). s.socket_failures) o)
-          (same_by c.args.self.now c.add_pending.new.self o) e.addresses e.ticks e.same
+          (same_in_group c.args.self.now c.add_pending.new.self o) e.addresses e.counts.ticks e.same
           c.in_err-end_group.ensures.broken,
     )
 
@@ -53,7 +53,7 @@ returns-in_err-found-clause-ends g c =
       last_within r.Says r.Gathers g.S.DatagramSocket.is_observable e.0 c.new_group-group.result c.args.self.now
           c.add_pending.new.self c.new_group-group.ensures e.1
           (ap (λ (s : ServerValue _). s.sent) o) (ap (λ (s : ServerValue _). s.socket_failures) o)
-          (same_by c.args.self.now c.add_pending.new.self o) c.in_err-found.ensures.broken,
+          (same_in_group c.args.self.now c.add_pending.new.self o) c.in_err-found.ensures.broken,
     )
 
 pub returns-then-not-is_something-clause-none : goal.returns-then-not-is_something-clause-none

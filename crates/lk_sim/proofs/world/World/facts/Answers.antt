@@ -20,4 +20,5 @@ returns g c =
         ballots = record { own = w.world.sound.own; once = w.world.sound.one_value };
         room = room _ _ _ p.genesis p.seats.items p.sent.items p.trace.items w;
       });
+      keeps = rw (← c.self.view_is) w;
     }

@@ -15,6 +15,7 @@ returns-in-Request-clause-heard c =
       others = c.record_client.ensures.others;
       nodes = c.record_client.ensures.nodes;
       neighbours = c.record_client.ensures.neighbours;
+      hearing = c.record_client.ensures.hearing;
       network = c.record_client.ensures.network;
     } in
     let client : RecordsClient c.in-Request.request.client c.args.from c.args.self.now c.record_client.new.self =
@@ -41,6 +42,7 @@ returns-in-Node-clause-heard c =
       moves = c.record_node.ensures.moves;
       clients = c.record_node.ensures.clients;
       meets = c.record_node.ensures.meets;
+      hearing = c.record_node.ensures.hearing;
       network = c.record_node.ensures.network;
     } in
     let met : RecordsNode c.in-Node.node c.args.from

@@ -1,0 +1,2 @@
+mod PieceLaws
+mod SecondLetters

@@ -1,0 +1,5 @@
+mod Reported
+mod Walking
+mod Filling
+mod Collecting
+mod Accepting

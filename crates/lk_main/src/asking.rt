@@ -1,0 +1,78 @@
+//! Runs `locks ask`: sends a request, a join or a leave only after a look at the members.
+
+ghost use Rattle.std.specs.Prelude.{◌≡◌, ◌≤◌, ◌↔◌, false, IsTrue, IfOk};
+ghost use Rattle.lk_members.specs.Rosters.{IsChange};
+ghost use Rattle.lk_main.specs.Looks.{IsShownSafe};
+
+use lk_client::destination::Place;
+use lk_client::question::{Question, ask};
+use lk_program_fault::ProgramFault;
+use lk_status::target::Inquiry;
+use lk_status_command::withheld::may_send;
+use lk_transport::socket::DatagramSocket;
+use lk_types::Op;
+use std::alloc::Global;
+use std::io::Write;
+
+// Whether an op is a join or a leave.
+fn is_change(op: &Op) -> bool
+    ensures { IsTrue result ↔ IsChange op.now }
+{
+    match op {
+        Op::Join(_, _) | Op::Leave(_) => true,
+        Op::Table(_) | Op::Raise => false,
+    }
+}
+
+// Returns whether a request may be sent: it is forced or no change, or a look shows it safe. If not, writes why.
+fn is_cleared<S: DatagramSocket, E: Write>(
+    alloc: Global,
+    socket: &mut S,
+    inquiry: &mut Inquiry,
+    op: &Op,
+    is_forced: bool,
+    err: &mut E,
+) -> Result<bool, ProgramFault>
+    ensures { is_forced ≡ false → IsChange op.now → IfOk result
+        (λ is. IsTrue is → IsShownSafe S.sent S.incoming S.failures S.is_observable inquiry.old op.now) }
+{
+    if is_forced || !is_change(op) {
+        return Ok(true);
+    }
+    let may = may_send(alloc, socket, inquiry, op, err)?;
+    Ok(may)
+}
+
+/// Sends a request to these places in turn, and prints the reply. Before a join or a leave that is not forced it asks
+/// the targets of the inquiry for their members, and sends nothing unless these show that the change is safe. Returns
+/// status 0, or 1 after writing why it sends nothing, printing `no answer` or writing a fault to standard error.
+pub fn ask_if_cleared<S: DatagramSocket, W: Write, E: Write>(
+    alloc: Global,
+    socket: &mut S,
+    mut inquiry: Inquiry,
+    mut question: Question,
+    places: &[Place],
+    is_forced: bool,
+    out: &mut W,
+    err: &mut E,
+) -> u8
+    ensures status { result ≤ 1 }
+    // At status 0 a change that is not forced was shown to be safe, by two rounds of reports.
+    ensures looked { is_forced ≡ false → IsChange question.request.op → result ≡ 0
+        → IsShownSafe S.sent S.incoming S.failures S.is_observable inquiry question.request.op }
+{
+    match is_cleared(
+        alloc,
+        socket,
+        &mut inquiry,
+        &question.request.op,
+        is_forced,
+        err,
+    ) {
+        Ok(true) => {}
+        Ok(false) => return 1,
+        Err(fault) => return fault.write_to(err),
+    }
+    question.destination = inquiry.destination;
+    ask(alloc, socket, &question, places, out, err)
+}

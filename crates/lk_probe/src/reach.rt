@@ -1,0 +1,34 @@
+// What a report of form 2 has beside the status: whom its node hears, and what its socket does with bundles.
+ghost use Rattle.std.specs.Prelude.{IfSome};
+ghost use Rattle.lk_probe.specs.Grammar.{IsReach};
+
+/// Whom a node hears, and what its socket does with bundles.
+#[derive(Clone, Copy)]
+pub struct Reach {
+    /// How many of the members of the next position it hears, itself included. `None` if it does not find that out.
+    pub heard: Option<u8>,
+    /// Whether it reads the bundles that come.
+    pub reads_bundles: bool,
+    /// Whether it sends bundles.
+    pub sends_bundles: bool,
+}
+
+impl Reach {
+    /// Shows the prover that each part is in its range. Does nothing at run time.
+    pub fn facts(&self)
+        ensures { IsReach self.now }
+    {
+        if let Some(heard) = self.heard {
+            let _heard = heard;
+        }
+    }
+}
+
+// Shows the prover that a reach, if there is one, is in its range. Does nothing at run time.
+pub fn reach_facts(reach: &Option<Reach>)
+    ensures { IfSome reach.now IsReach }
+{
+    if let Some(reach) = reach {
+        reach.facts();
+    }
+}

@@ -1,0 +1,14 @@
+pub mod Hearing
+pub mod Ticking
+pub mod Electing
+pub mod Rejecting
+pub mod Leading
+pub mod Answering
+pub mod Deciding
+pub mod Feeding
+pub mod Gathering
+pub mod GettingOn
+pub mod LeadingOn
+pub mod Candidates
+pub mod Exchanges
+pub mod Beginnings

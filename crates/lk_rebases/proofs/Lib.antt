@@ -1,0 +1,7 @@
+mod Handling
+mod Votes
+mod Replies
+mod Running
+mod Taking
+mod Staying
+pub mod Rebases

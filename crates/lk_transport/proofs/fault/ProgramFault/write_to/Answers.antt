@@ -1,6 +1,0 @@
--- One tactic for each goal that a wrong body breaks.
-use Rattle.std.proofs.Common.{rules}
-use Rattle.lk_transport.proofs.fault.ProgramFault.write_to.Goals as goal
-
-pub returns : goal.returns
-returns g c = search rules

@@ -1,0 +1,4 @@
+mod PartLaws
+mod DatagramLaws
+mod QueueLaws
+mod OtherLaws

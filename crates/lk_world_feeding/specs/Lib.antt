@@ -1,0 +1,4 @@
+pub mod Asking
+pub mod Nudging
+pub mod Feeding
+pub mod Gathering

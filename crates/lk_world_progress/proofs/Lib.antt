@@ -1,0 +1,13 @@
+mod Stepping
+mod Rebasing
+mod Delivering
+mod Sending
+mod Shadowing
+mod Noting
+mod Exchanging
+mod Balloting
+mod Overtaking
+mod Restarting
+mod Waiting
+mod Starting
+mod Beginning
