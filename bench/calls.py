@@ -1,8 +1,8 @@
 #!/usr/bin/env python3
-"""Counts the system calls and the syncs of a request at the leader, by clients, of locks and of peers.
+"""Counts the system calls and the syncs of a request at the leader and at a follower, by clients.
 
-strace counts them at the leader while bench/load works. It slows the leader down, so the rates say nothing. A node that
-takes several requests at once makes fewer calls for each of them."""
+strace counts them while bench/load works, of locks and of peers. It slows the nodes down, so the rates say nothing. A
+node that takes several requests at once makes fewer calls for each of them."""
 import contextlib
 import os
 import pathlib
@@ -12,11 +12,12 @@ import subprocess
 import tempfile
 import time
 
-from compare import PEERS, TICKS, numbers, variants_of, words_of
-from scripting import a_program, need, parser
+from compare import PEERS, add_cluster_options, numbers, variants_of, words_of
+from scripting import need, parser
 from systems import generator
 
 ATTACHED = 0.5  # seconds that strace is given
+SYNCS = "fsync", "fdatasync"
 ROW = re.compile(r"^ *[\d.]+ +[\d.]+ +\d+ +(\d+) +(?:\d+ +)?(\w+)$")
 
 
@@ -39,12 +40,16 @@ def calls(path):
 
 
 def measured(program, system, folder, clients, seconds):
-    """The calls and the syncs of a request."""
-    leader, path = system.leader(), os.path.join(folder, "calls")
-    with counted(system.processes[leader].pid, path):
+    """The calls and the syncs of a request, at the leader and at a follower: four numbers."""
+    leader = system.leader()
+    nodes = [leader, next((node for node in system.ports if node != leader), leader)]
+    paths = [os.path.join(folder, f"calls-{node}") for node in nodes]
+    with contextlib.ExitStack() as counting:
+        for node, path in dict(zip(nodes, paths)).items():
+            counting.enter_context(counted(system.processes[node].pid, path))
         pairs = system.load(program, leader, clients, "--seconds", seconds)["pairs"] + clients
-    made = calls(path)
-    return sum(made.values()) / (2 * pairs), (made.get("fsync", 0) + made.get("fdatasync", 0)) / (2 * pairs)
+    made = map(calls, paths)
+    return [it / (2 * pairs) for one in made for it in (sum(one.values()), sum(one.get(name, 0) for name in SYNCS))]
 
 
 def arguments():
@@ -57,17 +62,8 @@ def arguments():
     )
     made.add_argument("--clients", type=numbers, default=[1, 8, 32, 64], help="1,8,32,64 if not given")
     made.add_argument("--alpha", type=numbers, default=[2, 8, 16], help="2,8,16 if not given")
-    made.add_argument(
-        "--ticks",
-        type=words_of(TICKS),
-        default=TICKS[:1],
-        help="of the clusters of locks, as datagrams,clock; datagrams if not given",
-    )
+    add_cluster_options(made)
     made.add_argument("--seconds", type=float, default=3, help="how long each load lasts, 3 if not given")
-    made.add_argument("--program", type=a_program, help="the program of locks; what ./locks runs if not given")
-    made.add_argument("--before", type=a_program, help="an older program of locks, beside the other")
-    made.add_argument("--sealed", action="store_true", help="the clusters of locks with keys too, beside those without")
-    made.add_argument("--dir", help="where the folders of the nodes are made")
     return made.parse_args()
 
 
@@ -75,13 +71,15 @@ def main():
     args = arguments()
     need("cargo", "strace")
     program = generator()
-    print("| system | clients | calls of a request | syncs of a request |\n|---|---:|---:|---:|", flush=True)
+    print("Of a request, at the leader and at a follower:\n")
+    print("| system | clients | calls | syncs | calls, follower | syncs, follower |", flush=True)
+    print("|---|---:|---:|---:|---:|---:|", flush=True)
     for variant in variants_of(args):
         with tempfile.TemporaryDirectory(dir=args.dir) as folder, variant.make(folder) as system:
             system.load(program, 1, 1, "--pairs", 1)
             for clients in args.clients:
-                made, syncs = measured(program, system, folder, clients, args.seconds)
-                print(f"| {variant.name} | {clients} | {made:.1f} | {syncs:.2f} |", flush=True)
+                found = measured(program, system, folder, clients, args.seconds)
+                print(f"| {variant.name} | {clients} | " + " | ".join(f"{it:.2f}" for it in found) + " |", flush=True)
 
 
 if __name__ == "__main__":

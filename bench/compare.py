@@ -167,15 +167,25 @@ def cluster_of(program, alpha, options=(), is_sealed=False):
     return lambda folder, before=(): Locks(folder, before, **of)
 
 
+def options_of(args, name):
+    """The options of the clusters of a program, each with what the picture says of them. An older program is given
+    none."""
+    for ticks in args.ticks if name == "locks" else ["datagrams"]:
+        word, options = ("", ()) if ticks == "datagrams" else (f", {ticks}", ("--ticks", ticks))
+        yield word, options
+        if args.bundle and name == "locks":
+            yield f"{word}, bundles", (*options, "--bundle")
+
+
 def clusters_of(args):
-    """The clusters of locks, and with keys too. An older program is not asked to tick by the clock."""
+    """The clusters of locks, and with keys too: those tick by the clock, whatever the option says."""
     for alpha, (name, program) in ((alpha, it) for alpha in args.alpha for it in programs(args).items()):
-        for ticks in args.ticks if name == "locks" else ["datagrams"]:
-            word, options = ("", ()) if ticks == "datagrams" else (f", {ticks}", ("--ticks", ticks))
-            is_long = alpha == max(args.alpha) and ticks == args.ticks[0]
+        for index, (word, options) in enumerate(options_of(args, name)):
+            is_long = alpha == max(args.alpha) and index == 0
             yield Variant(f"{name}, alpha {alpha}{word}", cluster_of(program, alpha, options), is_long)
-        if args.sealed:
-            yield Variant(f"{name}, alpha {alpha}, sealed", cluster_of(program, alpha, is_sealed=True), is_long=False)
+            if args.sealed and "--ticks" not in options:
+                sealed = cluster_of(program, alpha, options, is_sealed=True)
+                yield Variant(f"{name}, alpha {alpha}{word}, sealed", sealed, is_long=False)
 
 
 def variants_of(args):
@@ -264,6 +274,21 @@ def words_of(known):
     return read
 
 
+def add_cluster_options(made):
+    """Adds the options that say which clusters of locks are measured, beside `--alpha`, and where."""
+    made.add_argument("--sealed", action="store_true", help="the clusters of locks with keys too, beside those without")
+    made.add_argument("--bundle", action="store_true", help="the clusters of locks with bundles too")
+    made.add_argument(
+        "--ticks",
+        type=words_of(TICKS),
+        default=TICKS[:1],
+        help="of the clusters of locks, as datagrams,clock; datagrams if not given",
+    )
+    made.add_argument("--program", type=a_program, help="the program of locks; what ./locks runs if not given")
+    made.add_argument("--before", type=a_program, help="an older program of locks, beside the other")
+    made.add_argument("--dir", help="where the folders of the nodes are made")
+
+
 def arguments():
     made = parser(__doc__)
     made.add_argument(
@@ -275,13 +300,7 @@ def arguments():
     made.add_argument("--disks", type=words_of(DISKS), default=list(DISKS), help="plain,slow if not given")
     made.add_argument("--clients", type=numbers, default=[1, 2, 4, 8, 16, 32, 64], help="1,2,4,8,16,32,64 if not given")
     made.add_argument("--alpha", type=numbers, default=[8], help="of the clusters of locks, as 2,8,16; 8 if not given")
-    made.add_argument("--sealed", action="store_true", help="the clusters of locks with keys too, beside those without")
-    made.add_argument(
-        "--ticks",
-        type=words_of(TICKS),
-        default=TICKS[:1],
-        help="of the clusters of locks, as datagrams,clock; datagrams if not given",
-    )
+    add_cluster_options(made)
     made.add_argument("--rounds", type=int, default=3, help="3 if not given")
     made.add_argument("--seconds", type=float, default=3, help="how long each load lasts, 3 if not given")
     made.add_argument("--warm", type=float, default=10, help="how long each system is loaded before, 10 if not given")
@@ -292,9 +311,6 @@ def arguments():
         default=200_000,
         help="pairs of the long run, 200000 if not given; 0 for none",
     )
-    made.add_argument("--program", type=a_program, help="the program of locks; what ./locks runs if not given")
-    made.add_argument("--before", type=a_program, help="an older program of locks, beside the other")
-    made.add_argument("--dir", help="where the folders of the nodes are made")
     made.add_argument(
         "--out",
         type=pathlib.Path,

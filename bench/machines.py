@@ -89,13 +89,14 @@ class Namespaces:
 
     kind = "network namespaces"
 
-    def __init__(self):
+    def __init__(self, nodes=NODES):
+        self.nodes = nodes
         self.tag = f"lk{os.getpid() % 10000}"
         self.made = []
         self.space("hub")
         run("ip", "-n", self.name("hub"), "link", "add", "bridge", "type", "bridge")
         run("ip", "-n", self.name("hub"), "link", "set", "bridge", "up")
-        for at in (*NODES, 9):
+        for at in (*nodes, 9):
             self.machine(at)
 
     def name(self, of):
@@ -146,11 +147,11 @@ class Namespaces:
     def worsen(self):
         """From now on each way loses a fifth of the datagrams, repeats a fifth, and delays and reorders others."""
         rules = ["loss", "20%", "duplicate", "20%", "delay", "20ms", "20ms", "reorder", "25%"]
-        for node in NODES:
+        for node in self.nodes:
             run("tc", "-n", self.name(node), "qdisc", "replace", "dev", "wire", "root", "netem", *rules)
 
     def mend(self):
-        for node in NODES:
+        for node in self.nodes:
             run("tc", "-n", self.name(node), "qdisc", "del", "dev", "wire", "root")
 
     def end(self):
@@ -163,8 +164,8 @@ class Loopback:
 
     kind = "addresses of 127/8"
 
-    def __init__(self):
-        self.relay = Relay(NODES, PORT, self.address)
+    def __init__(self, nodes=NODES):
+        self.relay = Relay(nodes, PORT, self.address)
 
     def seen_by(self, node, other):
         return self.address(other) if node == other else self.relay.address(node, other)
@@ -200,24 +201,24 @@ class Loopback:
         self.relay.end()
 
 
-def machines(is_loopback):
+def machines(is_loopback, nodes=NODES):
     if not is_loopback:
         try:
-            return Namespaces()
+            return Namespaces(nodes)
         except (OSError, subprocess.CalledProcessError) as error:
             print(f"no namespaces ({error}), so addresses of 127/8")
-    return Loopback()
+    return Loopback(nodes)
 
 
 class Cluster:
-    """Three nodes, one on each machine. They and the clients have keys, or none where it is bare."""
+    """Nodes, one on each machine. They and the clients have keys, or none where it is bare."""
 
-    def __init__(self, program, world, folder, is_bare=False):
+    def __init__(self, program, world, folder, is_bare=False, nodes=NODES, alpha=ALPHA):
         self.program, self.world, self.folder, self.is_bare = program, world, folder, is_bare
-        self.number, self.processes = 0, {}
-        self.write("hosts", "".join(f"{node} {world.address(node)}\n" for node in NODES))
-        for node in NODES:
-            self.write(f"hosts{node}", "".join(f"{other} {world.seen_by(node, other)}\n" for other in NODES))
+        self.nodes, self.alpha, self.number, self.processes = nodes, alpha, 0, {}
+        self.write("hosts", "".join(f"{node} {world.address(node)}\n" for node in nodes))
+        for node in nodes:
+            self.write(f"hosts{node}", "".join(f"{other} {world.seen_by(node, other)}\n" for other in nodes))
         self.write("key", KEY.hex() + "\n")
         self.write("master", MASTER.hex() + "\n")
         for client in (ASKER, *HOLDERS):
@@ -229,7 +230,7 @@ class Cluster:
             it.write(text)
 
     def start(self, node, *more):
-        genesis = f"{CLUSTER},{ALPHA}," + ",".join(f"{it}:{PORT}" for it in NODES)
+        genesis = f"{CLUSTER},{self.alpha}," + ",".join(f"{it}:{PORT}" for it in self.nodes)
         folder = f"{self.folder}/d{node}"
         os.makedirs(folder, exist_ok=True)
         words = ["node", "--genesis", genesis, "--number", str(node), "--port", str(PORT)]
@@ -261,7 +262,7 @@ class Cluster:
 
     def leader(self):
         """The node of the highest term that was begun, and its round."""
-        begun = [it for node in NODES for it in re.findall(r"term (\d+)\.(\d+) begun", self.log(node))]
+        begun = [it for node in self.nodes for it in re.findall(r"term (\d+)\.(\d+) begun", self.log(node))]
         return max(((int(round), int(node)) for round, node in begun), default=(0, 0))
 
     def send(self, node, *frames):
@@ -388,20 +389,24 @@ def misuse(cluster, work, score):
     score.check("a client cannot release what another one holds", are_refused, f"{len(answers)} answers")
 
 
+def beside(world, module, plan):
+    """A module of the harness as a process on the outsider's machine, which runs until its input ends."""
+    paths = os.pathsep.join([TOP, os.path.join(TOP, "clients", "python")])
+    piped = {"stdin": subprocess.PIPE, "stdout": subprocess.PIPE, "text": True}
+    command = world.at(9, sys.executable, "-m", module, json.dumps(plan))
+    return subprocess.Popen(command, env=os.environ | {"PYTHONPATH": paths}, **piped)
+
+
 class Work:
     """Clients that hold locks on the outsider's machine, and what they have held."""
 
-    def __init__(self, cluster):
+    def __init__(self, cluster, **how):
         world, folder = cluster.world, cluster.folder
-        endpoints = [(world.address(node), PORT) for node in NODES]
+        endpoints = [(world.address(node), PORT) for node in cluster.nodes]
         keys = {client: None if cluster.is_bare else f"{folder}/client{client}" for client in HOLDERS}
-        names = ["one", "two"]
-        plan = {"cluster": CLUSTER, "endpoints": endpoints, "hosts": f"{folder}/hosts", "keys": keys, "names": names}
-        paths = os.pathsep.join([TOP, os.path.join(TOP, "clients", "python")])
-        environment = os.environ | {"PYTHONPATH": paths}
-        how = {"stdin": subprocess.PIPE, "stdout": subprocess.PIPE, "text": True, "env": environment}
+        plan = {"cluster": CLUSTER, "endpoints": endpoints, "hosts": f"{folder}/hosts", "keys": keys, **how}
         self.holds = []
-        self.process = subprocess.Popen(world.at(9, sys.executable, "-m", "harness.holders", json.dumps(plan)), **how)
+        self.process = beside(world, "harness.holders", {"names": ["one", "two"], **plan})
         self.reader = threading.Thread(target=self.read, daemon=True)
         self.reader.start()
 
@@ -436,16 +441,15 @@ def stand_still(work, score, name):
 
 
 def deafen(cluster, work, score):
-    """The leader is heard and does not hear: nothing is granted until it is stopped."""
+    """The leader is heard and does not hear: another one takes its place, and it may lead again once it hears."""
     leader = cluster.leader()[1]
     cut = [(node, leader) for node in NODES if node != leader]
     cluster.world.block(*cut)
-    stand_still(work, score, "where the leader is heard and does not hear")
-    cluster.stop(leader)
-    go_on(work, score, "once that node is stopped")
+    found, took = until(30, lambda: cluster.leader()[1] != leader)
+    score.check("a leader that is heard and does not hear is replaced", found, f"after {took:.1f} s")
+    go_on(work, score, "without it")
     cluster.world.unblock(*cut)
-    cluster.start(leader)
-    go_on(work, score, "once it is started again")
+    go_on(work, score, "once it hears again")
 
 
 def part(cluster, work, score):

@@ -1,7 +1,8 @@
 """Clients that hold locks one after the other, each in a thread, and what is wrong with their holds.
 
 `python3 -m harness.holders JSON` runs them until its input ends. Each hold is a line `NAME FENCE BEGIN END`, by one
-clock: from its grant until its release is sent."""
+clock: from its grant until its release is sent. With `checks` each asks another node first each time, and checks its
+hold: one that is not valid counts as given twice."""
 import contextlib
 import itertools
 import json
@@ -10,17 +11,19 @@ import sys
 import threading
 import time
 
-from locks_client import Client, LocksError, milliseconds
+from locks_client import Client, Held, LocksError, milliseconds
 
 WRITING = threading.Lock()
 
 
 def settle(client, name, is_over):
-    """Asks until no request is open, and nothing that was granted is held."""
-    while client.is_open and not is_over.is_set():
+    """Gives up what has no answer, and releases the name if the client holds it."""
+    while not is_over.is_set():
         with contextlib.suppress(LocksError):
-            if not client.withdraw(name) and client.is_open:
-                client.again()
+            found = client.give_up(name)
+            if isinstance(found, Held) and found.holder == client.client:
+                client.release(name, found.fence)
+            return
 
 
 def tell(line):
@@ -30,6 +33,16 @@ def tell(line):
         sys.stdout.flush()
 
 
+def hold(client, name, fence, checks):
+    """Holds a name for some milliseconds. Tells the hold once it ends, and a second time if it is not valid."""
+    begin, times = time.monotonic(), 1
+    try:
+        time.sleep(random.random() * 0.01)
+        times += bool(checks) and not client.check(name, fence)
+    finally:
+        tell(f"{name} {fence} {begin} {time.monotonic()}\n" * times)
+
+
 def work(number, plan, is_over):
     """Holds names until it is over, with pauses."""
     endpoints = [tuple(endpoint) for endpoint in plan["endpoints"]]
@@ -37,12 +50,11 @@ def work(number, plan, is_over):
     with Client(plan["cluster"], number, endpoints, first=milliseconds(), patience=2.0, **files) as client:
         while not is_over.is_set():
             name = random.choice(plan["names"])
+            if plan.get("checks"):
+                client.set_ports(random.sample(endpoints, len(endpoints)))
             try:
                 with client.lock(name, wait=2.0) as fence:
-                    begin = time.monotonic()
-                    time.sleep(random.random() * 0.01)
-                    end = time.monotonic()
-                tell(f"{name} {fence} {begin} {end}\n")
+                    hold(client, name, fence, plan.get("checks"))
             except LocksError:
                 settle(client, name, is_over)
 

@@ -10,7 +10,8 @@ import time
 
 
 class Relay:
-    """Carries what node a sends to b at `address(a, b)` on to where b listens, by rules that may change at any time.
+    """Carries what node a sends to b at `address(a, b)` on to where b listens, by rules that may change at any time. It
+    comes to b from `address(b, a)`, so that b may answer there.
 
     cut: pairs of which nothing is carried. loss, repeats: which part is lost, and which comes twice. delay: seconds
     that each waits at most; several wait differently, so that they come in another order. kept: the last frames of
@@ -24,8 +25,8 @@ class Relay:
         self.addresses = {node: (address_of(node), port) for node in nodes}
         self.random, self.late, self.count = random.Random(seed), [], itertools.count()
         self.selector, self.is_over = selectors.DefaultSelector(), False
-        for pair in self.kept:
-            it = socket.socket(socket.AF_INET, socket.SOCK_DGRAM)
+        self.sockets = {pair: socket.socket(socket.AF_INET, socket.SOCK_DGRAM) for pair in self.kept}
+        for pair, it in self.sockets.items():
             it.bind((self.address(*pair), port))
             it.setblocking(False)
             self.selector.register(it, selectors.EVENT_READ, pair)
@@ -53,7 +54,8 @@ class Relay:
             return
         for _ in range(1 + (self.random.random() < self.repeats)):
             due = time.monotonic() + self.random.random() * self.delay
-            heapq.heappush(self.late, (due, next(self.count), it, data, self.addresses[pair[1]]))
+            back = self.sockets[pair[::-1]]
+            heapq.heappush(self.late, (due, next(self.count), back, data, self.addresses[pair[1]]))
 
     def end(self):
         self.is_over = True

@@ -3,6 +3,7 @@ import os
 import socket
 import subprocess
 import tempfile
+import time
 import unittest
 
 HERE = os.path.dirname(os.path.abspath(__file__))
@@ -71,8 +72,8 @@ WORDS = [
     ("raw 0100", "00 02 0100"),
     ("raw " + "00" * 64, "00 40" + "00" * 64),
     (f"acquire {NAME_OF_54}", "00 38 01 36" + NAME_OF_54.encode().hex()),
-    ("join 4 7004", "01 00000004 1b5c"),
-    ("leave 4", "02 00000004"),
+    ("--force join 4 7004", "01 00000004 1b5c"),
+    ("--force leave 4", "02 00000004"),
     ("raise 2", "03 02"),
 ]
 
@@ -184,6 +185,39 @@ class AskingTest(unittest.TestCase):
                 self.assertEqual(process.communicate(timeout=60), ("granted 1\n", ""))
                 self.assertEqual((self.came(self.first), self.came(self.second)), (0, 0))
 
+    def test_the_only_port_is_asked_each_half_second(self):
+        with self.started("acquire", "db") as process:
+            came = []
+            for _ in range(10):
+                self.assertEqual(self.first.recv(9000).hex(), bytes_of(ASKED).hex())
+                came.append(time.monotonic())
+            self.assertEqual(process.communicate(timeout=60), ("no answer\n", ""))
+        self.assertGreater(came[-1] - came[0], 4.0)
+        self.assertEqual(self.came(self.first), 0)
+
+    def test_a_node_is_asked_at_its_address(self):
+        other = self.enterContext(socket.socket(socket.AF_INET, socket.SOCK_DGRAM))
+        other.bind(("127.0.0.2", 0))
+        other.settimeout(10.0)
+        hosts = self.enterContext(tempfile.NamedTemporaryFile("w", suffix=".hosts"))
+        hosts.write("1 127.0.0.1\n2 127.0.0.2\n")
+        hosts.flush()
+        ports = ["--port", f"1:{self.first.getsockname()[1]}", "--port", f"2:{other.getsockname()[1]}"]
+        words = ["--cluster", "5", *ports, "--hosts", hosts.name, "--client", "7", "--request", "1", "acquire", "db"]
+        with subprocess.Popen([PROGRAM, "ask", *words], stdout=subprocess.PIPE, text=True) as process:
+            data, client = self.first.recvfrom(9000)
+            self.assertEqual(other.recvfrom(9000)[0], data)
+            other.sendto(bytes_of(GRANTED), ("127.0.0.1", client[1]))
+            self.assertEqual(process.communicate(timeout=60)[0], "granted 1\n")
+
+    def test_a_lost_request_is_sent_again(self):
+        with self.started("acquire", "db") as process:
+            lost = self.first.recvfrom(9000)
+            again = self.first.recvfrom(9000)
+            self.assertEqual(lost, again)
+            self.first.sendto(bytes_of(GRANTED), again[1])
+            self.assertEqual(process.communicate(timeout=60), ("granted 1\n", ""))
+
     def test_each_port_is_asked_three_times(self):
         with self.among() as process:
             self.assertEqual(process.communicate(timeout=60), ("no answer\n", ""))
@@ -195,13 +229,13 @@ class AskingTest(unittest.TestCase):
 
     def test_twenty_are_followed(self):
         none = (1, "no answer\n")
-        self.assertEqual(self.asks([self.elsewhere()] * 49 + [GRANTED]), ((0, "granted 1\n"), (1, 20)))
-        self.assertEqual(self.asks([self.elsewhere()] * 50), (none, (1, 20)))
+        self.assertEqual(self.asks([self.elsewhere()] * 49 + [GRANTED]), ((0, "granted 1\n"), (10, 20)))
+        self.assertEqual(self.asks([self.elsewhere()] * 50), (none, (10, 20)))
 
     def test_other_datagrams_are_no_reply(self):
         others = OTHERS * 10
-        self.assertEqual(self.asks(others[1:] + [GRANTED]), ((0, "granted 1\n"), (1, 0)))
-        self.assertEqual(self.asks(others + [GRANTED]), ((1, "no answer\n"), (1, 0)))
+        self.assertEqual(self.asks(others[1:] + [GRANTED]), ((0, "granted 1\n"), (10, 0)))
+        self.assertEqual(self.asks(others + [GRANTED]), ((1, "no answer\n"), (10, 0)))
 
 
 if __name__ == "__main__":

@@ -115,6 +115,18 @@ class EventsTest(unittest.TestCase):
             self.assertFalse([text for _, _, text in cluster.events(1) if "leads in" in text])
             self.assertEqual({level for level, _, text in cluster.events(1) if "no leader" in text}, {"WARN"})
 
+    def test_who_is_no_member_says_so(self):
+        cluster = self.cluster
+        with contextlib.ExitStack() as stack:
+            stack.callback(cluster.__exit__)
+            self.add(4)
+            cluster.start(4)
+            cluster.waits(4, "is not a member, and has had no leader for 2 s")
+            cluster.waits(4, "is not a member, and has had no leader for 4 s")
+            told = [(level, text) for level, _, text in cluster.events(4) if "leader" in text]
+            self.assertEqual({level for level, _ in told}, {"INFO"})
+            self.assertFalse([text for _, text in told if "has heard of no leader" in text])
+
     def test_members_stores_and_snapshots_are_told(self):
         with self.cluster as cluster:
             self.leader()
@@ -129,6 +141,7 @@ class EventsTest(unittest.TestCase):
             cluster.waits(4, r"installed a snapshot of node [123], \d+ positions")
             self.assertEqual(self.asks("leave", "4", first=401), "left\n")
             cluster.waits(1, "node 4 left, members .*")
+            cluster.waits(4, "is not a member, and has had no leader for 2 s")
             cluster.kill(4)
             cluster.kill(1)
             cluster.start(1)

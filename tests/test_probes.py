@@ -1,4 +1,4 @@
-"""A node answers a probe by a report as long as it, and passes over what only begins as one."""
+"""A node answers a probe by a report of its form, as long as it, and passes over what only begins as one."""
 import hashlib
 import os
 import socket
@@ -12,7 +12,7 @@ from harness.cluster import Cluster, free_ports
 
 PROGRAM = os.environ.get("LOCKS_PROGRAM")
 
-LENGTH = 174
+LENGTH, LONG = 174, 178
 REPORT = struct.Struct(">4sQIHQ32s3sBBBIQQIQQB")
 CLUSTER = 5
 
@@ -32,9 +32,10 @@ PROGRESS = "0000000000000002 0000000000000000 01"
 NEXT = "04 00000001 1b59 00000002 1b5a 00000003 1b5b 00000004 1b5c"
 
 
-def probe(cluster=CLUSTER, node=0, client=0, token=1):
+def probe(cluster=CLUSTER, node=0, client=0, token=1, form=1):
     """The bytes of a probe."""
-    return (b"LP\x01\x09" + struct.pack(">QIHQ", cluster, node, client, token)).ljust(LENGTH, b"\0")
+    front = b"LP" + bytes([form, 9]) + struct.pack(">QIHQ", cluster, node, client, token)
+    return front.ljust(LENGTH if form == 1 else LONG, b"\0")
 
 
 @unittest.skipUnless(PROGRAM, "LOCKS_PROGRAM does not tell the program")
@@ -68,6 +69,13 @@ class ProbesTest(unittest.TestCase):
             self.assertEqual((magic, cluster, told, client, token), (b"LP\x01\x0a", CLUSTER, node, 0, node))
             self.assertEqual(answer[131], 3)
 
+    def test_a_report_of_form_2_tells_what_its_node_reads(self):
+        for node in self.cluster.ports:
+            answer = self.awaited(node, probe(token=node, form=2))
+            self.assertEqual((len(answer), answer[:4], answer[174:].hex()), (LONG, b"LP\x02\x0a", "00000100"))
+            short = self.awaited(node, probe(token=node))
+            self.assertEqual((short[:4], short[4:58]), (b"LP\x01\x0a", answer[4:58]))
+
     def counts(self, node):
         """How many datagrams a node could not read, and how many ticks it has counted."""
         unread, _, ticks = struct.unpack(">QQQ", self.awaited(node, probe())[107:131])
@@ -98,6 +106,11 @@ class ProbesTest(unittest.TestCase):
             of_nobody,
             b"LP",
             b"LP\x01\x0a" + probe()[4:],
+            probe(form=2)[:LENGTH],
+            probe() + bytes(4),
+            probe(form=2)[:-1] + b"\1",
+            probe(form=2) + b"\0",
+            probe(form=3),
         )
         for datagram in others:
             self.assertIsNone(self.report(1, datagram, 0.2), datagram)
@@ -122,6 +135,20 @@ class ReportTest(unittest.TestCase):
         self.assertEqual((report[58:62].hex(), report[63:68].hex()), ("00010002", "0000000000"))
         self.assertEqual((report[88:105].hex(), report[105:107]), (bytes_of(PROGRESS).hex(), b"\0\0"))
         self.assertEqual(report[131:].hex(), node.bytes_of(NEXT).hex().ljust(2 * (LENGTH - 131), "0"))
+
+    def test_a_report_of_form_2_tells_whom_its_node_hears(self):
+        node = self.enterContext(Node(PROGRAM, self.enterContext(tempfile.TemporaryDirectory()), alpha=2))
+        node.ports += free_ports(1)
+        node.write(node.bytes_of(BEGUN, JOIN, LEAVE))
+        node.words = ("--ticks", "clock", "--bundle")
+        self.assertEqual(node.start(), f"port {node.ports[1]}")
+        it = self.enterContext(node.bound(0))
+        it.sendto(probe(token=7, form=2), ("127.0.0.1", node.ports[1]))
+        report = it.recv(9000)
+        self.assertEqual((len(report), report[:26].hex()), (LONG, bytes_of(FRONT.replace("4c5001", "4c5002")).hex()))
+        self.assertEqual(report[131:174].hex(), node.bytes_of(NEXT).hex().ljust(2 * (LENGTH - 131), "0"))
+        # It hears itself alone, reads bundles and sends them.
+        self.assertEqual(report[174:].hex(), "00020101")
 
 
 if __name__ == "__main__":

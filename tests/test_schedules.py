@@ -19,13 +19,15 @@ def ended(start, *more):
 
 
 def replayed(start):
-    """What a schedule with groups prints, and the same of a run of its script: event count and greatest position."""
-    script = ended(start, "--groups", "--script")[1]
+    """What a schedule with groups prints, and the same of a run of its script: event count and greatest position. Every
+    other one has nudges."""
+    words = ["--groups", *["--nudges"] * (start % 2)]
+    script = ended(start, *words, "--script")[1]
     ran = subprocess.run([PROGRAM, "sim"], input=script, capture_output=True, text=True, timeout=60)
     done = re.search(r"done (\d+)\n\Z", ran.stdout)
     positions = [int(position) for position in re.findall(r"(?m)^ran \d+ (\d+) ", ran.stdout)]
     told = f"done {int(done[1]) - 3} positions {max(positions, default=0)}\n" if done else ran.stdout[-200:]
-    return ended(start, "--groups")[1], told
+    return ended(start, *words)[1], told
 
 
 @unittest.skipUnless(PROGRAM, "LOCKS_PROGRAM does not tell the program")

@@ -275,7 +275,7 @@ class QuestionsTest(unittest.TestCase):
             time.sleep(0.005)
         self.assertLess(self.ticks(it) - before, 10 * (time.monotonic() - began) + 2)
 
-    def test_with_a_key_nothing_is_asked(self):
+    def test_with_a_key_no_genesis_is_asked(self):
         key = self.node.path("key")
         with open(os.open(key, os.O_CREAT | os.O_WRONLY, 0o600), "w", encoding="ascii") as file:
             file.write(f"{KEY.hex()}\n")
@@ -285,7 +285,12 @@ class QuestionsTest(unittest.TestCase):
         self.node.send(seal(2, PREPARE))
         self.assertEqual(self.node.socket.recv(9000).hex(), seal(1, PROMISE).hex())
         found = self.came(self.node.socket, 1.0)
-        self.assertEqual([data for data in found if data[:2] != b"LS" or data[36:38] != b"LK"], [])
+        self.assertEqual([data for data in found if data[:2] != b"LS"], [])
+        probes = [data[36:] for data in found if data[36:38] == b"LP"]
+        self.assertTrue(probes)  # by which it hears the member, each with a token of its own
+        tokens = [int.from_bytes(probe[18:26], "big") for probe in probes]
+        self.assertEqual(len(set(tokens)), len(tokens))
+        self.assertNotIn(2, tokens)  # that of the question is its own number
 
 
 @unittest.skipUnless(PROGRAM, "LOCKS_PROGRAM does not tell the program")

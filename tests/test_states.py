@@ -146,18 +146,39 @@ class StateTest(unittest.TestCase):
     def setUp(self):
         self.folder = self.enterContext(tempfile.TemporaryDirectory())
 
-    def inspected(self, text):
-        """The status and the last line of standard error, where a store holds this text."""
+    def inspects(self, text, *words):
+        """What `inspect` prints and tells, where a store holds this text."""
         for name, data in (("a", base_of(text)), ("b", b"")):
             with open(os.path.join(self.folder, name), "wb") as file:
                 file.write(data)
-        told = subprocess.run([PROGRAM, "inspect", "--dir", self.folder], capture_output=True, text=True)
+        return subprocess.run([PROGRAM, "inspect", "--dir", self.folder, *words], capture_output=True, text=True)
+
+    def inspected(self, text):
+        """The status and the last line of standard error, where a store holds this text."""
+        told = self.inspects(text)
         return told.returncode, "".join(told.stderr.splitlines(keepends=True)[-1:])
 
     def test_states_have_these_bytes(self):
         for text in STATES:
             with self.subTest(text=text):
                 self.assertEqual(self.inspected(text), (0, ""))
+
+    def test_all_names_are_printed_with_their_last_fences(self):
+        members = ["members 1:7001 2:7002", "members from 4 2:7002 3:7003"]
+        head = ["executed 2", *members, "names 2 of 512", "clients 2 of 256"]
+        shared = "ff02 0002 01 61 0000000000000005 02 02 0001 0100 01 62 0000000000000009 00"
+        tables = [
+            (PARTS[5], ["held a 7 1"], ["free a. 3"]),
+            (shared, ["held a 1 5", "held a 256 5"], ["free b 9"]),
+            ("ff02 0002 01 61 0000000000000004 00 01 62 0000000000000002 01 0007", ["free a 4"], ["held b 7 2"]),
+        ]
+        for names, first, second in tables:
+            with self.subTest(names=names):
+                text = text_with(5, names)
+                lines = [*first, *second]
+                held = [line for line in lines if line.startswith("held")]
+                self.assertEqual(self.inspects(text).stdout.splitlines(), [*head, *held])
+                self.assertEqual(self.inspects(text, "--all").stdout.splitlines(), [*head, *lines])
 
     def test_each_limit_is_the_last_that_is_taken(self):
         for rule, place, good, bad in LIMITS:

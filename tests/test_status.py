@@ -4,99 +4,15 @@ import hmac
 import json
 import os
 import re
-import selectors
-import socket
 import subprocess
 import tempfile
 import time
 import unittest
 
-from harness.by_bytes import bytes_of
+from harness.peers import GENESIS, LONG, OTHER_GENESIS, RAISED, SENDS, Peers, heard, node, older, probe, report, silent
+from harness.peers import token_of
 
 PROGRAM = os.environ.get("LOCKS_PROGRAM")
-
-# A probe of cluster 5 by nobody's key, but for its token and the zeros behind.
-PROBE = "4c500109 0000000000000005 00000000 0000"
-LENGTH = 174
-
-GENESIS = "11" * 32
-OTHER_GENESIS = "22" * 32
-# The version of the program, the format of the store, the version of the table.
-PROGRAM_0_1_0 = "000100 02 01"
-RAISED = "000100 02 02"
-MEMBERS = "03 00000001 1b59 00000002 1b5a 00000003 1b5b"
-
-
-def report(
-    node,
-    token,
-    genesis=GENESIS,
-    build=PROGRAM_0_1_0,
-    leads=0,
-    leader=1,
-    silence=1,
-    promised=3,
-    executed=10,
-    waiting=2,
-    unsent=6,
-    members=MEMBERS,
-    client=0,
-    cluster=5,
-):
-    """A report, field by field: the numbers are as in docs/WIRE.md."""
-    head = f"4c50010a {cluster:016x} {node:08x} {client:04x} {token:016x} {genesis} {build}"
-    leadership = f"{leads:02x} {leader:08x} {silence:016x} {promised:016x} {1:08x}"
-    progress = f"{executed:016x} {4:016x} 01"
-    traffic = f"{waiting:04x} {5:016x} {unsent:016x} {100:016x}"
-    return bytes_of(head, leadership, progress, traffic, members).ljust(LENGTH, b"\0")
-
-
-def token_of(probe):
-    return int.from_bytes(probe[18:26], "big")
-
-
-class Peers:
-    """Sockets in the place of nodes: each answers a probe by what a function makes of it."""
-
-    def __init__(self, answers):
-        self.answers, self.came, self.selector = answers, [], selectors.DefaultSelector()
-        self.sockets = []
-        for _ in answers:
-            it = socket.socket(socket.AF_INET, socket.SOCK_DGRAM)
-            it.bind(("127.0.0.1", 0))
-            self.selector.register(it, selectors.EVENT_READ, len(self.sockets))
-            self.sockets.append(it)
-
-    def __enter__(self):
-        return self
-
-    def __exit__(self, *_):
-        for it in self.sockets:
-            it.close()
-
-    @property
-    def ports(self):
-        return [it.getsockname()[1] for it in self.sockets]
-
-    def serve(self, process):
-        """Answers until the process ends. What it printed, and its status."""
-        while process.poll() is None:
-            for key, _ in self.selector.select(0.01):
-                data, place = key.fileobj.recvfrom(9000)
-                self.came.append(data)
-                for reply in self.answers[key.data](data):
-                    key.fileobj.sendto(reply, place)
-        out, err = process.communicate()
-        return process.returncode, out, err
-
-
-def node(number, **parts):
-    """A peer that reports as this node."""
-    return lambda probe: [report(number, token_of(probe), **parts)]
-
-
-def silent(_):
-    return []
 
 
 @unittest.skipUnless(PROGRAM, "LOCKS_PROGRAM does not tell the program")
@@ -123,7 +39,38 @@ class StatusTest(unittest.TestCase):
 
     def test_a_probe_is_those_bytes(self):
         self.asks([node(1, leads=1)])
-        self.assertEqual(self.came, [bytes_of(PROBE, "0000000000000000").ljust(LENGTH, b"\0")])
+        self.assertEqual(self.came, [probe(2)])
+
+    def test_who_is_silent_is_asked_in_both_forms(self):
+        self.asks([silent], "--wait", "200")
+        self.assertEqual(self.came, [probe(2), probe(2), probe(1), probe(2), probe(1)])
+
+    def test_older_nodes_are_asked_in_form_1(self):
+        began = time.monotonic()
+        lines = self.tells([older(1, leads=1), older(2), older(3)], 0, "node 1, port a: leads, executed 10")
+        self.assertLess(time.monotonic() - began, 20)  # a busy machine is slow
+        self.assertEqual(lines[-1], "majority: 3 of 3 up")
+        self.assertEqual(self.asks([older(1, leads=1), older(2), older(3)], "--until", "ready", "20")[0], 0)
+        self.tells([node(1, leads=1), older(2), silent], 0, "majority: 2 of 3 up")
+
+    def test_a_leader_that_hears_no_majority_does_not_serve(self):
+        answers = [node(1, leads=1, reach=heard(1)), node(2, reach=heard(2)), node(3, reach=heard(0))]
+        lines = self.tells(answers, 1, "why: node 1, which leads, hears no majority: check what keeps")
+        self.assertIn("node 1, port a: leads, hears 1 of 3 members, no majority, executed 10", lines[0])
+        self.assertIn("node 2, port b: follows 1, heard 1 tick ago, executed 10", lines[1])
+        self.assertIn(", hears 0 of 3 members, no majority, executed 10", lines[2])
+        self.assertEqual(self.asks(answers, "--until", "ready", "1")[0], 1)
+        why = "why: node 3 hears no majority, and could not read 5 of what came: compare its key with the others'"
+        self.tells([node(1, leads=1, reach=heard(2)), *answers[1:]], 0, why)
+        self.tells([node(1, leads=1), *answers[1:]], 0)
+
+    def test_who_may_not_read_bundles_is_named(self):
+        why = "why: node 2 may not read the bundles of others: start it with this program, or them without --bundle"
+        lines = self.tells([node(1, leads=1, reach=SENDS), older(2), node(3)], 0, why)
+        self.assertEqual("\n".join(lines).count("why:"), 1, lines)
+        self.tells([node(1, leads=1, reach=SENDS), node(2, reach="0000 00 00"), node(3)], 0, why)
+        lines = self.tells([node(1, leads=1), older(2), node(3)], 0)
+        self.assertNotIn("why:", "\n".join(lines))
 
     def test_three_nodes_are_a_line_each(self):
         lines = self.tells([node(1, leads=1, silence=0, executed=12), node(2), node(3, executed=12)], 0)
@@ -167,10 +114,35 @@ class StatusTest(unittest.TestCase):
         self.tells(answers, 1, why)
         self.tells([*answers[:2], silent], 1, "if it lasts, node 3 sends and hears nobody")
 
+    def test_who_hears_a_majority_and_is_not_elected_lacks_long_datagrams(self):
+        """Reports of nodes whose probes pass and whose promises do not."""
+        answers = [node(2, leader=0, silence=0, promised=3, reach=heard(2)), node(3, leader=2, reach=heard(2)), silent]
+        why = "why: nobody leads: an election takes seconds; if it lasts, let long datagrams pass (fragments)"
+        lines = self.tells(answers, 1, why)
+        self.assertNotIn("sends and hears nobody", "\n".join(lines))
+        seeks = node(1, leader=3, silence=0, reach=heard(3))
+        why = "why: node 1 seeks votes, and hears a majority: if that lasts, let long datagrams pass (fragments)"
+        self.tells([seeks, node(2, leads=1), node(3, leader=2)], 0, why)
+
+    def test_a_node_that_is_cut_off_is_named(self):
+        answers = [node(1, leads=1), node(2), node(3, reach=heard(1), unread=0)]
+        why = "why: node 3 hears no majority: if that lasts, check its --port, the hosts and its network"
+        self.tells(answers, 0, why)
+        self.tells([node(1, leads=1), node(2), node(3, reach=heard(2), unread=0)], 0)
+
     def test_a_node_that_is_no_member_is_named(self):
-        answers = [node(1, leads=1), node(2), node(3), node(4, leader=0, silence=28)]
-        lines = self.tells(answers, 0, "why: node 4 is not a member")
-        self.assertNotIn("node 4 hears nobody", "\n".join(lines))
+        for parts, says in (({}, "node 4, port d: is not a member, executed"), ({"leader": 1}, "port d: follows 1, ")):
+            with self.subTest(parts=parts):
+                answers = [node(1, leads=1), node(2), node(3), node(4, **({"leader": 0, "silence": 28} | parts))]
+                lines = self.tells(answers, 0, "why: node 4 is not a member", says)
+                self.assertNotIn("node 4 hears nobody", "\n".join(lines))
+
+    def test_a_leader_that_no_majority_follows_is_named(self):
+        why = "why: no majority follows node 1, which leads: they do not hear it, or it does not hear them"
+        for other in ({"silence": 8}, {"promised": 2}, {"leader": 2}, {"leader": 0}):
+            with self.subTest(other=other):
+                self.tells([node(1, leads=1), node(2, **other), node(3, **other)], 1, "majority: 3 of 3 up", why)
+        self.tells([node(1, leads=1), node(2, silence=7), node(3, leader=0)], 0)
 
     def test_nobody_answers(self):
         self.tells([silent], 1, "port a: no answer", "why: nobody answers")
@@ -237,6 +209,14 @@ class StatusTest(unittest.TestCase):
                     good[place] = byte
                     return [bytes(good)]
                 self.assertEqual(self.asks([spoiled], "--wait", "100")[1][0], "port a: no answer")
+        for place, byte in ((2, 1), (3, 9), (173, 1), (174, 2), (176, 2), (177, 2)):
+            with self.subTest(place=place, form=2):
+                def spoiled(probe):
+                    good = bytearray(report(1, token_of(probe), leads=1, reach="0100 01 01"))
+                    self.assertEqual(len(good), LONG)
+                    good[place] = byte
+                    return [bytes(good), bytes(good[:-1]), bytes(good + b"\0")]
+                self.assertEqual(self.asks([spoiled], "--wait", "100")[1][0], "port a: no answer")
         cut = lambda probe: [report(1, token_of(probe))[:-1], report(1, token_of(probe)) + b"\0", b"", b"x"]
         self.assertEqual(self.asks([cut], "--wait", "100")[1][0], "port a: no answer")
 
@@ -248,7 +228,7 @@ class StatusTest(unittest.TestCase):
             return [report(1, token_of(probe), leads=1)] if len(seen) == 3 else []
 
         self.tells([late, node(2)], 0, "node 1, port a: leads")
-        self.assertEqual(len(set(seen)), 1)
+        self.assertEqual(seen, [probe(2), probe(2), probe(1)])
 
     def test_three_nodes_take_no_wait(self):
         began = time.monotonic()
@@ -256,7 +236,7 @@ class StatusTest(unittest.TestCase):
         self.assertLess(time.monotonic() - began, 1.0)
 
     def test_json_is_one_object(self):
-        status, lines = self.asks([node(1, leads=1), silent, node(3)], "--json")
+        status, lines = self.asks([node(1, leads=1, reach=heard(2)), silent, older(3)], "--json")
         self.assertEqual((status, len(lines)), (0, 1))
         told = json.loads(re.sub(r'"port":([a-z])', r'"port":"\1"', lines[0]))
         self.assertEqual(
@@ -266,6 +246,9 @@ class StatusTest(unittest.TestCase):
         first, second, third = told["nodes"]
         self.assertEqual(second, {"port": "b", "up": False})
         self.assertEqual((first["leads"], third["leads"], third["leader"]), (1, 0, 1))
+        self.assertEqual((first["members_heard"], first["reads_bundles"], first["sends_bundles"]), (2, 1, 0))
+        self.assertNotIn("members_heard", third)
+        self.assertNotIn("reads_bundles", third)
         self.assertEqual((first["genesis"], first["program"], first["member_nodes"]), (GENESIS, "0.1.0", [1, 2, 3]))
         self.assertEqual(
             (first["executed_positions"], first["unread_datagrams_total"], first["promised_round"]), (10, 5, 3)
@@ -273,21 +256,42 @@ class StatusTest(unittest.TestCase):
         self.assertEqual(first["change_pending_positions"], 1)
 
     def test_metrics_have_a_type_and_one_value_each(self):
-        status, lines = self.asks([node(1, leads=1), silent, node(3)], "--prometheus")
+        leader = node(1, leads=1, leader=0, reach=heard(2))
+        status, lines = self.asks([leader, silent, node(3, reach=SENDS)], "--prometheus")
         self.assertEqual(status, 0)
         metrics = [line for line in lines if not line.startswith("#")]
         for line in metrics:
-            self.assertRegex(line, r'^locks_[a-z_]+\{cluster="5"(,(node|port)="\w+")?\} \d+$')
+            self.assertRegex(line, r'^locks_[a-z_]+\{cluster="5"((,node="\d")?,address="127.0.0.1",port="\w")?\} \d+$')
             self.assertIn(f"# TYPE {line.partition('{')[0]} ", "\n".join(lines))
         self.assertEqual(len(metrics), len(set(line.rpartition(" ")[0] for line in metrics)))
         expected = [
             'locks_served{cluster="5"} 1',
             'locks_members_up{cluster="5"} 2',
-            'locks_up{cluster="5",port="b"} 0',
-            'locks_failed_sends_total{cluster="5",node="3"} 6',
+            'locks_up{cluster="5",address="127.0.0.1",port="b"} 0',
+            'locks_failed_sends_total{cluster="5",node="3",address="127.0.0.1",port="c"} 6',
+            'locks_leader{cluster="5",node="1",address="127.0.0.1",port="a"} 1',
+            'locks_members_heard{cluster="5",node="1",address="127.0.0.1",port="a"} 2',
+            'locks_reads_bundles{cluster="5",node="3",address="127.0.0.1",port="c"} 1',
+            'locks_sends_bundles{cluster="5",node="3",address="127.0.0.1",port="c"} 1',
         ]
         for line in expected:
             self.assertIn(line, metrics)
+        self.assertNotIn('locks_members_heard{cluster="5",node="3"', "\n".join(metrics))
+
+    def test_nodes_at_one_port_of_several_machines_have_labels_of_their_own(self):
+        hosts = os.path.join(self.enterContext(tempfile.TemporaryDirectory()), "hosts")
+        with open(hosts, "w", encoding="ascii") as file:
+            file.write("2 127.0.0.2\n3 127.0.0.3\n")
+        with Peers([node(1, leads=1)]) as peers:
+            [port] = peers.ports
+            targets = [f"{number}:{port}" for number in (1, 2, 3)]
+            command = [PROGRAM, "status", "--cluster", "5", "--port", *targets, "--hosts", hosts, "--prometheus"]
+            process = subprocess.Popen(command, stdout=subprocess.PIPE, stderr=subprocess.PIPE, text=True)
+            _, out, _ = peers.serve(process)
+        ups = [line for line in out.splitlines() if line.startswith("locks_up{")]
+        place = 'locks_up{{cluster="5",node="{}",address="{}",port="{}"}} {}'
+        told = [(1, "127.0.0.1", port, 1), (2, "127.0.0.2", port, 0), (3, "127.0.0.3", port, 0)]
+        self.assertEqual(ups, [place.format(*it) for it in told])
 
     def test_ready_is_waited_for(self):
         rounds = []
@@ -300,6 +304,11 @@ class StatusTest(unittest.TestCase):
         status, lines = self.asks(answers, "--until", "ready", "20")
         self.assertEqual(status, 0, lines)
         self.assertEqual(len(rounds), 3)
+
+    def test_a_node_that_follows_nobody_is_not_ready(self):
+        answers = [node(1, leads=1), node(2), node(3, leader=0)]
+        self.assertEqual(self.asks(answers)[0], 0)
+        self.assertEqual(self.asks(answers, "--until", "ready", "1")[0], 1)
 
     def test_ready_is_waited_for_no_longer_than_said(self):
         began = time.monotonic()

@@ -107,7 +107,7 @@ class NodesStatusTest(unittest.TestCase):
         self.cluster.start(4)
         why = "why: node 4 hears nobody: check its --port, the hosts and the keys\n"
         text = self.comes(0, "majority: 4 of 4 up\n", why)
-        line = r"node 4, port \d+: knows no leader for 28 ticks, executed 0 \(\d+ behind\), promised 0\.0,"
+        line = r"node 4, port \d+: is not a member, executed 0 \(\d+ behind\), promised 0\.0,"
         self.assertRegex(text, line)
 
     def test_a_node_that_has_left_is_named_until_it_is_stopped(self):

@@ -3,10 +3,10 @@
 
 With --check it draws each picture docs/pictures/tour_NAME.svg again from examples/tour_NAME.txt, and says which differ.
 
-Each client and node has a lane, time goes downwards, and each line that the program prints and each datagram or tick of
-a group has a line of the picture to itself, so no text lies upon another. It runs each prefix of the script to find
-what belongs to an event."""
-import pathlib, subprocess, sys
+Each client and node has a lane, time goes downwards, and each line that the program prints and each input of a group
+has a line of the picture to itself, so no text lies upon another. It runs each prefix of the script to find what
+belongs to an event."""
+import pathlib, re, subprocess, sys
 
 import svg
 from scripting import TOP, a_program, parser
@@ -108,8 +108,9 @@ def is_unsynced(program, lines, node):
 
 
 def carried(words):
-    """What an event gives a node at once: the numbers of datagrams, and `t` for a tick."""
-    return {"deliver": words[1:], "group": words[2:]}.get(words[0], [])
+    """What an event gives a node at once: the numbers of datagrams, `t` for a tick, and `nudge` or `nudge withheld`."""
+    together = re.findall("nudge withheld|[^ ]+", " ".join(words[2:]))
+    return {"deliver": words[1:], "group": together}.get(words[0], [])
 
 
 def is_refused(output):
@@ -192,15 +193,15 @@ class Picture:
             self.arrow(x - 60, y, x, y, "line")
 
     def take(self, word, node, y):
-        """What an event gives a node at this line: a datagram, or a tick of a group."""
-        if word == "t":
-            return self.text(self.x[node] + 12, y, "tick", "name")
+        """What an event gives a node at this line: a datagram, or a tick or a nudge of a group."""
+        if not word.isdigit():
+            return self.text(self.x[node] + 12, y, "tick" if word == "t" else word, "name")
         self.arrive(word, y)
 
     def unsynced(self, y, words):
         """Marks a write that is not synced, beside the last thing taken, on the side that no arrow comes from."""
         taken = carried(words)
-        frm, to = self.sent[taken[-1]][:2] if taken and taken[-1] != "t" else ("n" + words[1],) * 2
+        frm, to = self.sent[taken[-1]][:2] if taken and taken[-1].isdigit() else ("n" + words[1],) * 2
         low = y + PITCH * max(0, len(taken) - 1)
         self.mark("unsynced", self.x[to] + (-10 if self.x[frm] > self.x[to] else 10), low)
 

@@ -1,11 +1,11 @@
 #!/usr/bin/env python3
 """Runs scripts again with their events as groups: does a node do the same with inputs that it takes in a group?
 
-The scripts are those of examples/ and the schedules that `locks fuzz --script` draws, without groups and with them. In
-each of them every delivery and every tick becomes a group of one. The script has to print and leave the same, byte for
-byte, also where a call of a device fails or a node stops in it. Then inputs of one node that follow one another become
-one group, unless a trap counts the calls of a device. What is sent, counted, executed and answered has to stay, each in
-its order, and so has what each node holds.
+The scripts are those of examples/ and the schedules that `locks fuzz --script` draws, without groups and with them, and
+with nudges where the number is odd. In each of them every delivery, tick and nudge becomes a group of one. The script
+has to print and leave the same, byte for byte, also where a call of a device fails or a node stops in it. Then inputs
+of one node that follow one another become one group, unless a trap counts the calls of a device. What is sent, counted,
+executed and answered has to stay, each in its order, and so has what each node holds.
 
 The last line is `N passed, M failed`, of scripts, and the status is 1 if one failed. The line in front of it says how
 many groups were tried."""
@@ -43,6 +43,8 @@ def inputs(line, datagrams):
     word, *rest = line.split() or [""]
     if word == "tick" and len(rest) == 1:
         return rest[0], "t", None
+    if word == "nudge" and rest:
+        return rest[0], " ".join([word, *rest[1:]]), None
     if word == "deliver" and len(rest) == 1 and rest[0] in datagrams:
         sender, node = datagrams[rest[0]]
         return node, rest[0], sender
@@ -86,7 +88,8 @@ def scripts(program, count):
             yield path.name, path.read_text().splitlines()
     for number, word in itertools.product(range(1, count + 1), ((), ("--groups",))):
         events = str(EVENTS[number % len(EVENTS)])
-        words = [program, "fuzz", "--start", str(number), "--events", events, "--script", *word]
+        nudges = ["--nudges"] * (number % 2)
+        words = [program, "fuzz", "--start", str(number), "--events", events, "--script", *word, *nudges]
         script = subprocess.run(words, capture_output=True, text=True, timeout=60, check=True).stdout
         yield f"schedule {number}", script.splitlines()
 

@@ -31,6 +31,15 @@ class Unhealed(Exception):
     """Why a cluster did not heal."""
 
 
+def minority(members, sets):
+    """Those of the members, the first ones first, without whom each set still has a majority."""
+    without = set()
+    for node in members:
+        if all(2 * len(it - without - {node}) > len(it) for it in sets):
+            without.add(node)
+    return without
+
+
 class Cluster:
     """A script of world mode that grows, and the nodes of its world."""
 
@@ -74,10 +83,8 @@ class Cluster:
         """As many members stop as leave a majority at each next position. Whether any did."""
         self.start_members()
         _, _, _, sets = max(self.left(), key=lambda it: it[2])
-        members, stopped = sorted(set().union(*sets)), set()
-        for node in members[first % len(members):] + members[:first % len(members)]:
-            if all(2 * len(it - stopped - {node}) > len(it) for it in sets):
-                stopped.add(node)
+        members = sorted(set().union(*sets))
+        stopped = minority(members[first % len(members):] + members[:first % len(members)], sets)
         self.lines += [f"stop {node} 0 0" for node in sorted(stopped)]
         self.up -= stopped
         return bool(stopped)
@@ -104,13 +111,17 @@ class Cluster:
                 return
             yield number
 
+    def time_of(self, node, turn, each):
+        """The line by which the time of a node comes in a round."""
+        return f"{'tick' if turn % each else 'nudge'} {node}"
+
     def rounds(self, client, most=ROUNDS, each=TICKS_A_NUDGE):
         """In which round a new request of a client is answered, if each so many ticks a nudge comes."""
         for turn in range(1, most + 1):
             self.start_members()
             nodes = sorted(self.up)
             asked = f"client {nodes[turn % len(nodes)]} {client} 1 acquire healed"
-            self.lines += [asked, *(f"{'tick' if turn % each else 'nudge'} {node}" for node in nodes)]
+            self.lines += [asked, *(self.time_of(node, turn, each) for node in nodes)]
             self.deliver()
             if re.search(rf"(?m)^answered \d+ {client} 1 ", self.printed):
                 return turn

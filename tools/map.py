@@ -1,38 +1,33 @@
 #!/usr/bin/env python3
 """Prints the map of the crates, for crates/README.md, from the heads of their files.
 
-Of each crate of crates.txt it has what the root of src/ says at its head, the crates that it stands on, the modules of
-lemmas that other crates may use, and each file of definitions with the first sentence of its first comment.
+It begins with a line for each crate, by the rooms of crates.txt. Then, of each crate, it has what the root of src/ says
+at its head, what its code uses and what only its definitions and proofs use, the modules of lemmas that other crates
+may use, and each file of definitions with the first sentence of its first comment.
 
-With --check it compares that with crates/README.md, and docs/pictures/crates.svg with what tools/crates.py draws; then
-the last line is `N passed, M failed`, and the status is 1 if one differs."""
+With --check it compares that with crates/README.md, and docs/pictures/crates.svg with what tools/crates.py draws, and
+looks for each law, function, clause and file that the claims of a crate name, by the rules of tools/claims.py. Then the
+last line is `N passed, M failed`, and the status is 1 if one differs or is not there."""
 import re
 import textwrap
 
-from crates import draw, stands_on
+import claims
+from crates import draw
+from rooms import rooms, stands_on, used_by_code
 from scripting import TOP, Tally, parser
 
 PAGE, DRAWING = "crates/README.md", "docs/pictures/crates.svg"
 HEAD = """# The crates
 
-Made by `tools/map.py > crates/README.md` from the heads of the files; `tools/map.py --check` compares. Read
-[docs/CONTRIBUTING.md](../docs/CONTRIBUTING.md) first. In a crate `src/` is code with its contracts, `specs/` the
+Made by `tools/map.py > crates/README.md` from `crates.txt` and the heads of the files; `tools/map.py --check` compares.
+Read [docs/CONTRIBUTING.md](../docs/CONTRIBUTING.md) first. In a crate `src/` is code with its contracts, `specs/` the
 definitions that contracts cite, with laws that they need (listed here), `proofs/` lemmas and the answers that the
 prover asked for, and `must-fail/` wrong bodies that the prover has to refuse.
+
+## Contents
+
+[The picture](../docs/pictures/crates.svg) has the same rooms, the first at the bottom.
 """
-
-
-def below_each():
-    """For each crate of crates.txt all that it stands on, libraries of the kit too, in the order of the file."""
-    lines = ((TOP / "crates.txt").read_text(encoding="utf-8")).splitlines()
-    named = dict(line.split(":") for line in lines if line.strip() and not line.startswith("#"))
-    return {crate: below.split() for crate, below in named.items()}
-
-
-def direct(crate, below):
-    """Those that a crate stands on and that no other of them stands on."""
-    reached = {it for other in below[crate] for it in below.get(other, ())}
-    return [it for it in below[crate] if it not in reached]
 
 
 def paragraph(path, mark):
@@ -71,23 +66,62 @@ def definitions(crate):
             yield wrapped(f"`{path.stem}`: {head}", "- ", "  ")
 
 
+def root_of(crate):
+    """What the root of a crate says at its head."""
+    [root] = (it for it in (TOP / "crates" / crate / "src").glob("*.rt") if it.name in ("lib.rt", "main.rt"))
+    return paragraph(root, "//!")
+
+
+def title(crate):
+    """The first sentence of the root of a crate, up to a colon or a semicolon."""
+    return re.split(r"[:;] |\.$", first_sentence(root_of(crate)))[0]
+
+
+def contents():
+    """The list of rooms and crates, a line for each where it fits."""
+    for room, (what, crates) in rooms().items():
+        yield "\n" + wrapped(f"**[{room}](#{room})**: {what}") + "\n"
+        yield from (wrapped(f"[{it}](#{it}): {title(it)}", "- ", "  ") for it in crates)
+
+
+def links(names, below):
+    """Links to crates, and the names of libraries of the kit."""
+    return ", ".join(f"[{it}](#{it})" if it in below else f"`{it}`" for it in names)
+
+
+def facts(crate, below):
+    """The sentences about what a crate stands on."""
+    own = [it for it in below[crate] if it in below]
+    code, kit = used_by_code(crate), [it for it in below[crate] if it not in below]
+    by_code, by_proofs = ([it for it in own if (it in code) == is_code] for is_code in (True, False))
+    yield f"Its code uses {links(by_code, below)}." if by_code else ""
+    yield f"Only its definitions and proofs use {links(by_proofs, below)}." if by_proofs else ""
+    yield f"From the kit: {links(kit, below)}." if kit else ""
+    lemmas = links([f"{it}" for it in modules(crate)], ())
+    yield f"Lemmas for other crates: {lemmas}." if lemmas else ""
+    yield f"[What is proved]({crate}/README.md)." if (TOP / "crates" / crate / "README.md").exists() else ""
+
+
 def section(crate, below):
     """The section of a crate."""
-    [root] = (it for it in (TOP / "crates" / crate / "src").glob("*.rt") if it.name in ("lib.rt", "main.rt"))
-    on, lemmas = direct(crate, below), modules(crate)
-    yield f"\n## {crate}\n\n" + wrapped(paragraph(root, "//!"))
-    links = ", ".join(f"[{it}](#{it})" if it in below else f"`{it}`" for it in on)
-    names = ", ".join(f"`{it}`" for it in lemmas)
-    facts = [f"Stands on {links}."] * bool(on) + [f"Lemmas for other crates: {names}."] * bool(lemmas)
-    yield "\n" + wrapped(" ".join(facts)) if facts else ""
+    yield f"\n### {crate}\n\n" + wrapped(root_of(crate))
+    said = " ".join(filter(None, facts(crate, below)))
+    yield "\n" + wrapped(said) if said else ""
     items = "".join(definitions(crate))
     yield f"\n{items}" if items else ""
 
 
+def room_sections(room, what, crates, below):
+    """The sections of a room and of its crates."""
+    yield f"\n## {room}\n\n" + wrapped(f"{what[:1].upper()}{what[1:]}.")
+    for crate in crates:
+        yield from section(crate, below)
+
+
 def page():
     """The page."""
-    below = below_each()
-    return HEAD + "".join(part for crate in below for part in section(crate, below))
+    parts = (room_sections(room, what, crates, stands_on()) for room, (what, crates) in rooms().items())
+    return HEAD + "".join(contents()) + "".join(it for part in parts for it in part)
 
 
 def main():
@@ -97,10 +131,13 @@ def main():
         print(page(), end="")
         return
     tally = Tally()
-    drawing = "\n".join(draw(stands_on())) + "\n"
+    drawing = "\n".join(draw()) + "\n"
     for name, text, tool in ((PAGE, page(), "tools/map.py"), (DRAWING, drawing, "tools/crates.py")):
         is_same = (TOP / name).read_text(encoding="utf-8") == text
         tally.row(name, None if is_same else f"it differs: run {tool} > {name}")
+    for path in claims.pages():
+        lost = [*claims.lost(path)]
+        tally.row(path.relative_to(TOP), f"the crate has no {', '.join(lost)}" if lost else None)
     tally.end()
 
 

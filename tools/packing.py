@@ -10,7 +10,8 @@ import tarfile
 
 from scripting import TOP, parser
 
-PAGES = ("docs/OPERATING.md", "docs/SECURITY.md", "docs/WIRE.md", "docs/FORMATS.md", "docs/PROVED.md")
+DOCS = ("OPERATING", "FAULTS", "SECURITY", "FAQ", "WIRE", "FORMATS", "PROVED")
+PAGES = tuple(f"docs/{it}.md" for it in DOCS)
 OF_PYTHON = ("python/locks_client/**/*", "python/backend/*.py", "python/pyproject.toml", "python/README.md")
 OF_RUST = ("rust/Cargo.*", "rust/build.rs", "rust/src/**/*", "rust/README.md")
 OF_GO = ("go/go.mod", "go/README.md", "go/**/*.go")
@@ -94,7 +95,7 @@ def manual(program):
 def contents(program):
     """The files of the package: their bytes by their names."""
     files = {"locks": program.read_bytes(), "locks.1": manual(program).encode()}
-    files["README.md"] = (TOP / "docs/PACKAGE.md").read_bytes()
+    files["README.md"] = (TOP / "tools/PACKAGE.md").read_bytes()
     clients = [it for name in OF_PYTHON + OF_RUST + OF_GO for it in (TOP / "clients").glob(name)]
     for it in [TOP / it for it in (*PAGES, UNIT)] + clients:
         if it.is_file() and it.suffix != ".pyc" and not it.name.endswith("_test.go"):

@@ -39,12 +39,14 @@ pub fn second(number: u8) -> u8
 
 
 class Small:
-    """A repository of two crates, the second above the first. No earlier run knows their names or their texts."""
+    """A repository of two crates, the second above the first. No earlier run knows their names or their texts. Beside
+    it stands what is kept, if the kit has no store of its own: `rt ci` takes each source in a repository for its."""
 
     def __init__(self, folder):
-        self.top, self.mark = pathlib.Path(folder), uuid.uuid4().hex
+        self.top, self.kept = pathlib.Path(folder, "repository"), pathlib.Path(folder, "kept")
+        self.mark = uuid.uuid4().hex
         self.low, self.high = f"low_{self.mark[:8]}", f"high_{self.mark[:8]}"
-        (self.top / ".git").mkdir()
+        (self.top / ".git").mkdir(parents=True)
         (self.top / "HANDLES").write_text("Handles allowed: none.\n")
         (self.top / "crates.txt").write_text(LIST.format(low=self.low, high=self.high))
         self.write_low(1)
@@ -68,7 +70,7 @@ class Small:
         return ran.returncode, dict(said), ran.stdout
 
     def prove(self):
-        return self.run(sys.executable, TOP / "tools/proving.py", self.top / "kept")
+        return self.run(sys.executable, TOP / "tools/proving.py", self.kept)
 
     def gate(self):
         return self.run("rt", "ci")

@@ -84,7 +84,7 @@ class Tally:
     def row(self, name, wrong=None):
         """Counts a row, which failed where something was wrong with it."""
         self.passed, self.failed = self.passed + (not wrong), self.failed + bool(wrong)
-        print(f"{name}: {wrong}" if wrong else f"{name}: as it should", flush=True)
+        print(f"{name}: NOT as it should: {wrong}" if wrong else f"{name}: as it should", flush=True)
 
     def check(self, function, *arguments):
         """Counts a row, which the function's docstring says. The function returns what is wrong, or raises Untried."""

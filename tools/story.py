@@ -59,7 +59,7 @@ class Story:
         node = self.touched(words)
         if node:
             self.live(node, words[0], output)
-        for number in (int(word) for word in carried(words) if word != "t"):
+        for number in (int(word) for word in carried(words) if word.isdigit()):
             self.deliver(event, self.sent[number], new)
         self.name_ballots(event, new, self.is_begun(words, new, calls))
         self.name_proposals(event, new)

@@ -64,11 +64,13 @@ def receivers(output):
 
 
 def given(line, bound):
-    """How a group begins that takes what the line gives a node, and its word there, if it is a tick or a datagram that
-    was sent."""
+    """How a group begins that takes what the line gives a node, and its words there, if it is a tick, a nudge or a
+    datagram that was sent."""
     verb, *words = line.split()
     if verb == "tick":
         return f"group {words[0]}", "t"
+    if verb == "nudge":
+        return f"group {words[0]}", " ".join([verb, *words[1:]])
     return (f"group {bound[words[0]]}", words[0]) if verb == "deliver" and words[0] in bound else ("", "")
 
 

@@ -303,10 +303,17 @@ class Stage {
   }
 }
 
+// The line of an event that gives node `to` alone what this word of a group gives it.
+function lineOf(word, to) {
+  if (word.startsWith("nudge")) return word.replace("nudge", `nudge ${to}`);
+  return word === "t" ? `tick ${to}` : `deliver ${word}`;
+}
+
 function drawEvent(stage, line) {
   const [verb, to, ...words] = line.split(" ");
   if (verb === "deliver" && data.sent[to]) return stage.datagram(data.sent[to], "arrow");
-  if (verb === "group") return words.forEach((it) => drawEvent(stage, it === "t" ? `tick ${to}` : `deliver ${it}`));
+  const together = verb === "group" ? words.join(" ").match(/nudge withheld|[^ ]+/g) : [];
+  if (together.length) return together.forEach((it) => drawEvent(stage, lineOf(it, to)));
   const isOfNode = !["client", "genesis", "deliver"].includes(verb) && stage.x[`n${to}`] != null;
   if (isOfNode) stage.event(stage.x[`n${to}`], [verb, ...words].join(" ").slice(0, 24));
 }

@@ -1,0 +1,152 @@
+"""What nodes do that do not hear each other: a leader that hears nobody is replaced, and status says so meanwhile; a
+node that hears no majority tells that members have changed; a node with another key is never ready."""
+import contextlib
+import os
+import re
+import subprocess
+import tempfile
+import time
+import unittest
+
+from harness.cluster import free_ports
+from harness.relay import Relay
+
+PROGRAM = os.environ.get("LOCKS_PROGRAM")
+MEMBERS = (1, 2, 3)
+NODES = (*MEMBERS, 4)
+SECONDS = 60.0  # for what comes on a busy machine
+
+
+def address_of(node):
+    """The address of a node: a machine is an address of 127/8."""
+    return f"127.0.0.{node}"
+
+
+@unittest.skipUnless(PROGRAM, "LOCKS_PROGRAM does not tell the program")
+class HearingTest(unittest.TestCase):
+    def setUp(self):
+        self.folder = self.enterContext(tempfile.TemporaryDirectory())
+        [self.port] = free_ports(1)
+        self.relay = Relay(NODES, self.port, address_of)
+        self.addCleanup(self.relay.end)
+        self.processes, self.number = {}, 0
+        self.write("hosts", "".join(f"{node} {address_of(node)}\n" for node in NODES))
+        for node in NODES:
+            seen = (f"{it} {address_of(it) if it == node else self.relay.address(node, it)}\n" for it in NODES)
+            self.write(f"hosts{node}", "".join(seen))
+        self.write("key", "11" * 32 + "\n")
+        self.write("other", "22" * 32 + "\n")
+
+    def write(self, name, text):
+        with open(os.open(self.at(name), os.O_CREAT | os.O_WRONLY | os.O_TRUNC, 0o600), "w") as it:
+            it.write(text)
+
+    def at(self, name):
+        return os.path.join(self.folder, name)
+
+    def start(self, node, key="key", alpha=8, members=MEMBERS):
+        genesis = f"5,{alpha}," + ",".join(f"{it}:{self.port}" for it in members)
+        os.makedirs(self.at(f"d{node}"), exist_ok=True)
+        words = ["--genesis", genesis, "--number", str(node), "--port", str(self.port), "--dir", self.at(f"d{node}")]
+        words += ["--hosts", self.at(f"hosts{node}"), "--key", self.at(key), "--events"]
+        with open(self.at(f"log{node}"), "ab") as log:
+            process = subprocess.Popen([PROGRAM, "node", *words], stdin=subprocess.DEVNULL, stderr=log)
+        self.processes[node] = process
+        self.addCleanup(self.end, process)
+
+    @staticmethod
+    def end(process):
+        with contextlib.suppress(ProcessLookupError):
+            process.kill()
+        process.wait()
+
+    def log(self, node):
+        with open(self.at(f"log{node}")) as it:
+            return it.read()
+
+    def locks(self, *words):
+        """The status of the program, and what it prints."""
+        run = subprocess.run([PROGRAM, *words], stdin=subprocess.DEVNULL, capture_output=True, text=True, timeout=120)
+        return run.returncode, run.stdout
+
+    def status(self, *words, nodes=MEMBERS):
+        ports = [f"{node}:{self.port}" for node in nodes]
+        return self.locks("status", "--cluster", "5", "--port", *ports, "--hosts", self.at("hosts"), *words)
+
+    def ask(self, node, request, *words):
+        """What a node answers client 1."""
+        place = ["--cluster", "5", "--port", str(self.port), "--address", address_of(node), "--hosts", self.at("hosts")]
+        return self.locks("ask", *place, "--client", "1", "--request", str(request), *words)[1].strip()
+
+    def comes(self, is_so):
+        """Waits until it is so, and returns that."""
+        end = time.monotonic() + SECONDS
+        while True:
+            found = is_so()
+            if found:
+                return found
+            self.assertLess(time.monotonic(), end, "".join(map(self.log, self.processes)))
+            time.sleep(0.05)
+
+    def leader(self, text):
+        """The node that leads in the greatest ballot, by what status prints."""
+        leads = [int(it) for it in re.findall(r"(?m)^node (\d+), port \d+: leads", text)]
+        return leads[0] if len(leads) == 1 else None
+
+    def ready(self, nodes=MEMBERS):
+        status, text = self.status("--until", "ready", "60", nodes=nodes)
+        self.assertEqual(status, 0, text)
+        return self.comes(lambda: self.leader(self.status(nodes=nodes)[1]))
+
+    def test_a_leader_that_hears_nobody_is_replaced(self):
+        for node in MEMBERS:
+            self.start(node)
+        first = self.ready()
+        others = [node for node in MEMBERS if node != first]
+        began = time.monotonic()
+        self.relay.cut = {(node, first) for node in others}
+        self.comes(lambda: "hears 1 of 3 members, no majority" in self.log(first))
+        self.comes(lambda: re.search(rf"(?m)^node {first}, .*, hears 1 of 3 members, no majority", self.status()[1]))
+        self.assertTrue(self.comes(lambda: self.status()[0] == 1))
+        self.comes(lambda: any("leads in ballot" in self.log(node) for node in others))
+        took = time.monotonic() - began
+        self.comes(lambda: self.status()[0] == 0)
+        self.relay.cut = set()
+        self.comes(lambda: "hears 3 of 3 members, a majority" in self.log(first).split("no majority")[-1] or
+                   "hears 2 of 3 members, a majority" in self.log(first).split("no majority")[-1])
+        self.ready()
+        self.assertLess(took, 15.0)  # 3 s where the machine is not busy
+
+    def test_a_node_that_hears_no_majority_tells_that_members_have_changed(self):
+        """Nodes 3 and 4 join while they are off, and the leader of 1 and 2 dies: the other one alone knows the members.
+        It hears itself and node 3, two of four. With node 4, which hears it, these are a majority."""
+        two = NODES[:2]
+        for node in two:
+            self.start(node, alpha=1, members=two)
+        leader = self.ready(two)
+        survivor = sum(two) - leader
+        for node in NODES[2:]:
+            self.comes(lambda: self.ask(leader, node, "--force", "join", str(node), str(self.port)) == "joined")
+        self.comes(lambda: "node 4 joined" in self.log(survivor))
+        self.end(self.processes[leader])
+        self.relay.cut = {(4, survivor)}
+        for node in NODES[2:]:
+            self.start(node, alpha=1, members=two)
+        self.comes(lambda: self.ask(3, 5, "acquire", "db") == "granted 1")
+
+    def test_a_node_with_another_key_is_never_ready(self):
+        self.start(1)
+        self.start(2)
+        self.start(3, key="other")
+        self.comes(lambda: self.status()[0] == 0)
+        why = r"why: node 3 hears no majority, and could not read \d+ of what came: compare its key with the others'\n"
+        self.comes(lambda: re.search(why, self.status()[1]))
+        status, text = self.status("--until", "ready", "3")
+        self.assertEqual(status, 1, text)
+        self.end(self.processes[2])
+        self.comes(lambda: self.status()[0] == 1)
+        self.comes(lambda: "hears 1 of 3 members, no majority" in self.log(1))
+
+
+if __name__ == "__main__":
+    unittest.main()
