@@ -3,16 +3,21 @@
 
     tools/each_refused.py CRATE [EDIT ..]
     tools/each_refused.py --named [--list] [CRATE ..]
+    tools/each_refused.py --applies
 
-Each file of crates/CRATE/must-fail (or those named, without .edit) is applied to a copy of the crate, which is then
-checked. A line `refused: module::function` of the file names a function that the check has to refuse; the script says
-which of them it did not. `rt ci` asks only that the crate is refused, and passes over these lines.
+Each file of crates/CRATE/must-fail and crates/CRATE/plants (or those named, without .edit; a name may be that of two)
+is applied to a copy of the crate, which is then checked. A line `refused: module::function` of the file names a
+function that the check has to refuse; the script says which of them it did not. `rt ci` tries the files of must-fail
+alone, asks only that the crate is refused, and passes over these lines.
 
 A line `named: TEXT` after a line `refused:` names the wrong body that this function shows, one that must be refused by
 itself. With --named the script takes each such function of the crates (of all where none is given), applies only the
 pairs that change it, and checks that the prover refuses it. A file with one line `refused:` is one wrong body as a
 whole, also where it changes what its function calls, and is left to the gate, which tries nothing else in it. The last
 line is `N passed, M failed`; --list prints the named bodies and tries none.
+
+With --applies it only looks whether the text that each pair of each file replaces still stands once in its source, and
+tries nothing: seconds for all crates. The last line is `N passed, M failed`.
 
 Run it at the top of the repository once the crates are proved (`rt check`), so that kept work serves. The status is 1
 where something was not refused.
@@ -26,7 +31,7 @@ import sys
 import tempfile
 from typing import NamedTuple
 
-from scripting import TOP, need, parser
+from scripting import TOP, Tally, need, parser
 
 
 class Change(NamedTuple):
@@ -149,8 +154,9 @@ def refused(name, crate):
 
 def edits(name):
     """The titles of a crate's edit files, and what stands in each."""
-    for path in sorted(glob.glob(f"crates/{name}/must-fail/*.edit")):
-        yield os.path.basename(path)[:-5], parts(path)
+    for folder in ("must-fail", "plants"):
+        for path in sorted(glob.glob(f"crates/{name}/{folder}/*.edit")):
+            yield os.path.basename(path)[:-5], parts(path)
 
 
 def changed_function(crate, change):
@@ -240,16 +246,38 @@ def try_files(name, picked):
     return int(bad)
 
 
+def misfits(crate, changes):
+    """Which of the changes of a file, made one after another, would replace no text or several."""
+    texts = {}
+    for file, old, new in changes:
+        text = texts.get(file) or (TOP / crate / file).read_text(encoding="utf-8")
+        if text.count(old) != 1:
+            yield f"{file}: this stands there {text.count(old)} times: {old}"
+        texts[file] = text.replace(old, new)
+
+
+def try_texts():
+    """Looks whether each file applies. The status."""
+    tally = Tally()
+    for crate in sorted(glob.glob("crates/*")):
+        for title, edit in edits(os.path.basename(crate)):
+            tally.row(f"{crate}, {title}", "; ".join(misfits(crate, edit.changes)))
+    tally.end()
+
+
 def main():
     arguments = parser(__doc__)
     arguments.add_argument("--named", action="store_true", help="tries the wrong bodies that have a name, one by one")
     arguments.add_argument("--list", action="store_true", help="with --named: prints them and tries none")
+    arguments.add_argument("--applies", action="store_true", help="looks whether each file applies, and tries none")
     arguments.add_argument(
         "names", nargs="*", metavar="NAME", help="with --named crates, else a crate and its edit files"
     )
     given = arguments.parse_args()
-    need("rt")
     os.chdir(TOP)
+    if given.applies:
+        return try_texts()
+    need("rt")
     if given.named:
         crates = given.names or [os.path.basename(path) for path in sorted(glob.glob("crates/*"))]
         return (list_named if given.list else try_named)(crates)

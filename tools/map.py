@@ -22,7 +22,8 @@ HEAD = """# The crates
 Made by `tools/map.py > crates/README.md` from `crates.txt` and the heads of the files; `tools/map.py --check` compares.
 Read [docs/CONTRIBUTING.md](../docs/CONTRIBUTING.md) first. In a crate `src/` is code with its contracts, `specs/` the
 definitions that contracts cite, with laws that they need (listed here), `proofs/` lemmas and the answers that the
-prover asked for, and `must-fail/` wrong bodies that the prover has to refuse.
+prover asked for. `must-fail/` and `plants/` have wrong bodies that the prover has to refuse; the gate tries those of
+`must-fail/`.
 
 ## Contents
 
