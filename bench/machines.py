@@ -32,6 +32,7 @@ from locks_client.seals import client_key
 CLUSTER, PORT, ALPHA = 5, 7101, 2
 NODES = (1, 2, 3)
 KEY, MASTER = bytes([0x11]) * 32, bytes([0x22]) * 32
+MAC, NOBODY = "02:00:00:00:00:", "02:00:00:00:01:"  # where hardware addresses begin: of machines, and of none
 ASKER, HOLDERS = 7, (1, 2, 3, 4)  # the client that asks one thing, and those that hold locks all the time
 
 
@@ -111,9 +112,12 @@ class Namespaces:
         own, hub = self.name(at), self.name("hub")
         run("ip", "-n", hub, "link", "add", f"to{at}", "type", "veth", "peer", "name", "wire", "netns", own)
         run("ip", "-n", hub, "link", "set", f"to{at}", "master", "bridge", "up")
+        run("ip", "-n", own, "link", "set", "wire", "address", f"{MAC}{at:02}")
         run("ip", "-n", own, "address", "add", f"{self.address(at)}/24", "dev", "wire")
         for device in ("lo", "wire"):
             run("ip", "-n", own, "link", "set", device, "up")
+        for other in (*self.nodes, 9):
+            self.carry(at, other, MAC)
 
     def address(self, at):
         return f"10.77.0.{at}"
@@ -125,14 +129,19 @@ class Namespaces:
         """The address at which a node reaches another one."""
         return self.address(other)
 
+    def carry(self, sender, receiver, mac):
+        """What that machine sends to that other one goes to this hardware address from now on."""
+        neighbour = [self.address(receiver), "lladdr", f"{mac}{receiver:02}", "dev", "wire", "nud", "permanent"]
+        run("ip", "-n", self.name(sender), "neighbour", "replace", *neighbour)
+
     def block(self, *pairs):
-        """Nothing goes from the first to the second of each pair."""
-        for sender, receiver in pairs:
-            run("ip", "-n", self.name(sender), "route", "replace", "blackhole", f"{self.address(receiver)}/32")
+        """Nothing goes from the first to the second of each pair, and the first is not told so."""
+        for pair in pairs:
+            self.carry(*pair, NOBODY)
 
     def unblock(self, *pairs):
-        for sender, receiver in pairs:
-            run("ip", "-n", self.name(sender), "route", "del", "blackhole", f"{self.address(receiver)}/32")
+        for pair in pairs:
+            self.carry(*pair, MAC)
 
     def recorded(self, receiver):
         """Frames that nodes have sent to that one, where they were recorded."""
