@@ -94,11 +94,15 @@ class Namespaces:
         self.nodes = nodes
         self.tag = f"lk{os.getpid() % 10000}"
         self.made = []
+        self.join()
+        for at in (*nodes, 9):
+            self.machine(at)
+
+    def join(self):
+        """Makes what carries frames between the machines."""
         self.space("hub")
         run("ip", "-n", self.name("hub"), "link", "add", "bridge", "type", "bridge")
         run("ip", "-n", self.name("hub"), "link", "set", "bridge", "up")
-        for at in (*nodes, 9):
-            self.machine(at)
 
     def name(self, of):
         return f"{self.tag}-{of}"
@@ -107,11 +111,16 @@ class Namespaces:
         run("ip", "netns", "add", self.name(of))
         self.made.append(self.name(of))
 
-    def machine(self, at):
-        self.space(at)
+    def link(self, at):
+        """Gives a machine its device, the other end of which is in the bridge."""
         own, hub = self.name(at), self.name("hub")
         run("ip", "-n", hub, "link", "add", f"to{at}", "type", "veth", "peer", "name", "wire", "netns", own)
         run("ip", "-n", hub, "link", "set", f"to{at}", "master", "bridge", "up")
+
+    def machine(self, at):
+        self.space(at)
+        self.link(at)
+        own = self.name(at)
         run("ip", "-n", own, "link", "set", "wire", "address", f"{MAC}{at:02}")
         run("ip", "-n", own, "address", "add", f"{self.address(at)}/24", "dev", "wire")
         for device in ("lo", "wire"):
