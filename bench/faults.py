@@ -379,7 +379,7 @@ def lossy(make):
 
 @story
 def fragments(make):
-    """Parts of datagrams are dropped, at an MTU of 1500 and of 576, under twenty clients more, and a leader is killed."""
+    """Parts of datagrams are dropped, at an MTU of 1500 and of 576, with twenty clients more. A leader is killed."""
     for mtu in (1500, 576):
         with make(switch={"mtu": mtu}, alpha=16) as scene:
             scene.begin()

@@ -100,7 +100,8 @@ class Operated(Cluster):
     def status(self, *more, nodes=None):
         ports = [f"{node}:{PORT}" for node in nodes or self.members]
         words = ["--cluster", str(CLUSTER), "--port", *ports, "--hosts", f"{self.folder}/hosts"]
-        return self.locks("status", *words, "--client", str(ADMIN), "--client-key", f"{self.folder}/client{ADMIN}", *more)
+        words += ["--client", str(ADMIN), "--client-key", f"{self.folder}/client{ADMIN}"]
+        return self.locks("status", *words, *more)
 
     def reports(self, nodes=None):
         """What each node reports of itself."""
@@ -157,7 +158,8 @@ class Scene:
         if self.work:
             self.work.end()
             wrong = faults(self.work.holds)
-            self.score.check(f"{len(self.work.holds)} holds, none of a fence or a time given twice", not wrong, wrong[:3] or "")
+            name = f"{len(self.work.holds)} holds, none of a fence or a time given twice"
+            self.score.check(name, not wrong, wrong[:3] or "")
         self.cluster.end()
         self.world.end()
 

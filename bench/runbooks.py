@@ -71,7 +71,8 @@ def rolling_restart_with_wrong_keys(make):
             scene.note(lines(text))
         status, text = scene.cluster.status()
         scene.check("with both, status tells that nothing is decided", status == 1)
-        scene.check("and the leader says whom it hears", scene.cluster.tells(leader, "hears 1 of 3 members, no majority"))
+        says = scene.cluster.tells(leader, "hears 1 of 3 members, no majority")
+        scene.check("and the leader says whom it hears", says)
         scene.note(f"an answer: {scene.cluster.does('acquire', 'db')}")
 
 

@@ -1,5 +1,6 @@
 """What nodes do that do not hear each other: a leader that hears nobody is replaced, and status says so meanwhile; a
-node that hears no majority tells that members have changed; a node with another key is never ready."""
+node that hears no majority tells that members have changed; a node with another key is never ready; a node joins whose
+address only its own hosts name."""
 import contextlib
 import os
 import re
@@ -133,6 +134,25 @@ class HearingTest(unittest.TestCase):
         for node in NODES[2:]:
             self.start(node, alpha=1, members=two)
         self.comes(lambda: self.ask(3, 5, "acquire", "db") == "granted 1")
+
+    def test_a_node_that_no_other_hosts_name_joins(self):
+        """Machines at their own addresses. With node 4 and without one of the others a majority is up."""
+        named = "".join(f"{node} {address_of(node)}\n" for node in MEMBERS)
+        for node in MEMBERS:
+            self.write(f"hosts{node}", named)
+            self.start(node)
+        self.write("hosts4", f"{named}4 {address_of(4)}\n")
+        leader = self.ready()
+        self.comes(lambda: self.ask(leader, 1, "join", "4", str(self.port)) == "joined")
+        self.start(4)
+        self.ready(NODES)
+        follower = next(node for node in MEMBERS if node != leader)
+        self.end(self.processes[follower])
+        self.comes(lambda: self.ask(leader, 2, "acquire", "db") == "granted 1")
+        self.start(follower)
+        self.ready(NODES)
+        self.end(self.processes[leader])
+        self.comes(lambda: self.ask(follower, 3, "ask", "db") == "held 1 1")
 
     def test_a_node_with_another_key_is_never_ready(self):
         self.start(1)
