@@ -6,33 +6,24 @@ Usage: bench/faults.py PROGRAM [STORY ..] [--keep]
 Each story starts nodes with keys on machines that are network namespaces, so it needs root and Linux. A way between two
 of them can be cut, which no sender is told. Meanwhile clients hold locks, and one asks all nodes ten times a second.
 A story prints what was seen, and checks how long nobody was answered, what `locks status` and the events say, and that
-no fence or time was given twice. Without a STORY all are told; --list prints their names. The last line is `N passed,
-M failed`; the status is 0 where none failed. A busy machine makes times longer: its load is printed first.
+no fence or time was given twice. Without a STORY all are told; --help has their names. The last line is `N passed, M
+failed`; the status is 0 where none failed. A busy machine makes times longer: its load is printed first.
 """
-import argparse
 import contextlib
 import itertools
 import os
 import re
-import shutil
 import signal
-import subprocess
 import sys
-import tempfile
 import time
 
-from machines import Score, Work
-from operating import LOST, SOON, Scene, run, until
+from machines import Work
+from operating import LOST, SOON, Stories, run, until
 
 MEMBERS = (1, 2, 3)
 CROWD = range(21, 41)  # clients
-STORIES = {}
-
-
-def story(tell):
-    """Makes a function a story by its name."""
-    STORIES[tell.__name__] = tell
-    return tell
+STORIES = Stories()
+story = STORIES.add
 
 
 def others_of(leader, nodes=MEMBERS):
@@ -404,41 +395,5 @@ def fragments(make):
             crowd.end()
 
 
-def main():
-    parser = argparse.ArgumentParser(description=__doc__, formatter_class=argparse.RawDescriptionHelpFormatter)
-    parser.add_argument("program", help="the built program")
-    parser.add_argument("stories", nargs="*", metavar="STORY", help="what to tell, all if not given")
-    parser.add_argument("--list", action="store_true", help="print the names of the stories")
-    parser.add_argument("--keep", action="store_true", help="keep the folders with the logs")
-    options = parser.parse_args()
-    return tell_all(options, STORIES)
-
-
-def tell_all(options, stories):
-    """Tells these stories, or those that the options name. Whether one failed."""
-    if options.list:
-        print(*stories, sep="\n")
-        return 0
-    score = Score()
-    for name in options.stories or stories:
-        print(f"{name}: {stories[name].__doc__.strip()} (load {os.getloadavg()[0]:.1f})", flush=True)
-        folder = tempfile.mkdtemp(prefix=f"{name}-")
-        made = itertools.count()
-
-        def make(**how):
-            place = f"{folder}/{next(made)}"
-            os.makedirs(place)
-            return Scene(os.path.abspath(options.program), place, score, **how)
-
-        try:
-            stories[name](make)
-        except Exception as error:  # one story is not to end the others
-            score.check(f"{name} is told", False, repr(error))
-        if not options.keep:
-            shutil.rmtree(folder, ignore_errors=True)
-    print(f"{score.passed} passed, {score.failed} failed")
-    return score.failed > 0
-
-
 if __name__ == "__main__":
-    sys.exit(main())
+    sys.exit(STORIES.main(__doc__))

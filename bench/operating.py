@@ -1,15 +1,19 @@
 """What the stories of an operator share: nodes on machines of their own whose options may differ, what `locks status`
 says of them, clients that hold locks meanwhile, and how long nobody is answered."""
+import argparse
+import itertools
 import json
 import os
 import re
+import shutil
 import signal
 import subprocess
+import tempfile
 import time
 
 from cuts import Probing, silence
 from harness.switch import Switch, open_tap
-from machines import ASKER, CLUSTER, HOLDERS, KEY, MAC, MASTER, PORT, Cluster, Namespaces, Work, faults, run, until
+from machines import CLUSTER, PORT, Cluster, Namespaces, Score, Work, faults, run, until
 
 ADMIN = 8  # the client of an operator
 LOST = 3.0  # seconds that a cluster may take to answer again
@@ -203,5 +207,46 @@ class Scene:
         self.check(name, took <= limit, f"{took:.1f} s without an answer at most")
 
 
-__all__ = ["ADMIN", "ASKER", "CLUSTER", "HOLDERS", "KEY", "LOST", "MAC", "MASTER", "PORT", "SOON", "Operated", "Scene",
-           "Switched", "run", "until"]
+class Stories(dict):
+    """Stories by their names. Each gets a function that makes its clusters."""
+
+    def add(self, tell):
+        """Makes a function a story."""
+        self[tell.__name__] = tell
+        return tell
+
+    def tell(self, name, options, score):
+        """Tells one of them, in a folder of its own."""
+        print(f"{name}: {self[name].__doc__.strip()} (load {os.getloadavg()[0]:.1f})", flush=True)
+        folder, made = tempfile.mkdtemp(prefix=f"{name}-"), itertools.count()
+
+        def make(**how):
+            place = f"{folder}/{next(made)}"
+            os.makedirs(place)
+            return Scene(os.path.abspath(options.program), place, score, **how)
+
+        try:
+            self[name](make)
+        except Exception as error:  # one story is not to end the others
+            score.check(f"{name} is told", False, repr(error))
+        if not options.keep:
+            shutil.rmtree(folder, ignore_errors=True)
+
+    def main(self, about):
+        """Tells those that the command line names, or all. The status of the script."""
+        words = argparse.ArgumentParser(description=about, formatter_class=argparse.RawDescriptionHelpFormatter)
+        words.add_argument("program", help="the built program")
+        words.add_argument("stories", nargs="*", metavar="STORY", help=f"what to tell, or all: {', '.join(self)}")
+        words.add_argument("--keep", action="store_true", help="keep the folders with the logs")
+        options, score = words.parse_args(), Score()
+        for name in options.stories or self:
+            self.tell(name, options, score)
+        print(f"{score.passed} passed, {score.failed} failed")
+        return score.failed > 0
+
+
+__all__ = ["ADMIN", "CLUSTER", "LOST", "PORT", "SOON", "Scene", "Stories", "run", "until"]
+
+
+if __name__ == "__main__":
+    print(__doc__)

@@ -1,11 +1,10 @@
 #!/usr/bin/env python3
 """What an operator does, and gets wrong: members, keys, folders and names, each story in a cluster of its own.
 
-Usage: bench/runbooks.py PROGRAM [STORY ..] [--list] [--keep]
+Usage: bench/runbooks.py PROGRAM [STORY ..] [--keep]
 
 The machines, the clients and the last lines are those of bench/faults.py, which see.
 """
-import argparse
 import json
 import os
 import re
@@ -15,10 +14,11 @@ import sys
 import time
 
 from cluster import TOP
-from faults import MEMBERS, others_of, tell_all
-from operating import ADMIN, CLUSTER, PORT, SOON, until
+from faults import MEMBERS, others_of
+from operating import ADMIN, CLUSTER, PORT, SOON, Stories, until
 
-STORIES = {}
+STORIES = Stories()
+story = STORIES.add
 SEVEN = (1, 2, 3, 4, 5, 6, 7)
 NAMES = """
 import json, sys, time
@@ -32,12 +32,6 @@ with Client(plan.pop("cluster"), 9, [tuple(it) for it in plan.pop("endpoints")],
     except NoRoom as error:
         print(f"{type(error).__name__} after {time.monotonic() - begin:.1f} s")
 """
-
-
-def story(tell):
-    """Makes a function a story by its name."""
-    STORIES[tell.__name__] = tell
-    return tell
 
 
 def lines(text):
@@ -392,14 +386,5 @@ def all_names(make):
         scene.note(f"inspect: {re.findall('names .*', inspected)}")
 
 
-def main():
-    parser = argparse.ArgumentParser(description=__doc__, formatter_class=argparse.RawDescriptionHelpFormatter)
-    parser.add_argument("program", help="the built program")
-    parser.add_argument("stories", nargs="*", metavar="STORY", help="what to tell, all if not given")
-    parser.add_argument("--list", action="store_true", help="print the names of the stories")
-    parser.add_argument("--keep", action="store_true", help="keep the folders with the logs")
-    return tell_all(parser.parse_args(), STORIES)
-
-
 if __name__ == "__main__":
-    sys.exit(main())
+    sys.exit(STORIES.main(__doc__))
