@@ -54,6 +54,8 @@ class Calls(Core):
                 return fence
             except Busy as busy:
                 left = min(start + wait, deadline - ANSWER_TIME) - self.clock()
+                if self.is_held(name, busy.fence):
+                    raise self.of(Busy(self.client, busy.fence), op) from None
                 if left <= 0 or busy.holder == self.client:
                     raise
                 pause = polls.after(busy.fence)

@@ -72,6 +72,16 @@ class BeginningTest(TableCase):
         client.ask("db")
         self.assertEqual(self.node.heard, [ASK, 1, ASK, ASK])
 
+    def test_a_run_begins_again_after_passed(self):
+        """The next number is the one that another run used last, for an acquire."""
+        passed = f"{numbered(PASSED, 2)[:-16]}{3:016x}"
+        node, client = self.of_node([FREE], [passed], [numbered(GRANTED, 3)])
+        with self.assertRaises(Passed):
+            client.acquire("db")
+        with self.assertRaises(OtherAnswer):
+            client.acquire("db")
+        self.assertEqual((node.heard[2], client.core.grants), (numbered(plain(ASK_FIRST), 3), {}))
+
 
 @unittest.skipUnless(PROGRAM, "LOCKS_PROGRAM does not tell the program")
 class RestoredTest(ClusterCase):

@@ -19,7 +19,7 @@ class CancellationTest(TableCase, unittest.IsolatedAsyncioTestCase):
         for _ in range(20):
             with self.hearing(ACQUIRE):  # the reply arrives while this task runs
                 holding = asyncio.create_task(self.hold(client))
-                while not (client.stop_reading and self.node.heard[-1:] == [ACQUIRE]):
+                while not (client.stop_reading and self.node.heard[-1:] == [ACQUIRE] or holding.done()):
                     await asyncio.sleep(0)
             loop.call_soon(loop.call_soon, holding.cancel)
             with self.assertRaises(asyncio.CancelledError):
@@ -58,7 +58,7 @@ class CancellationTest(TableCase, unittest.IsolatedAsyncioTestCase):
         for take, body in ((client.acquire, ACQUIRE), (client.share, SHARE)):
             self.node.replies = lambda it: it != body  # it is granted, and the answer is lost
             taking = asyncio.create_task(take("db"))
-            while self.node.done[-1:] != [body]:
+            while self.node.done[-1:] != [body] and not taking.done():
                 await asyncio.sleep(0.001)
             self.node.replies = lambda it: True
             taking.cancel()
@@ -141,7 +141,7 @@ class CancellationTest(TableCase, unittest.IsolatedAsyncioTestCase):
         for _ in range(20):
             holding = asyncio.create_task(self.briefly(client))
             releases = self.node.heard.count(RELEASE)
-            while self.node.heard.count(RELEASE) == releases:
+            while self.node.heard.count(RELEASE) == releases and not holding.done():
                 await asyncio.sleep(0)
             holding.cancel()
             with self.assertRaises(asyncio.CancelledError):

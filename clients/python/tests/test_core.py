@@ -9,6 +9,7 @@ from locks_client import Busy, NoAnswer, StateError
 from locks_client.calls import Calls
 from locks_client.plans import Datagram, Listen, Send, Sleep
 from locks_client.numbers import BLOCK, SPARE, Numbers
+from locks_client.seals import REPLY
 from locks_client.waits import POLLS, Polls, waits
 
 
@@ -61,6 +62,19 @@ class CoreTest(unittest.TestCase):
             self.carry_out(self.core.poll("acquire", "db", 0.0), GRANTED, elsewhere(7003))
         self.assertEqual({it[1] for it in self.done}, {7001, 7002})
 
+    def test_a_reply_from_where_an_earlier_request_was_asked_is_dropped(self):
+        self.carry_out(self.core.poll("acquire", "db", 0.0), GRANTED)
+        self.core.set_ports([7002])
+        self.source = 7001
+        with self.assertRaises(NoAnswer):
+            self.carry_out(self.core.ask("db"), numbered(FREE, 2))
+
+    def test_with_a_key_the_seal_decides_and_not_the_address(self):
+        self.core.set_keys([bytes(32)])
+        self.source = 7009
+        frame = self.core.seals.frame(REPLY, bytes(32), bytes.fromhex(GRANTED))
+        self.assertEqual(self.carry_out(self.core.poll("acquire", "db", 0.0), GRANTED, frame.hex()), 1)
+
     def test_the_same_bytes_go_to_one_port_after_the_other(self):
         with self.assertRaises(NoAnswer):
             self.carry_out(self.core.poll("acquire", "db", 0.0))
@@ -71,6 +85,15 @@ class CoreTest(unittest.TestCase):
     def test_an_elsewhere_is_followed_at_once(self):
         self.carry_out(self.core.poll("acquire", "db", 0.0), elsewhere(7003), GRANTED)
         self.assertEqual([it[:2] for it in self.done], [(0.0, 7001), (0.0, 7003)])
+
+    def test_an_elsewhere_is_followed_where_the_hosts_say_or_to_the_address_of_its_teller(self):
+        for hosts, address in (({2: "10.0.0.2"}, "10.0.0.2"), ({3: "10.0.0.3"}, "10.0.0.1")):
+            self.core.hosts, self.done = hosts, []
+            self.core.set_ports([("10.0.0.1", 7001)])
+            number = self.core.numbers.last + 1
+            heard = numbered(elsewhere(7003), number), numbered(FREE, number)
+            self.carry_out(self.core.ask("db"), *heard)
+            self.assertEqual([it[1] for it in self.done], [("10.0.0.1", 7001), (address, 7003)])
 
     def test_elsewheres_are_counted_anew_after_each_wait(self):
         heard = [*[elsewhere(7003)] * 8, None] * 3

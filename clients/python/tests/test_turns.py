@@ -8,7 +8,7 @@ import time
 import unittest
 
 from table_case import ASK, TableCase
-from locks_client import AsyncClient, NoAnswer, Unanswered
+from locks_client import AsyncClient, LocksError, NoAnswer, Unanswered
 
 
 class Box:
@@ -57,6 +57,30 @@ class TurnsTest(TableCase):
             raise KeyError
         beside.join()
         self.assertEqual(self.holders("db"), [])
+
+    def test_a_release_and_a_withdrawal_by_hand_wait_for_a_call_of_another_thread(self):
+        client = self.client(patience=30.0)
+        fence = client.acquire("db")
+        for call in (lambda: self.assertRaisesRegex(LocksError, "holds db at fence 1", client.withdraw, "db"),
+                     lambda: client.release("db", fence)):
+            self.node.takes = lambda body: body != ASK
+            beside = threading.Thread(target=client.ask, args=("other",))
+            with self.hearing(ASK):
+                beside.start()
+            answering = threading.Timer(0.2, setattr, (self.node, "takes", lambda body: True))
+            answering.start()
+            call()
+            beside.join()
+        self.assertEqual(self.holders("db"), [])
+
+    def test_a_call_lets_those_go_first_that_wait_to_release(self):
+        client = self.client()
+        client.ask("db")
+        client.releasing.add(0)  # a thread that waits, while no call is under way
+        with self.assertRaisesRegex(Unanswered, "another thread is in a call"):
+            client.ask("db")
+        client.releasing.discard(0)
+        client.ask("db")
 
     def test_a_release_waits_no_longer_than_patience(self):
         client = self.client(patience=3.0)
@@ -138,6 +162,22 @@ class AsyncTurnsTest(TableCase, unittest.IsolatedAsyncioTestCase):
             if client.is_open:
                 await client.again()
             self.assertEqual(self.holders("db"), [])
+
+    async def test_a_failing_block_releases_beside_a_call_of_another_task(self):
+        client = self.client(kind=AsyncClient)
+        await client.ask("db")
+        self.node.takes = lambda body: body != ASK
+        with self.assertRaises(KeyError):
+            async with client.lock("db"):
+                client.patience = 1.0
+                with self.hearing(ASK):
+                    asking = asyncio.create_task(client.ask("other"))
+                    await asyncio.sleep(0)
+                client.patience = 30.0
+                raise KeyError
+        with self.assertRaises(NoAnswer):
+            await asking
+        self.assertEqual(self.holders("db"), [])
 
     async def test_a_cancelled_release_lets_the_next_one_go_on(self):
         client = self.client(kind=AsyncClient)

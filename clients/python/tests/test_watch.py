@@ -8,7 +8,7 @@ import unittest
 from unittest import mock
 
 from table_case import CHECK, TableCase, TableNode
-from locks_client import AsyncClient, Busy, NoAnswer, NotHeld, asynchronous, client
+from locks_client import AsyncClient, Busy, LocksError, NoAnswer, NotHeld, asynchronous, client
 from locks_client.seals import client_key
 
 
@@ -56,6 +56,21 @@ class WatchTest(TableCase):
             self.assertEqual(one.ask("db").fence, 1)
         self.assertEqual((told, self.holders("db")), ([], []))
 
+    def test_a_check_that_fails_is_made_again(self):
+        is_told, one = threading.Event(), self.client()
+        is_valid, failing = one.core.is_valid, iter(range(3))
+
+        def check(name, fence):
+            if next(failing, None) is not None:
+                raise LocksError("of this check")
+            return is_valid(name, fence)
+
+        one.core.is_valid = check
+        with self.assertRaises(NotHeld), self.assertLogs("locks_client", "WARNING"):
+            with one.lock("db", on_lost=lambda *it: is_told.set()):
+                self.client(8).break_lock("db", 1)
+                self.assertTrue(is_told.wait(20.0))
+
     def test_a_failing_call_back_is_logged(self):
         def lost(name, fence):
             raise KeyError(name)
@@ -65,6 +80,27 @@ class WatchTest(TableCase):
                 self.client(8).break_lock("db", 1)
                 while not logs.output:
                     time.sleep(0.02)
+
+    def test_the_loss_of_each_of_several_locks_is_told(self):
+        told, one = [], self.client()
+        with self.assertRaises(NotHeld), self.assertLogs("locks_client", "WARNING"):
+            with one.lock_all(["a", "b"], on_lost=lambda *it: told.append(it)):
+                self.lose_both(one)
+                self.wait_for(lambda: len(told) == 2)
+        self.assertEqual(sorted(told), [("a", 1), ("b", 1)])
+
+    def lose_both(self, one):
+        """Breaks two locks of a client."""
+        other = self.client(8)
+        for name in "ab":
+            other.break_lock(name, 1)
+
+    def wait_for(self, is_so):
+        """Waits until that is so."""
+        end = time.monotonic() + 20.0
+        while not is_so():
+            self.assertLess(time.monotonic(), end)
+            time.sleep(0.02)
 
     def test_a_task_watches(self):
         asyncio.run(self.watched())
@@ -87,6 +123,21 @@ class WatchTest(TableCase):
             await asyncio.sleep(0.2)
 
 
+    def test_a_task_watches_several_locks_beside_calls(self):
+        asyncio.run(self.several_watched())
+
+    async def several_watched(self):
+        """The loss of two locks of asyncio; each call beside the watch waits for it."""
+        told, one = [], self.client(kind=AsyncClient)
+        with self.assertRaises(NotHeld), self.assertLogs("locks_client", "WARNING"):
+            async with one.lock_all(["a", "b"], on_lost=lambda *it: told.append(it)):
+                self.lose_both(one)
+                end = time.monotonic() + 20.0
+                while len(told) < 2 and time.monotonic() < end:
+                    await one.ask("other")
+        self.assertEqual(sorted(told), [("a", 1), ("b", 1)])
+
+
 class NamesTest(TableCase):
     def test_all_names_are_held_in_order(self):
         with self.client().lock_all(["b", "a", "c", "a"]) as fences:
@@ -101,6 +152,28 @@ class NamesTest(TableCase):
             with self.assertRaises(Busy), one.lock_all(list("cba"), **how):
                 self.fail("b was not granted")
             self.assertEqual(self.node.table.holders, {"b": (8,)})
+
+    def test_the_wait_is_for_all_names_together(self):
+        for number, kind in enumerate((client.Client, AsyncClient), 7):
+            one, waits = self.client(number, kind), []
+
+            def granting(name, wait, shared, adopt, core=one.core, known=waits):
+                known.append(wait)
+                time.sleep(0.2)
+                return type(core).granting(core, name, wait, shared, adopt)
+
+            one.core.granting = granting
+            if kind is AsyncClient:
+                asyncio.run(self.hold_two(one))
+            else:
+                with one.lock_all(["ab", "c"], wait=9.0):
+                    pass
+            self.assertLessEqual(waits[1], waits[0] - 0.2)
+
+    async def hold_two(self, one):
+        """Holds two locks of asyncio for a moment."""
+        async with one.lock_all(["ab", "c"], wait=9.0):
+            pass
 
     def test_what_is_no_list_of_names_is_refused(self):
         for wrong in ("db", [], [b"db"], ["DB"]):

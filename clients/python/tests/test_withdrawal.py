@@ -169,6 +169,14 @@ class SharesTest(TableCase):
         client.release("db", 1)
         self.assertEqual(client.share("db"), 2)
 
+    def test_what_this_client_shares_is_not_waited_for(self):
+        self.client(5).share("db")  # the lower of both, whom the node names
+        client = self.client()
+        client.share("db")
+        with self.assertRaisesRegex(Busy, r"client 7 holds db itself.*release\('db', 1\) frees it"):
+            client.acquire("db", wait=30.0)
+        self.assertEqual(self.node.heard.count(ACQUIRE), 1)
+
     def test_the_share_of_an_earlier_run_is_told_and_left_alone(self):
         self.client(first=1).share("db")
         client = self.client(first=100)
