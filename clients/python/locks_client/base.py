@@ -45,7 +45,7 @@ class Base:
         self.core = Calls(cluster, client, ports, patience, hosts=known, keys=read_keys(key) if key else ())
         own = own_address(self.core.ports, self.core.hosts.values())
         self.guard = threading.RLock()  # one that an interrupt leaves locked does not lock its own thread out
-        self.releasing: set[int] = set()  # threads that wait to release: other calls let them go first
+        self.releasing: set[int] = set()  # threads that wait to release or to check: other calls let them go first
         self.watches = 0  # locks that are watched now: as long as there is one, calls wait for each other
         self.cleanup = CLEANUP
         self.numbers = self.core.numbers = Numbers(first, state)

@@ -230,7 +230,7 @@ class Client(Base):
             self.releasing.discard(me)
 
     def takes_turn(self, me: int, wait: float) -> bool:
-        """Whether this thread gets its turn within so many seconds. Those that release go first."""
+        """Whether this thread gets its turn within so many seconds. Those that release or check go first."""
         end = time.monotonic() + wait
         while self.releasing and me not in self.releasing:
             if time.monotonic() >= end:

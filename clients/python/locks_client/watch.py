@@ -45,7 +45,7 @@ def keep_watch(client: "Client", name: str, fence: int, watch: Watch, over: thre
     """Carries the steps out until one says that the lock is lost, or until it is over."""
     while not over.wait(watch.every):
         try:
-            if client.run(watch.step(name, fence)) or over.is_set():
+            if client.run(watch.step(name, fence), client.patience) or over.is_set():
                 continue
         except ENDING as error:
             if not over.is_set():

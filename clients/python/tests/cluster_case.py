@@ -61,6 +61,7 @@ class ClusterCase(unittest.TestCase):
         """Waits until the process has a handler for SIGTERM, and then a little, in which it normally asks."""
         with open(f"/proc/{process.pid}/status", encoding="ascii") as status:
             while not self.caught(status) >> (signal.SIGTERM - 1) & 1:
+                self.assertIsNone(process.poll(), "it has ended")
                 time.sleep(0.02)
         time.sleep(0.3)
 

@@ -62,7 +62,7 @@ class ElectionTest(TableCase):
     def elected(self, election, stack):
         """The fence of an election in a thread of its own, since this one holds the other client's guard."""
         found = []
-        thread = threading.Thread(target=lambda: found.append(stack.enter_context(election.lead())))
+        thread = threading.Thread(target=lambda: found.append(stack.enter_context(election.lead())), daemon=True)
         thread.start()
         thread.join(30.0)
         return found[0]

@@ -166,7 +166,7 @@ class ProgramTest(ClusterCase):
         heard = node.done.count(ACQUIRE)
         process = self.run_program(1, "hold", "db", "--", "true", ports=[node.port])
         for sent in range(1, signals + 1):
-            while node.done.count(ACQUIRE) < heard + sent:
+            while node.done.count(ACQUIRE) < heard + sent and process.poll() is None:
                 time.sleep(0.02)
             process.send_signal(signal.SIGTERM)
         node.replies = lambda body: True
@@ -189,7 +189,7 @@ class ProgramTest(ClusterCase):
         node = Node([FREE], *[[]] * 9)
         hold = ["--patience", "5", "hold", "db", "--", "true"]
         process = self.run_program(7, *hold, first=1, ports=[node.port])
-        while len(node.heard) < 2:
+        while len(node.heard) < 2 and process.poll() is None:
             time.sleep(0.02)
         for _ in range(2):
             process.send_signal(signal.SIGTERM)

@@ -48,6 +48,13 @@ class WatchTest(TableCase):
                 one.ask("other")
         self.assertGreater(self.node.heard.count(CHECK), 2)
 
+    def test_a_check_goes_before_other_calls(self):
+        one = self.client()
+        with one.lock("db", on_lost=print):
+            with one.guard:  # another call is under way
+                self.wait_for(lambda: one.releasing)
+            self.wait_for(lambda: CHECK in self.node.heard)
+
     def test_no_answer_is_no_loss(self):
         told, one = [], self.client()
         with one.lock("db", on_lost=lambda *it: told.append(it)):
@@ -145,7 +152,14 @@ class NamesTest(TableCase):
             self.assertEqual([self.holders(name) for name in "abc"], [[7]] * 3)
         self.assertEqual(self.node.table.holders, {})
 
+    def freed_at_last(self):
+        """Frees all names after a while, so that a client that waits for ever fails."""
+        timer = threading.Timer(30.0, self.node.table.holders.clear)
+        timer.start()
+        self.addCleanup(timer.cancel)
+
     def test_none_is_held_where_one_is_busy(self):
+        self.freed_at_last()
         self.client(8).acquire("b")
         one = self.client()
         for how in ({"blocking": False}, {"wait": 0.2}):
@@ -189,6 +203,7 @@ class NamesTest(TableCase):
         self.assertEqual((asyncio.run(hold()), self.node.table.holders), ({"a": 1, "b": 1}, {}))
 
     def test_a_call_that_does_not_block_asks_once(self):
+        self.freed_at_last()
         self.client(8).acquire("db")
         one = self.client()
         for call in (lambda: one.acquire("db", blocking=False), lambda: one.lock("db", blocking=False).__enter__()):
