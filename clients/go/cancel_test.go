@@ -24,6 +24,14 @@ func locking(t *testing.T, client *Client, name string) (cancel context.CancelFu
 // shortly makes a client give locks back for a short time only.
 func shortly(c *Config) { c.Grace = 50 * time.Millisecond }
 
+// wantShort fails where that took as long as the patience of a call, and not as the grace of one that was cancelled.
+func wantShort(t *testing.T, begun time.Time) {
+	t.Helper()
+	if took := time.Since(begun); took > 15*time.Second {
+		t.Errorf("took %v", took)
+	}
+}
+
 func TestAContextThatHasEndedSendsNothing(t *testing.T) {
 	n := fakeNode(t)
 	client := clientOf(t, nil, n)
@@ -49,6 +57,7 @@ func TestACancelDuringTheFirstAskSendsNoAcquire(t *testing.T) {
 	if err := <-ended; !errors.Is(err, context.Canceled) || errors.Is(err, ErrMayHold) {
 		t.Errorf("got %v", err)
 	}
+	n.reply(1, free) // nobody waits for it any more
 	if guard, err := client.Lock(within(t), "db"); err != nil || guard.Fence() != 1 {
 		t.Errorf("got %v", err)
 	}
@@ -83,11 +92,13 @@ func TestACancelledAcquireWithoutAnAnswerIsSettledByTheNextCall(t *testing.T) {
 	client := clientOf(t, shortly, n)
 	cancel, ended := locking(t, client, "db")
 	n.await(2)
+	begun := time.Now()
 	cancel()
 	err := <-ended
 	if !errors.Is(err, ErrMayHold) || !errors.Is(err, context.Canceled) {
 		t.Fatalf("got %v", err)
 	}
+	wantShort(t, begun)
 	if !strings.Contains(err.Error(), "db may be held") {
 		t.Errorf("got %v", err)
 	}
@@ -228,9 +239,10 @@ func TestAReleaseThatIsCancelledIsRepeatedByTheSameBytes(t *testing.T) {
 	ctx, cancel := context.WithCancel(context.Background())
 	ended := make(chan error)
 	go func() { ended <- guard.Release(ctx) }()
-	first := n.await(3)
+	first, begun := n.await(3), time.Now()
 	cancel()
 	err := <-ended
+	wantShort(t, begun)
 	var kept *NotReleased
 	if !errors.As(err, &kept) || kept.Name != "db" || kept.Fence != 1 || !errors.Is(err, context.Canceled) {
 		t.Errorf("got %v", err)

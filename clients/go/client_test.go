@@ -88,6 +88,10 @@ func TestWhatMayBeHeldIsNamedUntilItIsKnown(t *testing.T) {
 	if _, err := client.Lock(ctx, "db"); !errors.As(err, &busy) || !busy.IsOwn() {
 		t.Errorf("got %v", err)
 	}
+	n.then("06 0007 0000000000000003")
+	if _, err := client.Ask(ctx, "db"); err != nil {
+		t.Error(err)
+	}
 	if holds := client.Holds(); fmt.Sprint(holds) != "[{db 0}]" {
 		t.Errorf("holds %v", holds)
 	}

@@ -58,10 +58,15 @@ func settling(t *testing.T, change func(*Config)) (*Client, *node) {
 func TestLogMayCallTheClientWhereARequestIsSettled(t *testing.T) {
 	client, n := settling(t, nil)
 	asked := asking(client, EventSettled, func() {})
-	if _, err := client.Ask(within(t), "db"); err != nil {
+	ended := make(chan error, 1)
+	go func() {
+		_, err := client.Ask(context.Background(), "db")
+		ended <- err
+	}()
+	wantAnswers(t, asked, 2) // of the acquire, and of its release
+	if err := <-ended; err != nil {
 		t.Error(err)
 	}
-	wantAnswers(t, asked, 2) // of the acquire, and of its release
 	wantOps(t, n, "ask db", "acquire db", "release db 1", "ask db", "ask log", "ask log")
 }
 
@@ -108,7 +113,13 @@ func TestLogMayCallTheClientWhereALockIsWaitedForOrKept(t *testing.T) {
 
 func TestLogMayCallTheClientAtItsClose(t *testing.T) {
 	path, told := filepath.Join(t.TempDir(), "number"), make(chan string, 1)
-	client := clientOf(t, func(c *Config) { c.State = path }, fakeNode(t, free, free))
+	// Where this fails, no call of the client ends any more, so no cleanup closes it.
+	client, err := Open(Config{
+		Cluster: 5, Client: 7, First: 1, State: path, Nodes: Loopback(fakeNode(t, free, free).port()),
+	})
+	if err != nil {
+		t.Fatal(err)
+	}
 	client.log = func(event Event) {
 		_, err := client.Ask(context.Background(), "log")
 		told <- fmt.Sprint(event.Kind == EventNotKept, errors.Is(err, ErrClosed), client.Close() == ErrClosed)
@@ -119,10 +130,14 @@ func TestLogMayCallTheClientAtItsClose(t *testing.T) {
 	if err := os.WriteFile(path, []byte("5000000\n"), 0o600); err != nil {
 		t.Fatal(err)
 	}
-	if err := client.Close(); err != nil {
-		t.Error(err)
-	}
-	if said := <-told; said != "true true true" {
-		t.Errorf("got %v", said)
+	closed := make(chan error, 1)
+	go func() { closed <- client.Close() }()
+	select {
+	case err := <-closed:
+		if said := <-told; err != nil || said != "true true true" {
+			t.Errorf("got %v, %v", err, said)
+		}
+	case <-time.After(20 * time.Second):
+		t.Fatal("Close does not end")
 	}
 }

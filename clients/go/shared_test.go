@@ -12,6 +12,9 @@ func TestASecondGuardOfOneNameIsRefused(t *testing.T) {
 	if _, err := client.LockShared(ctx, "db"); err != nil {
 		t.Fatal(err)
 	}
+	for range make([]bool, 20) {
+		n.then(sharedBy(1)) // to a request that should not come
+	}
 	for _, lock := range []func(context.Context, string) (*Guard, error){
 		client.LockShared, client.TryLockShared, client.Lock, client.Adopt,
 	} {

@@ -92,6 +92,17 @@ fn elsewheres_are_counted_anew_after_each_wait() {
 }
 
 #[test]
+fn other_addresses_are_asked_at_once() {
+    let mut timed = Timed::new();
+    timed.session.set_addresses(&[at(7003)]).unwrap();
+    timed.begin(acquire(), Duration::from_secs(1));
+    match timed.session.step(timed.now) {
+        Step::Send { to, .. } => assert_eq!(to, at(7003)), // not the node that answered last
+        other => panic!("{other:?}"),
+    }
+}
+
+#[test]
 fn each_node_is_asked_in_turn() {
     let mut timed = Timed::new();
     timed.begin(acquire(), Duration::from_secs(60));

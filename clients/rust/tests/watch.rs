@@ -117,7 +117,7 @@ fn a_check_without_an_answer_is_no_loss() {
         EACH,
         || panic!("lost"),
         |watch| {
-            while !has_three() {
+            while !has_three() && !watch.is_lost() {
                 thread::sleep(Duration::from_millis(1));
             }
             watch.is_lost()
