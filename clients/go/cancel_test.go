@@ -136,6 +136,23 @@ func TestAWithdrawalWhoseReleaseHasNoAnswerIsSettledByTheNextCall(t *testing.T) 
 	wantOps(t, n, "ask db", "acquire db", "release db 1", "acquire db")
 }
 
+func TestAWithdrawalThatIsPassedSaysThatTheLockMayBeHeld(t *testing.T) {
+	n := fakeNode(t, free, silent)
+	client := clientOf(t, func(c *Config) { c.Grace = 20 * time.Second }, n)
+	cancel, ended := locking(t, client, "db")
+	n.await(2)
+	n.reply(2, "passed 9")
+	cancel()
+	err := <-ended
+	var unanswered *NoAnswer
+	if !errors.As(err, &unanswered) || unanswered.IsWithdrawn || !errors.Is(err, ErrMayHold) {
+		t.Errorf("got %v", err)
+	}
+	if holds := client.Holds(); len(holds) != 1 || holds[0] != (Hold{Name: "db"}) {
+		t.Errorf("holds %v", holds)
+	}
+}
+
 func TestALoopOverNoAnswerGoesOn(t *testing.T) {
 	n := fakeNode(t, free, free, silent)
 	client := clientOf(t, shortly, n)

@@ -174,7 +174,7 @@ func TestABrokenLockIsTold(t *testing.T) {
 		if err.Name != "db" || err.Fence != 1 {
 			t.Errorf("got %v", err)
 		}
-	case <-ctx.Done():
+	case <-time.After(30 * time.Second):
 		t.Fatal("not told")
 	}
 	<-watched.Done()
@@ -194,13 +194,19 @@ func TestAReleaseIsNoLoss(t *testing.T) {
 	if err != nil {
 		t.Fatal(err)
 	}
-	guard.OnLost(ctx, func(err *NotHeld) { t.Errorf("told %v", err) })
+	lost := make(chan *NotHeld, 1)
+	guard.OnLost(ctx, func(err *NotHeld) { lost <- err })
 	watched, cancel := guard.Context(ctx)
 	defer cancel()
 	if err := guard.Release(ctx); err != nil {
 		t.Error(err)
 	}
 	<-watched.Done()
+	select {
+	case err := <-lost:
+		t.Errorf("told %v", err)
+	case <-time.After(200 * time.Millisecond):
+	}
 }
 
 func TestCloseNamesALockThatStaysHeld(t *testing.T) {

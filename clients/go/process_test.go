@@ -12,6 +12,7 @@ import (
 	"strings"
 	"syscall"
 	"testing"
+	"time"
 )
 
 // A test starts its own program again, as client 7, with the ports of the nodes in the variable that names what it
@@ -77,12 +78,24 @@ func (c *cluster) start(mode string) (process *exec.Cmd, input io.Writer, output
 	return process, input, output
 }
 
-// wantLine reads one line.
+// wantLine reads one line, for which it waits for a minute.
 func wantLine(t *testing.T, output *bufio.Reader, wanted string) {
 	t.Helper()
-	line, err := output.ReadString('\n')
-	if !strings.HasPrefix(line, wanted) {
-		t.Fatalf("said %q, %v, wanted %q", line, err, wanted)
+	said := make(chan string, 1)
+	go func() {
+		line, err := output.ReadString('\n')
+		if err != nil {
+			line += err.Error()
+		}
+		said <- line
+	}()
+	select {
+	case line := <-said:
+		if !strings.HasPrefix(line, wanted) {
+			t.Fatalf("said %q, wanted %q", line, wanted)
+		}
+	case <-time.After(time.Minute):
+		t.Fatalf("said nothing, wanted %q", wanted)
 	}
 }
 
