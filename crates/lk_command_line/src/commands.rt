@@ -3,9 +3,9 @@
 use clap::{Arg, ArgAction, Command};
 use std::alloc::{AllocError, Global};
 
-// The version of the package, the format of the stores that it writes, and the kit with which it is proved, as `rt
-// version` names it (`tools/quick_check.py` compares its name with the README's).
-const VERSION: &str = "0.1.0, stores of format 2, rattle-kit-13b logic dac8208d650f15bf";
+// The version of the package, the format of the stores that it writes, and the kit with which it is proved: its name,
+// and its logic, which the compiler writes into each proved program too (`tools/quick_check.py` compares them).
+const VERSION: &str = "0.1.0, stores of format 2, rattle-kit-13 logic dac8208d650f15bf";
 
 // How an argument is given.
 #[derive(Clone, Copy)]
