@@ -74,7 +74,7 @@ kept_or_new x (w ∷ vs) v c =
 
 -- ---- a voter
 
-near_vote : (node : NodeValue) (x : Vote) → IsVoterAt node x.ballot x.position → IsNearVote node x
+pub near_vote : (node : NodeValue) (x : Vote) → IsVoterAt node x.ballot x.position → IsNearVote node x
 near_vote node x k = record {
   near = k.near;
   ballot = k.ballot;

@@ -27,7 +27,7 @@ use Rattle.lk_leftovers.specs.Filling.{ReportNoChange}
 
 -- ---- what is proposed
 
-found_at : (i : ℕ) (ps : List ProposalValue) (p : ProposalValue) → proposal_at i ps ≡ Some p
+pub found_at : (i : ℕ) (ps : List ProposalValue) (p : ProposalValue) → proposal_at i ps ≡ Some p
     → Contains ps p × (p.position ≡ i)
 found_at i [] p at = absurd (cc at)
 found_at i (q ∷ ps) p at = elim (cases_Bool (eqb q.position i)) [

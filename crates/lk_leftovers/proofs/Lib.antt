@@ -1,5 +1,6 @@
 mod Reported
-mod Walking
-mod Filling
+pub mod Walking
+pub mod Filling
 mod Collecting
-mod Accepting
+pub mod Accepting
+pub mod Offering

@@ -50,7 +50,7 @@ op_changes m w r (Join node port) is keeps = absurd (keeps tt)
 op_changes m w r (Leave node) is keeps = absurd (keeps tt)
 op_changes m w r Raise is keeps = rw is refl
 
-same_change : (m : Meaning) (v : Command) (w : WholeValue) → KeepsMembers v
+pub same_change : (m : Meaning) (v : Command) (w : WholeValue) → KeepsMembers v
     → (ran m v w).roster.changed ≡ w.roster.changed
 same_change m Noop w keeps = refl
 same_change m (Request r) w keeps = by_test (is_new (session_of r.client w.sessions) r.number)
@@ -81,7 +81,7 @@ pub record Walks (qs : List ReceivedPromise) (i : ℕ) (node : NodeValue) : Type
 module _ (qs : List ReceivedPromise) (i : ℕ) where
   -- ---- an acceptance is heard
 
-  heard_was : (set : List Member) (from : ℕ) (ps : List ProposalValue) (p : ProposalValue)
+  pub heard_was : (set : List Member) (from : ℕ) (ps : List ProposalValue) (p : ProposalValue)
       → Contains (heard_at set from i ps) p
       → (q : ProposalValue) × Contains ps q × (p.position ≡ q.position) × (p.command ≡ q.command)
       × ((q.position ≡ i) ⊎ (p.accepted ≡ q.accepted))

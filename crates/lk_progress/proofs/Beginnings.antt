@@ -22,24 +22,24 @@ module _ (m : Meaning) (genesis : Genesis) where
   abbrev roster : RosterValue
   roster = (whole_after m genesis []).roster
 
-  roster_is : roster ≡ roster_after genesis []
+  pub roster_is : roster ≡ roster_after genesis []
   unfolding whole_after
   roster_is = refl
 
   nothing_executed : roster.executed ≡ 0
   nothing_executed = ap (λ (v : RosterValue). v.executed) (roster_is ∙ roster_after-begin genesis)
 
-  nothing_changed : roster.changed ≡ 0
+  pub nothing_changed : roster.changed ≡ 0
   nothing_changed = ap (λ (v : RosterValue). v.changed) (roster_is ∙ roster_after-begin genesis)
 
-  window : length roster.sets ≡ genesis.alpha
+  pub window : length roster.sets ≡ genesis.alpha
   window = length_of_window genesis [] roster roster_is
 
 take_none : (k : ℕ) → ◌≡◌ {A = List Command} (take k []) []
 take_none zero = refl
 take_none (suc k) = refl
 
-first_members : (genesis : Genesis) (i : ℕ) → members genesis [] i ≡ genesis.members
+pub first_members : (genesis : Genesis) (i : ℕ) → members genesis [] i ≡ genesis.members
 unfolding members roster_of effects positioned
 first_members genesis i = ap (λ (l : List Command). (roster_of genesis l).members) (take_none (i - genesis.alpha))
 

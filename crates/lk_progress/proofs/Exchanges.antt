@@ -114,7 +114,7 @@ near_after old new b e v quiet acceptor learner = record {
 }
 
 -- what depends on a node's leader and learner alone
-carried : (old new : NodeValue) (t : TermValue) (set : List Member) (v : Command) (accepted : List ℕ)
+pub carried : (old new : NodeValue) (t : TermValue) (set : List Member) (v : Command) (accepted : List ℕ)
     → HasProposed old t set v accepted → new.leader ≡ old.leader → new.learner ≡ old.learner
     → HasProposed new t set v accepted
 carried old new t set v accepted has leader learner = record {
@@ -126,7 +126,7 @@ carried old new t set v accepted has leader learner = record {
   known = subst (λ (l : LearnerValue). (w : Command) → IsNext l w → ⊥) (sym learner) has.known;
 }
 
-node_named : (set : List Member) (n : ℕ) → Contains (map (λ (m : Member). m.node) set) n → is_member n set ≡ true
+pub node_named : (set : List Member) (n : ℕ) → Contains (map (λ (m : Member). m.node) set) n → is_member n set ≡ true
 node_named [] n c = absurd (omega (arith, c.1))
 node_named (m ∷ set) n c =
     elim (cases_Bool (m.node == n)) [

@@ -73,7 +73,7 @@ op_moves m w r (Join node port) set is keeps some all = absurd (keeps tt)
 op_moves m w r (Leave node) set is keeps some all = absurd (keeps tt)
 op_moves m w r Raise set is keeps some all = rw is (moved_all w.roster.sets set some all)
 
-ran_fixed : (m : Meaning) (v : Command) (w : WholeValue) (set : List Member) → KeepsMembers v
+pub ran_fixed : (m : Meaning) (v : Command) (w : WholeValue) (set : List Member) → KeepsMembers v
     → 1 ≤ length w.roster.sets → AreAll w.roster.sets set → AreAll (ran m v w).roster.sets set
 ran_fixed m Noop w set keeps some all = moved_all w.roster.sets set some all
 ran_fixed m (Request r) w set keeps some all = by_test (is_new (session_of r.client w.sessions) r.number)
@@ -84,15 +84,15 @@ ran_fixed m (Request r) w set keeps some all = by_test (is_new (session_of r.cli
 
 -- ---- what a leader keeps
 
-record Keeps (set : List Member) (b : BallotValue) (received : List ReceivedPromise) (node : NodeValue) : Type 0 where
-  term : TermValue
-  current : node.leader.term ≡ Some term
-  ballot : term.ballot ≡ b
-  heard : term.received ≡ received
-  some : 1 ≤ length node.learner.whole.roster.sets
-  fixed : AreAll node.learner.whole.roster.sets set
-  named : is_member node.header.node set ≡ true
-  keeps : (p : Pair) → Contains node.learner.pairs p → KeepsMembers p.1
+pub record Keeps (set : List Member) (b : BallotValue) (received : List ReceivedPromise) (node : NodeValue) : Type 0 where
+  pub term : TermValue
+  pub current : node.leader.term ≡ Some term
+  pub ballot : term.ballot ≡ b
+  pub heard : term.received ≡ received
+  pub some : 1 ≤ length node.learner.whole.roster.sets
+  pub fixed : AreAll node.learner.whole.roster.sets set
+  pub named : is_member node.header.node set ≡ true
+  pub keeps : (p : Pair) → Contains node.learner.pairs p → KeepsMembers p.1
 
 module _ (set : List Member) (b : BallotValue) (received : List ReceivedPromise) where
   -- with the same term, learner and header it does
@@ -109,7 +109,7 @@ module _ (set : List Member) (b : BallotValue) (received : List ReceivedPromise)
     keeps = subst (λ (l : LearnerValue). (p : Pair) → Contains l.pairs p → KeepsMembers p.1) (sym learner) k.keeps;
   }
 
-  heard_keeps : (from : ℕ) (x : Vote) (old : NodeValue) (p : IsForProposal old x) → Keeps set b received old
+  pub heard_keeps : (from : ℕ) (x : Vote) (old : NodeValue) (p : IsForProposal old x) → Keeps set b received old
       → Keeps set b received (with_vote from x old p)
   heard_keeps from x old p k =
       let one : p.term ≡ k.term = (let e : Some p.term ≡ Some k.term = sym p.current ∙ k.current in cc e) in
@@ -124,7 +124,7 @@ module _ (set : List Member) (b : BallotValue) (received : List ReceivedPromise)
         keeps = k.keeps;
       }
 
-  learned_keeps : (p : Pair) (old new : NodeValue) (before after : OutboxValue) → Learns p old before new after
+  pub learned_keeps : (p : Pair) (old new : NodeValue) (before after : OutboxValue) → Learns p old before new after
       → KeepsMembers p.1 → Keeps set b received old → Keeps set b received new
   learned_keeps p old new before after (inl kept) plain k =
       subst (Keeps set b received) (sym kept.1) (record {
@@ -180,7 +180,7 @@ module _ (set : List Member) (b : BallotValue) (received : List ReceivedPromise)
       (waited_keeps (session_by e.command (run_answer m e.command old.learner.whole)) _ e.mid _ after e.ends_wait
       (ran_keeps m e.command old (k.keeps (executed old.learner + 1, e.command) e.next) k)))
 
-  runs_keep : (m : Meaning) (old : NodeValue) (before : OutboxValue) (new : NodeValue) (after : OutboxValue)
+  pub runs_keep : (m : Meaning) (old : NodeValue) (before : OutboxValue) (new : NodeValue) (after : OutboxValue)
       → Runs m old before new after → Keeps set b received old → Keeps set b received new
   runs_keep m old before _ _ stays k = k
   runs_keep m old before new after (goes_on so_far e) k =
@@ -204,7 +204,7 @@ module _ (set : List Member) (b : BallotValue) (received : List ReceivedPromise)
 
   -- ---- an acceptance, and all of them
 
-  one_keeps : (m : Meaning) (IsText : List ℕ → Type 0) (old new : NodeValue) (from : ℕ) (x : Vote) (out : OutboxValue)
+  pub one_keeps : (m : Meaning) (IsText : List ℕ → Type 0) (old new : NodeValue) (from : ℕ) (x : Vote) (out : OutboxValue)
       → Hears m IsText old from (kinds.Accepted x) new out → KeepsMembers x.command
       → Keeps set b received old × NothingToRun old → Keeps set b received new × NothingToRun new
   one_keeps m IsText old new from x out takes plain k =

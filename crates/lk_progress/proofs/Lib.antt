@@ -1,18 +1,18 @@
-mod Hearing
+pub mod Hearing
 mod Executing
 mod Ticking
-mod Rejecting
+pub mod Rejecting
 mod Answering
 mod Feeding
 mod Gathering
 mod GettingOn
 mod Majorities
-mod Proposing
+pub mod Proposing
 mod Leading
 mod Deciding
-mod Electing
-mod LeadingOn
+pub mod Electing
+pub mod LeadingOn
 mod Candidates
-mod Quiet
-mod Exchanges
-mod Beginnings
+pub mod Quiet
+pub mod Exchanges
+pub mod Beginnings

@@ -124,15 +124,15 @@ pub record IsCollecting (candidate : NodeValue) (a : AcceptorValue) (nodes : Lis
 
 -- what a promise leaves
 module _ (old mid : NodeValue) (from : ℕ) (p : PromiseValue) where
-  kept_acceptor : RecordsPromise old from p mid ⊎ DropsPromise old from p mid → mid.acceptor ≡ old.acceptor
+  pub kept_acceptor : RecordsPromise old from p mid ⊎ DropsPromise old from p mid → mid.acceptor ≡ old.acceptor
   kept_acceptor (inl records) = ap (λ (node : NodeValue). node.acceptor) records.2
   kept_acceptor (inr drops) = ap (λ (node : NodeValue). node.acceptor) drops.1
 
-  kept_header : RecordsPromise old from p mid ⊎ DropsPromise old from p mid → mid.header ≡ old.header
+  pub kept_header : RecordsPromise old from p mid ⊎ DropsPromise old from p mid → mid.header ≡ old.header
   kept_header (inl records) = ap (λ (node : NodeValue). node.header) records.2
   kept_header (inr drops) = ap (λ (node : NodeValue). node.header) drops.1
 
-  kept_waiting : RecordsPromise old from p mid ⊎ DropsPromise old from p mid
+  pub kept_waiting : RecordsPromise old from p mid ⊎ DropsPromise old from p mid
       → mid.leader.waiting ≡ old.leader.waiting
   kept_waiting (inl records) = ap (λ (node : NodeValue). node.leader.waiting) records.2
   kept_waiting (inr drops) = ap (λ (node : NodeValue). node.leader.waiting) drops.1
