@@ -63,13 +63,13 @@ use Rattle.lk_world_progress.specs.Exchanging.{QuietWorldAnswers, number_of}
 use Rattle.lk_world_progress.specs.Stepping.{Holds, IsFound, IsUpAs, Lives, TakesStep}
 
 module _ (P : Content → Type 0) where
-  each_promise : ((n : ℕ) (p : PromiseValue) → P (content.Node n (kinds.Promise p)))
+  pub each_promise : ((n : ℕ) (p : PromiseValue) → P (content.Node n (kinds.Promise p)))
       → (heard : List (ℕ × PromiseValue)) (y : Content) → Contains (promises heard) y → P y
   each_promise all heard y c =
       let h = map_contains (λ (h : ℕ × PromiseValue). content.Node h.0 (kinds.Promise h.1)) heard y c in
       subst P h.2 (all h.0.0 h.0.1)
 
-  each_acceptance : (x : Vote) → ((n : ℕ) → P (content.Node n (kinds.Accepted x)))
+  pub each_acceptance : (x : Vote) → ((n : ℕ) → P (content.Node n (kinds.Accepted x)))
       → (nodes : List ℕ) (y : Content) → Contains (acceptances nodes x) y → P y
   each_acceptance x all nodes y c =
       let h = map_contains (λ (n : ℕ). content.Node n (kinds.Accepted x)) nodes y c in

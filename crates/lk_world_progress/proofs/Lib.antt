@@ -1,13 +1,13 @@
-mod Stepping
-mod Rebasing
-mod Delivering
-mod Sending
-mod Shadowing
-mod Noting
-mod Exchanging
-mod Balloting
-mod Overtaking
+pub mod Stepping
+pub mod Rebasing
+pub mod Delivering
+pub mod Sending
+pub mod Shadowing
+pub mod Noting
+pub mod Exchanging
+pub mod Balloting
+pub mod Overtaking
 mod Restarting
-mod Waiting
+pub mod Waiting
 mod Starting
 mod Beginning

@@ -58,7 +58,7 @@ later_round b seen later le =
       ]
     ]
 
-promised_round : (b : BallotValue) (seen : ℕ) → b.round ≤ greater_round b seen
+pub promised_round : (b : BallotValue) (seen : ℕ) → b.round ≤ greater_round b seen
 promised_round b seen =
     elim (cases_Bool (nat_lt b.round seen)) [
       | inl t ↦ rw t (grind (arith, nat_tests))
@@ -68,7 +68,7 @@ promised_round b seen =
 next_round : (a b c : ℕ) → a ≤ b → c ≡ b → a + 1 ≤ c + 1
 next_round a b c le same = omega (arith, le, same)
 
-round_above : (a p c : ℕ) → p ≤ c → p ≡ a → a < c + 1
+pub round_above : (a p c : ℕ) → p ≤ c → p ≡ a → a < c + 1
 round_above a p c le same = omega (arith, le, same)
 
 -- the same node with a round that is not smaller
@@ -85,7 +85,7 @@ under_max : (a c : ℕ) → a ≤ max a c
 under_max a c = omega arith
 
 -- recording a ballot leaves all but the term
-seen_recorded : (b : BallotValue) (node : NodeValue)
+pub seen_recorded : (b : BallotValue) (node : NodeValue)
     → ((seeing b node).header ≡ node.header) × ((seeing b node).acceptor ≡ node.acceptor)
     × (node.rounds ≤ (seeing b node).rounds)
 seen_recorded b node = by_test (is_term_below b node.leader.term)
@@ -160,7 +160,7 @@ module _ (m : Meaning) (IsText : List ℕ → Type 0) where
 
   -- ---- what a Prepare leaves of a promise
 
-  replied_acceptor : (reply : NodeMessage) (node : NodeValue) → (replied reply node).acceptor ≡ node.acceptor
+  pub replied_acceptor : (reply : NodeMessage) (node : NodeValue) → (replied reply node).acceptor ≡ node.acceptor
   replied_acceptor reply node = by_test (is_granted reply)
     where
       by_term : (x : NodeValue) (t : Bool) → (cond t (without_term x) x).acceptor ≡ x.acceptor
@@ -175,16 +175,16 @@ module _ (m : Meaning) (IsText : List ℕ → Type 0) where
 
   module _ (old new : NodeValue) (from : ℕ) (b : BallotValue) (position : ℕ) (out : OutboxValue)
       (h : Handled m IsText old (content.Node from (kinds.Prepare b position)) new out) where
-    responds : Responds old from (RepliesToPrepare old.acceptor (executed old.learner) b position) h.mid h.first
+    pub responds : Responds old from (RepliesToPrepare old.acceptor (executed old.learner) b position) h.mid h.first
     responds = h.handles
 
-    new_acceptor : new.acceptor ≡ responds.acceptor
+    pub new_acceptor : new.acceptor ≡ responds.acceptor
     new_acceptor = (proposed_same h.proposes.0 h.mid new h.first out h.proposes.1).acceptor
         ∙ ap (λ (n : NodeValue). n.acceptor) responds.becomes
         ∙ replied_acceptor responds.response.reply (record old { acceptor = responds.acceptor })
 
     -- it has promised this ballot, or what it had
-    promised_is : (new.acceptor.state.promised ≡ b) ⊎ (new.acceptor.state.promised ≡ old.acceptor.state.promised)
+    pub promised_is : (new.acceptor.state.promised ≡ b) ⊎ (new.acceptor.state.promised ≡ old.acceptor.state.promised)
     promised_is = elim responds.given [
       | inl granted ↦ inl
           (ap (λ (a : AcceptorValue). a.state.promised) new_acceptor
