@@ -1,0 +1,668 @@
+-- A candidate of a world hears the promises of a majority, leads and fills up.
+use Rattle.std.proofs.Common.{◌≡◌, ◌∙◌, ◌⊎◌, inl, inr, ℕ, ◌+◌, ◌*◌, ◌<◌, ◌≤◌, true, false, nat_lt, nat_le, List, []}
+use Rattle.std.proofs.Common.{◌∷◌, map, Some, Contains, refl, ap, sym, subst, arith}
+use Rattle.std.proofs.lemmas.Bool.{leb-true}
+use Rattle.std.proofs.lemmas.Bool.Decides.{nat_tests}
+use Rattle.lk_types.specs.BallotValue.{BallotValue}
+use Rattle.lk_types.specs.Ballots.{IsAtMost, IsBelow}
+use Rattle.lk_types.specs.declared.member.Member.{Member}
+use Rattle.lk_types.specs.declared.vote.Vote.{Vote}
+use Rattle.lk_store_format.specs.Values.{HeaderValue}
+use Rattle.lk_messages.specs.Values.{PromiseValue}
+use Rattle.lk_messages.specs.declared.message.Content.{Content}
+use Rattle.lk_messages.specs.declared.message.Content.TheVariants as content
+use Rattle.lk_messages.specs.declared.message.NodeMessage.TheVariants as kinds
+use Rattle.lk_agreement_laws.proofs.Histories.{at_most_below, below_self, cons_cases, contains_more, filter_from}
+use Rattle.lk_agreement_laws.proofs.Histories.{filter_passes_at}
+use Rattle.lk_agreement_laws.specs.Changes.{with_promise}
+use Rattle.lk_members.specs.Majorities.{IsMajority}
+use Rattle.lk_members.specs.Nodes.{nodes_of}
+use Rattle.lk_members.specs.Rosters.{is_member}
+use Rattle.lk_state.specs.Meanings.{Meaning}
+use Rattle.lk_acceptor.specs.AcceptorValue.{AcceptorValue}
+use Rattle.lk_acceptor.specs.States.{with_state}
+use Rattle.lk_acceptor.specs.VoteLists.{votes_above, votes_from}
+use Rattle.lk_leader.specs.Proposing.{AreMembersAt}
+use Rattle.lk_leader.specs.Terms.{LeaderValue, ProposalValue, ReceivedPromise, TermValue, begun}
+use Rattle.lk_leader.specs.Values.{is_changing_at}
+use Rattle.lk_learner.specs.Learners.{IsNext, LearnerValue, Pair, alpha, executed}
+use Rattle.lk_members.specs.Effects.{Command}
+use Rattle.lk_node_interface.specs.Outboxes.{OutboxValue}
+use Rattle.lk_node_interface.specs.declared.input.Input.TheVariants.{Tick}
+use Rattle.lk_node.proofs.Nodes.{map_contains, map_has}
+use Rattle.lk_node.specs.Beginning.{beginning, next_ballot}
+use Rattle.lk_node.specs.Executing.{NothingToRun}
+use Rattle.lk_node.specs.Leading.{NothingToPropose, ProposesAll, having_proposed}
+use Rattle.lk_node.specs.Leavings.{header_of}
+use Rattle.lk_node.specs.Nearness.{AreNear}
+use Rattle.lk_node.specs.NewBases.{with_snapshot}
+use Rattle.lk_node.specs.NodeValue.{NodeValue}
+use Rattle.lk_node.specs.Reminding.{Ticks}
+use Rattle.lk_node.specs.Telling.{letter_to}
+use Rattle.lk_node.specs.Waiting.{BeginsWhereDue, ticked}
+use Rattle.lk_progress.proofs.Electing.{named_by}
+use Rattle.lk_progress.proofs.Exchanges.{node_named}
+use Rattle.lk_progress.proofs.Hearing.{Handled, handled, same_acceptor, same_learner}
+use Rattle.lk_progress.proofs.Proposing.{next_set, some_set}
+use Rattle.lk_progress.proofs.Quiet.{proposes_nothing}
+use Rattle.lk_progress.proofs.Rejecting.{keeps_header, keeps_leader}
+use Rattle.lk_progress.specs.Electing.{AsksWindow, DueNodeAsks, IsDue, promises}
+use Rattle.lk_progress.specs.Exchanges.{prepare_by}
+use Rattle.lk_progress.specs.Hearing.{Takes}
+use Rattle.lk_progress.specs.LeadingOn.{AreAll, KeepsMembers}
+use Rattle.lk_progress.specs.Rejecting.{PrepareIsPromisedOrRejected, Promises, RejectsPrepare}
+use Rattle.lk_rebases.proofs.Rebases.{strict_filter}
+use Rattle.lk_rebases.specs.Pasts.{IsPlain}
+use Rattle.lk_leftovers.proofs.Offering.{Offers, Tells, promises_offer, vote_in}
+use Rattle.lk_leftovers.specs.Accepting.{IsVoterAt}
+use Rattle.lk_leftovers.specs.Collecting.{HasBegun, LeadsToFill, MayBeHeard, PromisedCandidateFills}
+use Rattle.lk_replica.specs.ReplicaValue.{ReplicaValue}
+use Rattle.lk_sim.specs.Scenes.{Scene}
+use Rattle.lk_sim.specs.declared.event.Event.TheVariants as event
+use Rattle.lk_sim_nodes.specs.declared.seat.Life.{Life}
+use Rattle.lk_sim_nodes.specs.declared.seat.Life.TheVariants.{Up}
+use Rattle.lk_world_progress.proofs.Balloting.{found_has, found_tells, near_snapshot, tick_begins}
+use Rattle.lk_world_progress.proofs.Delivering.{EachHeard, HeardIt, among, each_heard}
+use Rattle.lk_world_progress.proofs.Exchanging.{each_promise}
+use Rattle.lk_world_progress.proofs.Rebasing.{begun_rests}
+use Rattle.lk_world_progress.proofs.Sending.{sent_as}
+use Rattle.lk_world_progress.proofs.Shadowing.{ShadowTakesAll, shadow_in_turn, shadows_itself}
+use Rattle.lk_world_progress.proofs.Stepping.{event_steps, found_header, has_header, one_replica}
+use Rattle.lk_world_progress.specs.Balloting.{BeginsIn, HasSentTo}
+use Rattle.lk_world_progress.specs.Delivering.{InstallsNothing}
+use Rattle.lk_world_progress.specs.Exchanging.{number_of}
+use Rattle.lk_world_progress.specs.Stepping.{IsFound, IsUpAs, Lives, TakesStep}
+use Rattle.lk_world_leftovers.proofs.Keeping.{fills_itself, votes_itself}
+use Rattle.lk_world_leftovers.specs.Collecting.{AreLeftovers, CandidateFillsIn, Collects, HasCollected, HasLeftovers}
+use Rattle.lk_world_leftovers.specs.Collecting.{IsNearVoter, promise_in}
+use Rattle.lk_world_leftovers.specs.Filling.{IsFilling, VotesIn}
+
+-- ---- votes
+
+later_votes : (e i : ℕ) → e < i → (votes : List Vote) → votes_from i (votes_above e votes) ≡ votes_from i votes
+later_votes e i lt votes =
+    strict_filter (λ (v : Vote). nat_le i v.position) (λ (v : Vote). nat_lt e v.position) sure votes
+  where
+    sure : (v : Vote) → nat_le i v.position ≡ true → nat_lt e v.position ≡ true
+    sure v t = grind (arith, nat_tests)
+
+above_from : (i : ℕ) (votes : List Vote) (v : Vote) → Contains (votes_from i votes) v
+    → Contains votes v × (i ≤ v.position)
+above_from i votes v c = (
+  filter_from (λ (x : Vote). nat_le i x.position) votes v c,
+  leb-true i v.position (filter_passes_at (λ (x : Vote). nat_le i x.position) votes v c),
+)
+
+-- ---- a node of the exchange
+
+-- what it promises of the positions from the next one on is this list, and its votes are leftovers
+record Stands (b : BallotValue) (e highest : ℕ) (votes : List Vote) (node : NodeValue) : Type 0 where
+  behind : executed node.learner ≤ e
+  near : AreNear node.acceptor node.learner
+  left : AreLeftovers node b e highest
+  reports : votes_from (e + 1) node.acceptor.state.votes ≡ votes
+
+stands_snapshot : (b : BallotValue) (e highest : ℕ) (votes : List Vote) (node : NodeValue)
+    → Stands b e highest votes node → Stands b e highest votes (with_snapshot node)
+stands_snapshot b e highest votes node s = record {
+  behind = s.behind;
+  near = near_snapshot node s.near;
+  left = record {
+    low = λ v c. s.left.low v (kept v c);
+    older = λ v c. s.left.older v (kept v c);
+    keeps = λ v c. s.left.keeps v (kept v c);
+  };
+  reports = later_votes (executed node.learner) (e + 1) (omega (arith, s.behind)) node.acceptor.state.votes ∙ s.reports;
+}
+  where
+    kept : (v : Vote) → Contains (votes_above (executed node.learner) node.acceptor.state.votes) v
+        → Contains node.acceptor.state.votes v
+    kept v c = filter_from (λ (x : Vote). nat_lt (executed node.learner) x.position) node.acceptor.state.votes v c
+
+-- a promise changes nothing of that
+stands_promised : (b c : BallotValue) (e highest : ℕ) (votes : List Vote) (old new : NodeValue)
+    → new.acceptor ≡ with_state old.acceptor (with_promise old.acceptor.state c) → new.learner ≡ old.learner
+    → Stands b e highest votes old → Stands b e highest votes new
+stands_promised b c e highest votes old new acceptor learner s = record {
+  behind = subst (λ (l : LearnerValue). executed l ≤ e) (sym learner) s.behind;
+  near = subst (λ (l : LearnerValue). AreNear new.acceptor l) (sym learner)
+      (subst (λ (a : AcceptorValue). AreNear a old.learner) (sym acceptor)
+      (record { alpha_is = s.near.alpha_is; snapshot = s.near.snapshot; votes = s.near.votes }));
+  left = record {
+    low = λ v d. s.left.low v (kept v d);
+    older = λ v d. s.left.older v (kept v d);
+    keeps = λ v d. s.left.keeps v (kept v d);
+  };
+  reports = ap (λ (a : AcceptorValue). votes_from (e + 1) a.state.votes) acceptor ∙ s.reports;
+}
+  where
+    kept : (v : Vote) → Contains new.acceptor.state.votes v → Contains old.acceptor.state.votes v
+    kept v d = subst (λ (a : AcceptorValue). Contains a.state.votes v) acceptor d
+
+-- so it promises
+record PromisesFrom (old : NodeValue) (from : ℕ) (b : BallotValue) (e highest : ℕ) (votes : List Vote)
+    (new : NodeValue) (out : OutboxValue) : Type 0 where
+  promises : Promises old from b (e + 1) new out
+  told : Contains out.letters
+      (letter_to old (kinds.Promise (record { ballot = b; first = e + 1; votes = votes })) from)
+  stands : Stands b e highest votes new
+
+promises_from : (m : Meaning) (IsText : List ℕ → Type 0) → PrepareIsPromisedOrRejected m IsText
+    → (old new : NodeValue) (from : ℕ) (b : BallotValue) (e highest : ℕ) (votes : List Vote) (out : OutboxValue)
+    → Stands b e highest votes old → IsAtMost old.acceptor.state.promised b
+    → Takes m IsText old (content.Node from (kinds.Prepare b (e + 1))) new out
+    → PromisesFrom old from b e highest votes new out
+promises_from m IsText law old new from b e highest votes out s ballot takes =
+    by_cause (law old new from b (e + 1) out s.near takes)
+  where
+    why_not : IsBelow b old.acceptor.state.promised ⊎ (e + 1 ≤ executed old.learner) → ⊥
+    why_not (inl greater) = below_self old.acceptor.state.promised
+        (at_most_below old.acceptor.state.promised b old.acceptor.state.promised ballot greater)
+    why_not (inr ahead) = omega (arith, ahead, s.behind)
+
+    by_cause : Promises old from b (e + 1) new out ⊎ RejectsPrepare old from b (e + 1) new out
+        → PromisesFrom old from b e highest votes new out
+    by_cause (inr rejects) = absurd (why_not rejects.why)
+    by_cause (inl promises) = record {
+      promises = promises;
+      told = subst (λ (vs : List Vote). Contains out.letters
+          (letter_to old (kinds.Promise (record { ballot = b; first = e + 1; votes = vs })) from))
+          s.reports promises.told;
+      stands = stands_promised b b e highest votes old new promises.acceptor promises.learner s;
+    }
+
+-- and is then a voter at the next position
+then_votes : (old new : NodeValue) (from : ℕ) (b : BallotValue) (e highest : ℕ) (votes : List Vote)
+    (out : OutboxValue) → PromisesFrom old from b e highest votes new out
+    → e < executed new.learner + 2 * alpha new.learner → IsVoterAt new b (e + 1)
+then_votes old new from b e highest votes out p within = record {
+  near = p.stands.near;
+  ballot = inr (ap (λ (a : AcceptorValue). a.state.promised) p.promises.acceptor);
+  above = omega (arith, p.stands.behind);
+  within = omega (arith, within);
+  older = λ v c above. p.stands.left.older v c (omega (arith, above));
+}
+
+-- ---- the candidate
+
+-- what it knows of the members and of what is decided
+record Knows (set : List Member) (e highest : ℕ) (node : NodeValue) : Type 0 where
+  reach : executed node.learner ≡ e
+  members : AreMembersAt node.learner.whole.roster (executed node.learner + 1) set
+  fixed : AreAll node.learner.whole.roster.sets set
+  named : is_member node.header.node set ≡ true
+  known : NothingToRun node
+  unchanged : is_changing_at node.learner.whole.roster (executed node.learner + 1) ≡ false
+  keeps : (p : Pair) → Contains node.learner.pairs p → KeepsMembers p.1
+  pairs : (p : Pair) → Contains node.learner.pairs p → p.0 ≤ highest
+
+knows_snapshot : (set : List Member) (e highest : ℕ) (node : NodeValue) → Knows set e highest node
+    → Knows set e highest (with_snapshot node)
+knows_snapshot set e highest node k = record {
+  reach = k.reach;
+  members = k.members;
+  fixed = k.fixed;
+  named = k.named;
+  known = k.known;
+  unchanged = k.unchanged;
+  keeps = k.keeps;
+  pairs = k.pairs;
+}
+
+knows_alike : (set : List Member) (e highest : ℕ) (old new : NodeValue) → new.learner ≡ old.learner
+    → new.header ≡ old.header → Knows set e highest old → Knows set e highest new
+knows_alike set e highest old new learner header k = record {
+  reach = ap (λ (l : LearnerValue). executed l) learner ∙ k.reach;
+  members = on (λ (l : LearnerValue). AreMembersAt l.whole.roster (executed l + 1) set) k.members;
+  fixed = on (λ (l : LearnerValue). AreAll l.whole.roster.sets set) k.fixed;
+  named = ap (λ (h : HeaderValue). is_member h.node set) header ∙ k.named;
+  known = on (λ (l : LearnerValue). (v : Command) → IsNext l v → ⊥) k.known;
+  unchanged = on (λ (l : LearnerValue). is_changing_at l.whole.roster (executed l + 1) ≡ false) k.unchanged;
+  keeps = on (λ (l : LearnerValue). (p : Pair) → Contains l.pairs p → KeepsMembers p.1) k.keeps;
+  pairs = on (λ (l : LearnerValue). (p : Pair) → Contains l.pairs p → p.0 ≤ highest) k.pairs;
+}
+  where
+    on : (P : LearnerValue → Type 0) → P old.learner → P new.learner
+    on P h = subst P (sym learner) h
+
+ends_idle : (xs : List Vote) (old new : NodeValue) (before out : OutboxValue) → ProposesAll xs old new before out
+    → NothingToPropose new
+ends_idle [] old new before out p = subst NothingToPropose (sym p.1) p.0
+ends_idle (x ∷ xs) old new before out p = ends_idle xs (having_proposed old x p.0) new _ out p.1
+
+-- it has a term of this ballot in which nothing is promised or proposed, and nothing waits
+record HasTerm (b : BallotValue) (node : NodeValue) : Type 0 where
+  current : node.leader.term ≡ Some (begun b)
+  waiting : node.leader.waiting ≡ []
+  promised : node.acceptor.state.promised ≡ b
+
+-- after its own Prepare it still has
+record StillBegun (b : BallotValue) (old new : NodeValue) : Type 0 where
+  leader : new.leader ≡ old.leader
+  header : new.header ≡ old.header
+  idle : NothingToPropose new
+
+own_prepare : (m : Meaning) (IsText : List ℕ → Type 0) (old new : NodeValue) (from : ℕ) (b : BallotValue)
+    (e highest : ℕ) (votes : List Vote) (set : List Member) (out : OutboxValue)
+    → PromisesFrom old from b e highest votes new out → HasTerm b old → Knows set e highest old
+    → Takes m IsText old (content.Node from (kinds.Prepare b (e + 1))) new out → StillBegun b old new
+own_prepare m IsText old new from b e highest votes set out p has knows takes =
+    by_handled (handled m IsText old (content.Node from (kinds.Prepare b (e + 1))) new out takes)
+  where
+    by_handled : Handled m IsText old (content.Node from (kinds.Prepare b (e + 1))) new out → StillBegun b old new
+    by_handled h = record {
+      leader = ap (λ (n : NodeValue). n.leader) unchanged ∙ mid_leader;
+      header = ap (λ (n : NodeValue). n.header) unchanged ∙ keeps_header old h.mid from _ h.first h.handles;
+      idle = ends_idle h.proposes.0 h.mid new h.first out h.proposes.1;
+    }
+      where
+        mid_leader : h.mid.leader ≡ old.leader
+        mid_leader = keeps_leader old h.mid from _ h.first h.handles (begun b) has.current
+            (ap (λ (a : AcceptorValue). a.state.promised) (sym (same_acceptor m IsText old _ new out h))
+            ∙ ap (λ (a : AcceptorValue). a.state.promised) p.promises.acceptor)
+
+        mid_learner : h.mid.learner ≡ old.learner
+        mid_learner = sym (same_learner m IsText old _ new out h) ∙ p.promises.learner
+
+        unchanged : new ≡ h.mid
+        unchanged = proposes_nothing h.mid new h.first out (begun b) h.proposes
+            (ap (λ (l : LeaderValue). l.term) mid_leader ∙ has.current)
+            (ap (λ (l : LeaderValue). l.waiting) mid_leader ∙ has.waiting) (λ q d. absurd (omega (arith, d.1)))
+            (subst (λ (l : LearnerValue). is_changing_at l.whole.roster (executed l + 1) ≡ false) (sym mid_learner)
+            knows.unchanged)
+
+-- ---- the exchange
+
+-- the numbers of those that promise
+numbers_of : (node : NodeValue) (rs : List ReplicaValue)
+    → map (λ (h : ℕ × PromiseValue). h.0) (map (λ (r : ReplicaValue). (number_of r, promise_in node r)) rs)
+    ≡ map number_of rs
+numbers_of node [] = refl
+numbers_of node (r ∷ rs) = ap (λ (ns : List ℕ). number_of r ∷ ns) (numbers_of node rs)
+
+module _ (m : Meaning) (IsText : List ℕ → Type 0) (asks_law : DueNodeAsks)
+    (prepare_law : PrepareIsPromisedOrRejected m IsText) (fills_law : PromisedCandidateFills m IsText)
+    (c : ReplicaValue) (set : List Member) (others : List ReplicaValue) (highest : ℕ)
+    (first last : Scene ReplicaValue) (k : HasLeftovers m IsText first c set others highest)
+    (run : Collects m IsText c others first last) where
+  abbrev x : ℕ
+  x = number_of c
+
+  abbrev e : ℕ
+  e = executed c.node.learner
+
+  abbrev b : BallotValue
+  b = next_ballot c.node
+
+  abbrev prepare : Content
+  prepare = content.Node x (prepare_by c.node)
+
+  abbrev heard : List (ℕ × PromiseValue)
+  heard = map (λ (r : ReplicaValue). (number_of r, promise_in c.node r)) (c ∷ others)
+
+  abbrev own_votes : List Vote
+  own_votes = votes_from (e + 1) c.node.acceptor.state.votes
+
+  -- ---- the tick
+
+  record Began : Type 0 where
+    after : ReplicaValue
+    is : IsUpAs run.ticked x after
+    knows : Knows set e highest after.node
+    stands : Stands b e highest own_votes after.node
+    has : HasTerm b after.node
+    stay : (j : ℕ) (life : Life ReplicaValue) → (j ≡ x → ⊥) → Lives first j life → Lives run.ticked j life
+    genesis : run.ticked.genesis ≡ first.genesis
+
+  module _ (s : TakesStep m IsText first x Tick run.ticked) where
+    found : IsFound c s.start
+    found = subst (λ (q : ReplicaValue). IsFound q s.start)
+        (one_replica m IsText first k.holds x s.before c s.was k.up) s.found
+
+    start_due : IsDue s.start
+    start_due = found_has c s.start found IsDue
+        (λ d. record { idle = d.idle; waited = d.waited; round = d.round; position = d.position }) k.candidate_is.due
+
+    ballot : next_ballot s.start ≡ b
+    ballot = found_tells c s.start found (λ node. next_ballot s.start ≡ next_ballot node) (λ q. q) refl
+
+    asks : AsksWindow s.start s.last s.out
+    asks = asks_law s.start s.last s.out start_due s.steps
+
+    begins : BeginsWhereDue (ticked s.start) s.last s.out
+    begins =
+        let ticks : Ticks s.start s.last s.out = s.steps in
+        elim ticks [ inl t ↦ absurd (cc (sym start_due.idle ∙ t.1.1)) | inr t ↦ t.1 ]
+
+    after_is : s.after.node ≡ beginning (next_ballot s.start) (ticked s.start)
+    after_is = s.left.rests (begun_rests (ticked s.start) s.last s.out begins) ∙ asks.becomes
+
+    start_waiting : s.start.leader.waiting ≡ []
+    start_waiting = found_has c s.start found (λ node. node.leader.waiting ≡ []) (λ q. q) k.candidate_is.waiting
+
+    start_knows : Knows set e highest s.start
+    start_knows = found_has c s.start found (Knows set e highest) (knows_snapshot set e highest c.node) (record {
+      reach = refl;
+      members = k.candidate_is.members;
+      fixed = k.candidate_is.fixed;
+      named = k.candidate_is.named;
+      known = k.candidate_is.known;
+      unchanged = k.candidate_is.unchanged;
+      keeps = k.candidate_is.keeps;
+      pairs = k.candidate_is.pairs;
+    })
+
+    start_stands : Stands b e highest own_votes s.start
+    start_stands = found_has c s.start found (Stands b e highest own_votes)
+        (stands_snapshot b e highest own_votes c.node) (record {
+          behind = omega arith;
+          near = k.candidate_is.near;
+          left = k.candidate_is.votes;
+          reports = refl;
+        })
+
+    began_by : Began
+    began_by = record {
+      after = s.after;
+      is = s.is;
+      knows = knows_alike set e highest s.start s.after.node (ap (λ (n : NodeValue). n.learner) after_is)
+          (ap (λ (n : NodeValue). n.header) after_is) start_knows;
+      stands = stands_promised b (next_ballot s.start) e highest own_votes s.start s.after.node
+          (ap (λ (n : NodeValue). n.acceptor) after_is) (ap (λ (n : NodeValue). n.learner) after_is) start_stands;
+      has = record {
+        current = ap (λ (n : NodeValue). n.leader.term) after_is ∙ ap (λ (y : BallotValue). Some (begun y)) ballot;
+        waiting = ap (λ (n : NodeValue). n.leader.waiting) after_is ∙ start_waiting;
+        promised = ap (λ (n : NodeValue). n.acceptor.state.promised) after_is ∙ ballot;
+      };
+      stay = s.others;
+      genesis = s.genesis;
+    }
+
+  began : Began
+  began = began_by (event_steps m IsText first run.ticked (event.Tick x) x Tick run.ticks (refl, refl))
+
+  -- ---- the promises
+
+  taken : EachHeard m IsText prepare (map number_of (c ∷ others)) run.ticked run.asked
+  taken = each_heard m IsText prepare (map number_of (c ∷ others)) run.ticked run.asked run.ticks.after tt k.distinct
+      run.asks
+
+  own : HeardIt m IsText x prepare began.after run.asked
+  own = taken.heard x began.after (0, omega arith, refl) began.is
+
+  abbrev start : NodeValue
+  start = own.start
+
+  abbrev second : NodeValue
+  second = own.after.node
+
+  own_knows : Knows set e highest start
+  own_knows = found_has began.after start own.found (Knows set e highest)
+      (knows_snapshot set e highest began.after.node) began.knows
+
+  own_has : HasTerm b start
+  own_has = found_has began.after start own.found (HasTerm b)
+      (λ h. record { current = h.current; waiting = h.waiting; promised = h.promised }) began.has
+
+  own_promise : PromisesFrom start x b e highest own_votes second own.out
+  own_promise = promises_from m IsText prepare_law start second x b e highest own_votes own.out
+      (found_has began.after start own.found (Stands b e highest own_votes)
+      (stands_snapshot b e highest own_votes began.after.node) began.stands) (inr own_has.promised) own.takes
+
+  still_begun : StillBegun b start second
+  still_begun = own_prepare m IsText start second x b e highest own_votes set own.out own_promise own_has own_knows
+      own.takes
+
+  second_knows : Knows set e highest second
+  second_knows = knows_alike set e highest start second own_promise.promises.learner still_begun.header own_knows
+
+  second_term : second.leader.term ≡ Some (begun b)
+  second_term = ap (λ (l : LeaderValue). l.term) still_begun.leader ∙ own_has.current
+
+  some : 1 ≤ alpha second.learner
+  some = some_set second.learner.whole.roster set second_knows.members
+
+  own_header : start.header ≡ header_of run.ticked.genesis x
+  own_header = found_header began.after start own.found
+      ∙ has_header m IsText run.ticked run.ticks.after x began.after began.is
+
+  own_sent : HasSentTo run.asked x x (kinds.Promise (promise_in c.node c))
+  own_sent = sent_as run.ticked run.asked x x start (kinds.Promise (promise_in c.node c)) own_header taken.genesis
+      (own.sent (letter_to start (kinds.Promise (promise_in c.node c)) x) own_promise.told)
+
+  -- another node
+  module _ (r : ReplicaValue) (other : Contains others r) where
+    number_in : Contains (map number_of others) (number_of r)
+    number_in = map_has number_of others r other
+
+    apart : number_of r ≡ x → ⊥
+    apart is = k.distinct.0 (subst (λ (j : ℕ). Contains (map number_of others) j) is number_in)
+
+    abbrev their_votes : List Vote
+    their_votes = votes_from (e + 1) r.node.acceptor.state.votes
+
+    abbrev near_voter : IsNearVoter r.node b e highest
+    near_voter = k.voters r other
+
+    promising : HeardIt m IsText (number_of r) prepare r run.asked
+    promising = taken.heard (number_of r) r (contains_more x (map number_of others) (number_of r) number_in)
+        (began.stay (number_of r) (Up r) apart (k.others_up r other))
+
+    their_promise : PromisesFrom promising.start x b e highest their_votes promising.after.node promising.out
+    their_promise = promises_from m IsText prepare_law promising.start promising.after.node x b e highest their_votes
+        promising.out
+        (found_has r promising.start promising.found (Stands b e highest their_votes)
+        (stands_snapshot b e highest their_votes r.node) (record {
+          behind = near_voter.behind;
+          near = near_voter.near;
+          left = near_voter.votes;
+          reports = refl;
+        }))
+        (found_has r promising.start promising.found (λ node. IsAtMost node.acceptor.state.promised b) (λ q. q)
+        near_voter.ballot) promising.takes
+
+    their_sent : HasSentTo run.asked (number_of r) x (kinds.Promise (promise_in c.node r))
+    their_sent = sent_as first run.asked (number_of r) x promising.start (kinds.Promise (promise_in c.node r))
+        (found_header r promising.start promising.found
+        ∙ has_header m IsText first k.holds (number_of r) r (k.others_up r other))
+        (taken.genesis ∙ began.genesis)
+        (promising.sent (letter_to promising.start (kinds.Promise (promise_in c.node r)) x) their_promise.told)
+
+    they_reach : highest < executed promising.after.node.learner + 2 * alpha promising.after.node.learner
+    they_reach = subst (λ (l : LearnerValue). highest < executed l + 2 * alpha l)
+        (sym their_promise.promises.learner)
+        (found_has r promising.start promising.found
+        (λ node. highest < executed node.learner + 2 * alpha node.learner) (λ q. q) near_voter.reaches)
+
+  all_sent : (r : ReplicaValue) → Contains (c ∷ others) r
+      → HasSentTo run.asked (number_of r) x (kinds.Promise (promise_in c.node r))
+  all_sent r d = elim (cons_cases c others r d) [
+    | inl is ↦ subst (λ (q : ReplicaValue). HasSentTo run.asked (number_of q) x (kinds.Promise (promise_in c.node q)))
+        is own_sent
+    | inr other ↦ their_sent r other
+  ]
+
+  -- ---- the candidate takes them
+
+  chain : ShadowTakesAll m IsText x (promises heard) second run.asked last
+  chain = shadow_in_turn m IsText x (promises heard) second run.asked last own.after taken.holds own.is
+      (shadows_itself second some own_promise.stands.near.snapshot)
+      (each_promise InstallsNothing (λ n p. tt) heard)
+      (each_promise (λ y. (i : ℕ) → IsPlain i y) (λ n p i. tt) heard) run.leads
+
+  -- what is heard was promised
+  was_promised : (h : ℕ × PromiseValue) → Contains heard h
+      → (r : ReplicaValue) × Contains (c ∷ others) r × ((number_of r, promise_in c.node r) ≡ h)
+  was_promised h d = map_contains (λ (r : ReplicaValue). (number_of r, promise_in c.node r)) (c ∷ others) h d
+
+  leftovers : (r : ReplicaValue) → Contains (c ∷ others) r → AreLeftovers r.node b e highest
+  leftovers r d = elim (cons_cases c others r d) [
+    | inl is ↦ subst (λ (q : ReplicaValue). AreLeftovers q.node b e highest) is k.candidate_is.votes
+    | inr other ↦ (k.voters r other).votes
+  ]
+
+  begun_as : HasBegun second (begun b) set
+  begun_as = record {
+    current = second_term;
+    none_received = refl;
+    none_proposed = refl;
+    waiting = ap (λ (l : LeaderValue). l.waiting) still_begun.leader ∙ own_has.waiting;
+    members = second_knows.members;
+    fixed = second_knows.fixed;
+    named = second_knows.named;
+    keeps = second_knows.keeps;
+    unchanged = second_knows.unchanged;
+    known = second_knows.known;
+    room = omega (arith, second_knows.reach, k.candidate_is.within, k.room);
+  }
+
+  may_be_heard : MayBeHeard second (begun b) heard
+  may_be_heard = record {
+    usable = record {
+      ballot = λ h d. let r = was_promised h d in ap (λ (g : ℕ × PromiseValue). g.1.ballot) (sym r.2);
+      first = λ h d.
+          let r = was_promised h d in
+          let at : h.1.first ≡ e + 1 = ap (λ (g : ℕ × PromiseValue). g.1.first) (sym r.2) in
+          omega (arith, at, second_knows.reach);
+      before = λ q d. absurd (omega (arith, d.1));
+    };
+    keeps = λ h d v in_votes.
+        let r = was_promised h d in
+        let there = above_from (e + 1) r.0.node.acceptor.state.votes v
+        (subst (λ (g : ℕ × PromiseValue). Contains g.1.votes v) (sym r.2) in_votes) in
+        (leftovers r.0 r.1).keeps v there.0 (omega (arith, there.1));
+  }
+
+  leads : LeadsToFill second (begun b) set chain.shadow_after
+  leads = fills_law second chain.shadow_after (begun b) set heard chain.letters begun_as still_begun.idle may_be_heard
+      (subst (λ (ns : List ℕ). IsMajority ns set) (sym (numbers_of c.node (c ∷ others))) k.majority) chain.takes
+
+  -- ---- what that leaves
+
+  abbrev last_node : NodeValue
+  last_node = chain.shadow_after
+
+  abbrev F : Vote → Type 0
+  F y = (n : ℕ) → Contains (nodes_of set) n → HasSentTo last x n (kinds.Accept y)
+
+  abbrev G : Vote → Type 0
+  G y = y.position ≤ highest
+
+  told : (y : Vote)
+      → ((n : ℕ) → Contains (nodes_of set) n → Tells second.header chain.letters (kinds.Accept y) n) → F y
+  told y each n d =
+      let s : Tells second.header chain.letters (kinds.Accept y) n = each n d in
+      sent_as run.asked last x n s.node (kinds.Accept y)
+      (s.header ∙ has_header m IsText run.asked taken.holds x own.after own.is) chain.genesis
+      (among x chain.letters run.asked last chain.sent (letter_to s.node (kinds.Accept y) n) s.told)
+
+  one_term : (u : TermValue) → second.leader.term ≡ Some u → begun b ≡ u
+  one_term u is = let q : Some (begun b) ≡ Some u = sym second_term ∙ is in cc q
+
+  offers_before : Offers b second.header second.acceptor F G second
+  offers_before = record {
+    header = refl;
+    acceptor = refl;
+    ballot = λ u is. ap (λ (w : TermValue). w.ballot) (sym (one_term u is));
+    offered = λ u is p d. absurd (none_in p (subst (λ (w : TermValue). Contains w.proposals p) (sym (one_term u is)) d));
+    reported = λ u is q d. absurd (none_heard q
+        (subst (λ (w : TermValue). Contains w.received q) (sym (one_term u is)) d));
+  }
+    where
+      none_in : (p : ProposalValue) → Contains [] p → ⊥
+      none_in p d = omega (arith, d.1)
+
+      none_heard : (q : ReceivedPromise) → Contains [] q → ⊥
+      none_heard q d = omega (arith, d.1)
+
+  offers : Offers b second.header second.acceptor F G last_node
+  offers = promises_offer b second.header second.acceptor F G set chain.letters told m IsText heard second last_node
+      chain.letters
+      (λ h d v in_votes.
+      let r = was_promised h d in
+      (leftovers r.0 r.1).low v (above_from (e + 1) r.0.node.acceptor.state.votes v
+      (subst (λ (g : ℕ × PromiseValue). Contains g.1.votes v) (sym r.2) in_votes)).0)
+      chain.takes second_knows.fixed (λ l d. d) offers_before
+
+  last_reach : executed last_node.learner ≡ e
+  last_reach = ap (λ (l : LearnerValue). executed l) leads.learner ∙ second_knows.reach
+
+  after_reach : executed chain.after.node.learner ≡ e
+  after_reach = sym (ap (λ (n : NodeValue). executed n.learner) chain.shadows.is) ∙ last_reach
+
+  own_voter : IsVoterAt last_node b (e + 1)
+  own_voter =
+      let v : IsVoterAt second b (e + 1) = then_votes start second x b e highest own_votes own.out own_promise
+      (omega (arith, second_knows.reach, some)) in
+      record {
+        near = subst (λ (l : LearnerValue). AreNear last_node.acceptor l) (sym leads.learner)
+            (subst (λ (a : AcceptorValue). AreNear a second.learner) (sym offers.acceptor) v.near);
+        ballot = subst (λ (a : AcceptorValue). IsAtMost a.state.promised b) (sym offers.acceptor) v.ballot;
+        above = omega (arith, last_reach);
+        within = omega (arith, last_reach, ap (λ (l : LearnerValue). alpha l) leads.learner, some);
+        older = subst (λ (a : AcceptorValue). (y : Vote) → Contains a.state.votes y → e + 1 ≤ y.position
+            → IsBelow y.ballot b) (sym offers.acceptor) v.older;
+      }
+
+  voter_in : (r : ReplicaValue) → Contains others r
+      → VotesIn last leads.term.ballot (executed chain.after.node.learner + 1) highest (number_of r)
+  voter_in r other = record {
+    replica = (promising r other).after;
+    up = chain.others (number_of r) (Up (promising r other).after) (apart r other) (promising r other).is;
+    votes = subst (λ (y : BallotValue). IsVoterAt (promising r other).after.node y
+        (executed chain.after.node.learner + 1)) (sym leads.ballot)
+        (subst (λ (i : ℕ). IsVoterAt (promising r other).after.node b (i + 1)) (sym after_reach)
+        (then_votes (promising r other).start (promising r other).after.node x b e highest
+        (votes_from (e + 1) r.node.acceptor.state.votes) (promising r other).out (their_promise r other)
+        (omega (arith, they_reach r other, k.candidate_is.within))));
+    reaches = they_reach r other;
+  }
+
+  voters : (n : ℕ) → Contains (map number_of others) n
+      → VotesIn last leads.term.ballot (executed chain.after.node.learner + 1) highest n
+  voters n d =
+      let r = map_contains number_of others n d in
+      subst (VotesIn last leads.term.ballot (executed chain.after.node.learner + 1) highest) r.2 (voter_in r.0 r.1)
+
+  filling : IsFilling m IsText last x chain.after leads.term set (map number_of others) highest
+  filling = record {
+    holds = chain.holds;
+    up = chain.is;
+    fills = fills_itself last_node chain.after.node leads.term set chain.shadows leads.fills;
+    own = votes_itself last_node chain.after.node leads.term.ballot (executed chain.after.node.learner + 1)
+        chain.shadows (subst (λ (y : BallotValue). IsVoterAt last_node y (executed chain.after.node.learner + 1))
+        (sym leads.ballot) (subst (λ (i : ℕ). IsVoterAt last_node b (i + 1)) (sym after_reach) own_voter));
+    voters = voters;
+    distinct = k.distinct;
+    majority = k.majority;
+    within = omega (arith, after_reach, k.candidate_is.within);
+    room = k.room;
+    pairs = subst (λ (ps : List Pair). (p : Pair) → Contains ps p → p.0 ≤ highest)
+        (ap (λ (n : NodeValue). n.learner.pairs) chain.shadows.is)
+        (subst (λ (l : LearnerValue). (p : Pair) → Contains l.pairs p → p.0 ≤ highest) (sym leads.learner)
+        second_knows.pairs);
+    reported = λ q d. offers.reported leads.term leads.fills.leads.leads.current q d;
+    sent = λ p d n j. subst (λ (y : BallotValue). HasSentTo last x n (kinds.Accept (vote_in y p)))
+        (sym leads.ballot) (offers.offered leads.term leads.fills.leads.leads.current p d n j);
+  }
+
+  began_in : BeginsIn x c.node run.ticked
+  began_in = tick_begins m IsText asks_law first run.ticked x c k.up k.candidate_is.due run.ticks
+
+  collected : HasCollected m IsText c set others highest first last run
+  collected = record {
+    asks = λ n d above. began_in.asks n above
+        (named_by c.node.learner.whole.roster.sets set n
+        (next_set c.node.learner.whole.roster set k.candidate_is.members) (node_named set n d));
+    promises = all_sent;
+    leader = chain.after;
+    term = leads.term;
+    ballot = leads.ballot;
+    executed_is = after_reach;
+    fills = filling;
+  }
+
+pub candidate_fills : (m : Meaning) (IsText : List ℕ → Type 0) → DueNodeAsks → PrepareIsPromisedOrRejected m IsText
+    → PromisedCandidateFills m IsText → CandidateFillsIn m IsText
+candidate_fills m IsText asks_law prepare_law fills_law c set others highest first last k run =
+    collected m IsText asks_law prepare_law fills_law c set others highest first last k run

@@ -1,0 +1,7 @@
+mod Keeping
+mod Filling
+mod Serving
+mod Collecting
+mod Exchanging
+mod Fixed
+mod Persisting

@@ -1,0 +1,102 @@
+-- One exchange in a world in which votes of earlier ballots are left, from a tick to an answer.
+use Rattle.std.specs.Prelude.{◌≡◌, ℕ, ◌+◌, ◌≤◌, true, false, Some, List, [], ◌∷◌, map, length, Contains}
+use Rattle.lk_types.specs.declared.command.Request.{Request as RequestValue}
+use Rattle.lk_types.specs.declared.member.Member.{Member}
+use Rattle.lk_types.specs.declared.vote.Vote.{Vote}
+use Rattle.lk_messages.specs.declared.message.NodeMessage.TheVariants as kinds
+use Rattle.lk_members.specs.Nodes.{nodes_of}
+use Rattle.lk_state.specs.Meanings.{Meaning}
+use Rattle.lk_state.specs.Sessions.{session_of, is_new}
+use Rattle.lk_leader.specs.Terms.{TermValue}
+use Rattle.lk_leader.specs.Values.{has_vote_from}
+use Rattle.lk_learner.specs.Learners.{executed}
+use Rattle.lk_replica.specs.ReplicaValue.{ReplicaValue}
+use Rattle.lk_sim.specs.Scenes.{Scene}
+use Rattle.lk_world_progress.specs.Balloting.{HasSentTo}
+use Rattle.lk_world_progress.specs.Exchanging.{number_of}
+use Rattle.lk_world_progress.specs.Stepping.{IsUpAs}
+use Rattle.lk_world_leftovers.specs.Answering.{IsServed, Serves}
+use Rattle.lk_world_leftovers.specs.Collecting.{Collects, HasCollected, HasLeftovers}
+use Rattle.lk_world_leftovers.specs.Filling.{Fills, IsFilling, IsNextVote}
+
+-- ---- one position after another
+
+-- the vote is for what the leader of this number has proposed at its next position
+abbrev pub IsNextIn : Scene ReplicaValue → ℕ → Vote → Type 0
+IsNextIn w x v =
+    (r : ReplicaValue) × (t : TermValue) × IsUpAs w x r × (r.node.leader.term ≡ Some t) × IsNextVote r.node t v
+
+-- each of these votes is for the next position when its turn comes, and the nodes fill that position
+abbrev pub FillsInTurn : Meaning → (List ℕ → Type 0) → ℕ → List ℕ → List Vote → Scene ReplicaValue
+    → Scene ReplicaValue → Type 0
+FillsInTurn m IsText x nodes [] old new = new ≡ old
+FillsInTurn m IsText x nodes (v ∷ vs) old new =
+    (mid : Scene ReplicaValue) × IsNextIn old x v × Fills m IsText x nodes v old mid
+    × FillsInTurn m IsText x nodes vs mid new
+
+-- before each position is filled the Accept of its vote has been sent to each member, and then each reply
+abbrev pub AreOffered : (m : Meaning) (IsText : List ℕ → Type 0) (x : ℕ) (set : List Member) (nodes : List ℕ)
+    (vs : List Vote) (old new : Scene ReplicaValue) → FillsInTurn m IsText x nodes vs old new → Type 0
+AreOffered m IsText x set nodes [] old new k = Unit {0}
+AreOffered m IsText x set nodes (v ∷ vs) old new k =
+    ((n : ℕ) → Contains (nodes_of set) n → HasSentTo old x n (kinds.Accept v))
+    × ((n : ℕ) → Contains nodes n → HasSentTo k.2.accepted n x (kinds.Accepted v))
+    × AreOffered m IsText x set nodes vs k.0 new k.3
+
+-- the leader still leads in the ballot, and each position filled has brought it on. So at most as many are filled as
+-- are left up to the last
+pub record HaveFilled (m : Meaning) (IsText : List ℕ → Type 0) (x : ℕ) (leader : ReplicaValue) (t : TermValue)
+    (set : List Member) (others : List ℕ) (last : ℕ) (vs : List Vote) (old new : Scene ReplicaValue)
+    (k : FillsInTurn m IsText x (x ∷ others) vs old new) : Type 0 where
+  pub offered : AreOffered m IsText x set (x ∷ others) vs old new k
+  pub after : ReplicaValue
+  pub term : TermValue
+  pub ballot : term.ballot ≡ t.ballot
+  pub received : term.received ≡ t.received
+  pub moves : executed leader.node.learner + length vs ≤ executed after.node.learner
+  pub fills : IsFilling m IsText new x after term set others last
+
+abbrev pub LeftoversAreFilled : Meaning → (List ℕ → Type 0) → Type 0
+LeftoversAreFilled m IsText = (x : ℕ) (leader : ReplicaValue) (t : TermValue) (set : List Member) (others : List ℕ)
+    (last : ℕ) (vs : List Vote) (old new : Scene ReplicaValue) → IsFilling m IsText old x leader t set others last
+    → (k : FillsInTurn m IsText x (x ∷ others) vs old new)
+    → HaveFilled m IsText x leader t set others last vs old new k
+
+-- ---- the whole exchange
+
+-- The candidate takes a tick, each node its Prepare, and the candidate their promises. Then they fill one position
+-- after another, until no vote is reported at the leader's next position or above it, and serve a client's request.
+-- Nothing else happens meanwhile, but any of these nodes may have a rebase due.
+pub record Exchanges (m : Meaning) (IsText : List ℕ → Type 0) (candidate : ReplicaValue) (r : RequestValue)
+    (others : List ReplicaValue) (first last : Scene ReplicaValue) : Type 0 where
+  pub promised : Scene ReplicaValue
+  pub collects : Collects m IsText candidate others first promised
+  pub votes : List Vote
+  pub filled : Scene ReplicaValue
+  pub fills : FillsInTurn m IsText (number_of candidate) (map number_of (candidate ∷ others)) votes promised filled
+  pub leader : ReplicaValue
+  pub is : IsUpAs filled (number_of candidate) leader
+  pub term : TermValue
+  pub current : leader.node.leader.term ≡ Some term
+  pub none_left : has_vote_from term.received (executed leader.node.learner + 1) ≡ false
+  pub serves : Serves m IsText (number_of candidate) leader term r (map number_of others) filled last
+
+-- Each datagram that is delivered was sent before, there are at most as many positions to fill as lie between what the
+-- candidate has executed and the last vote, and in the end the request is answered, and that is noted.
+pub record LeftoversAnswer (m : Meaning) (IsText : List ℕ → Type 0) (candidate : ReplicaValue) (set : List Member)
+    (r : RequestValue) (others : List ReplicaValue) (highest : ℕ) (first last : Scene ReplicaValue)
+    (k : Exchanges m IsText candidate r others first last) : Type 0 where
+  pub collected : HasCollected m IsText candidate set others highest first k.promised k.collects
+  pub offered : AreOffered m IsText (number_of candidate) set (map number_of (candidate ∷ others)) k.votes k.promised
+      k.filled k.fills
+  pub few : executed candidate.node.learner + length k.votes ≤ highest
+  pub served : IsServed m IsText (number_of candidate) k.leader k.term set r (map number_of others) k.filled last
+      k.serves
+
+abbrev pub WorldWithLeftoversAnswers : Meaning → (List ℕ → Type 0) → Type 0
+WorldWithLeftoversAnswers m IsText = (candidate : ReplicaValue) (set : List Member) (r : RequestValue)
+    (others : List ReplicaValue) (highest : ℕ) (first last : Scene ReplicaValue)
+    → HasLeftovers m IsText first candidate set others highest
+    → (k : Exchanges m IsText candidate r others first last)
+    → is_new (session_of r.client k.leader.node.learner.whole.sessions) r.number ≡ true
+    → LeftoversAnswer m IsText candidate set r others highest first last k

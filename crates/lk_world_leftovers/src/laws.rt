@@ -1,0 +1,129 @@
+//! Laws about worlds in which votes of earlier ballots are left: each is the contract of a function that does nothing
+//! but call the laws on which it rests.
+ghost use Rattle.lk_world_leftovers.specs.Answering.{ReadyLeaderAnswers};
+ghost use Rattle.lk_world_leftovers.specs.Collecting.{CandidateFillsIn};
+ghost use Rattle.lk_world_leftovers.specs.Exchanging.{LeftoversAreFilled, WorldWithLeftoversAnswers};
+ghost use Rattle.lk_world_leftovers.specs.Fixed.{FixedWorldHasLeftovers, NodesKnowMembers, VotesAreOlder};
+ghost use Rattle.lk_world_leftovers.specs.Filling.{FillingLeaderOffers, PositionIsFilled};
+ghost use Rattle.lk_world_leftovers.specs.Persisting.{PersistingCandidateAnswers, RejectionsAreFew};
+ghost use Rattle.lk_world_leftovers.specs.Persisting.{RestartedNodesContend};
+
+use lk_leftovers::laws::{
+    a_filled_leader_is_ready, a_leader_accepts_its_own, a_leader_fills_on,
+    a_promised_candidate_fills, a_voter_accepts_and_stays,
+};
+use lk_progress::laws::{
+    a_due_node_asks_its_window, a_fresh_request_is_proposed, a_near_node_accepts,
+    a_prepare_is_promised_or_rejected_for_a_cause, an_accepted_request_is_answered,
+};
+use lk_state::Machine;
+use lk_world_progress::laws::{
+    a_delivered_rejection_raises, a_rejected_candidate_has_fewer_rivals,
+};
+
+// ---- a majority promises
+
+/// A due candidate that takes a tick and the promises of a majority, whatever votes of earlier ballots they report,
+/// leads and fills up. It has sent each member an Accept of all that it has proposed by then.
+pub fn a_candidate_fills_in_a_world<M: Machine>()
+    ensures { CandidateFillsIn M.meaning M.IsText }
+{
+    a_due_node_asks_its_window();
+    a_prepare_is_promised_or_rejected_for_a_cause::<M>();
+    a_promised_candidate_fills::<M>();
+}
+
+// ---- one position after another
+
+/// While a vote is reported at a leader's next position or above it, it has proposed a command there, and has sent each
+/// member an Accept of it.
+pub fn a_filling_leader_offers<M: Machine>()
+    ensures { FillingLeaderOffers M.meaning M.IsText }
+{
+    a_leader_fills_on::<M>();
+}
+
+/// Once each node has taken that Accept, and the leader their replies, it has executed more and fills on, and they are
+/// voters at its next position.
+pub fn a_position_is_filled<M: Machine>()
+    ensures { PositionIsFilled M.meaning M.IsText }
+{
+    a_leader_accepts_its_own::<M>();
+    a_leader_fills_on::<M>();
+    a_voter_accepts_and_stays::<M>();
+}
+
+/// So one position after another is filled, and at most as many as are left.
+pub fn leftovers_are_filled<M: Machine>()
+    ensures { LeftoversAreFilled M.meaning M.IsText }
+{
+    a_position_is_filled::<M>();
+}
+
+// ---- an answer
+
+/// A leader that is ready answers a fresh request within four deliveries: the request, the Accept, the Accepted and the
+/// answer.
+pub fn a_ready_leader_answers<M: Machine>()
+    ensures { ReadyLeaderAnswers M.meaning M.IsText }
+{
+    a_fresh_request_is_proposed::<M>();
+    a_near_node_accepts::<M>();
+    an_accepted_request_is_answered::<M>();
+}
+
+/// A world in which votes of earlier ballots are left answers a fresh request after one exchange: the candidate's tick,
+/// the promises of a majority, one position after another, and the request.
+pub fn a_world_with_leftovers_answers<M: Machine>()
+    ensures { WorldWithLeftoversAnswers M.meaning M.IsText }
+{
+    a_candidate_fills_in_a_world::<M>();
+    leftovers_are_filled::<M>();
+    a_filled_leader_is_ready();
+    a_ready_leader_answers::<M>();
+}
+
+// ---- members that never changed
+
+/// If nobody has asked to change the members, each node knows those of the genesis at each position of its window, and
+/// no command that it keeps changes them.
+pub fn nodes_know_their_members<M: Machine>()
+    ensures { NodesKnowMembers M.meaning M.IsText }
+{}
+
+/// The votes of a node that has promised no ballot above the next one of another node are of smaller ballots than that.
+pub fn votes_are_older<M: Machine>()
+    ensures { VotesAreOlder M.meaning M.IsText }
+{}
+
+/// In such a world a due candidate that nobody of a majority is ahead of meets the premises of the laws above.
+pub fn a_fixed_world_has_leftovers<M: Machine>()
+    ensures { FixedWorldHasLeftovers M.meaning M.IsText }
+{}
+
+// ---- rejections
+
+/// The rivals that reject a candidate, one after another, are all different, so they are at most as many as the others.
+pub fn rejections_are_few<M: Machine>()
+    ensures { RejectionsAreFew M.meaning M.IsText }
+{
+    a_due_node_asks_its_window();
+    a_delivered_rejection_raises::<M>();
+    a_rejected_candidate_has_fewer_rivals::<M>();
+}
+
+/// A candidate that nobody of a majority is ahead of answers a fresh request after at most as many rejections as there
+/// are others, and one exchange.
+pub fn a_persisting_candidate_answers<M: Machine>()
+    ensures { PersistingCandidateAnswers M.meaning M.IsText }
+{
+    rejections_are_few::<M>();
+    a_fixed_world_has_leftovers::<M>();
+    a_world_with_leftovers_answers::<M>();
+}
+
+/// Nodes that have restarted, whatever they did before, meet the premises of these laws if nobody of them has executed
+/// more than the candidate, and their votes and pairs are near.
+pub fn restarted_nodes_contend<M: Machine>()
+    ensures { RestartedNodesContend M.meaning M.IsText }
+{}
