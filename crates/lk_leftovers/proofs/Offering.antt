@@ -1,6 +1,6 @@
 -- A leader sends each member an Accept of what it proposes, and what else its steps leave.
-use Rattle.std.proofs.Common.{◌≡◌, ◌∙◌, ◌⊎◌, inl, inr, ℕ, ◌+◌, ◌<◌, ◌≤◌, Bool, true, false, cond}
-use Rattle.std.proofs.Common.{List, [], ◌∷◌, ◌++◌, Option, Some, None, Contains, map, length, refl, ap, sym, subst}
+use Rattle.std.proofs.Common.{◌≡◌, ◌∙◌, ◌⊎◌, inl, inr, ℕ, ◌+◌, ◌≤◌, Bool, true, false, cond}
+use Rattle.std.proofs.Common.{List, [], ◌∷◌, ◌++◌, Option, Some, None, Contains, map, refl, ap, sym, subst}
 use Rattle.std.proofs.Common.{arith, ◌-◌}
 use Rattle.std.proofs.lemmas.List.Elements.{Contains-append_cases, Contains-append_left, Contains-append_right}
 use Rattle.std.proofs.lemmas.Option.{slice_get_within}
@@ -30,7 +30,7 @@ use Rattle.lk_node_interface.specs.Letters.{LetterValue}
 use Rattle.lk_node_interface.specs.Outboxes.{OutboxValue}
 use Rattle.lk_node.proofs.Nodes.{map_has}
 use Rattle.lk_node.specs.Deciding.{HandlesAccepted, IsForProposal, with_vote}
-use Rattle.lk_node.specs.Executing.{EndsWaitIfAny, Executes, NothingToRun, Runs, stays, goes_on, is_outside}
+use Rattle.lk_node.specs.Executing.{EndsWaitIfAny, NothingToRun, Runs, stays, goes_on, is_outside}
 use Rattle.lk_node.specs.Executing.{without_term_if_outside}
 use Rattle.lk_node.specs.Leading.{DropsPromise, ProposesAll, ProposesVote, RecordsPromise, having_proposed}
 use Rattle.lk_node.specs.Leading.{received_from}
@@ -370,7 +370,8 @@ module _ (b : BallotValue) (whose : HeaderValue) (a : AcceptorValue) (F G : Vote
 
       by_handled : Handled m IsText old (content.Node from (kinds.Accepted x)) new out → Fares new
       by_handled h =
-          let learner : new.learner ≡ h.mid.learner = proposed_learner h.proposes.0 h.mid new h.first out h.proposes.1 in
+          let learner : new.learner ≡ h.mid.learner =
+          proposed_learner h.proposes.0 h.mid new h.first out h.proposes.1 in
           record {
             offers = proposed_offers b whose a F G set all told h.proposes.0 h.mid new h.first out h.proposes.1
                 (subst (λ (l : LearnerValue). AreAll l.whole.roster.sets set) learner later.0.fixed) more

@@ -84,7 +84,8 @@ ran_fixed m (Request r) w set keeps some all = by_test (is_new (session_of r.cli
 
 -- ---- what a leader keeps
 
-pub record Keeps (set : List Member) (b : BallotValue) (received : List ReceivedPromise) (node : NodeValue) : Type 0 where
+pub record Keeps (set : List Member) (b : BallotValue) (received : List ReceivedPromise) (node : NodeValue)
+    : Type 0 where
   pub term : TermValue
   pub current : node.leader.term ≡ Some term
   pub ballot : term.ballot ≡ b
@@ -204,8 +205,8 @@ module _ (set : List Member) (b : BallotValue) (received : List ReceivedPromise)
 
   -- ---- an acceptance, and all of them
 
-  pub one_keeps : (m : Meaning) (IsText : List ℕ → Type 0) (old new : NodeValue) (from : ℕ) (x : Vote) (out : OutboxValue)
-      → Hears m IsText old from (kinds.Accepted x) new out → KeepsMembers x.command
+  pub one_keeps : (m : Meaning) (IsText : List ℕ → Type 0) (old new : NodeValue) (from : ℕ) (x : Vote)
+      (out : OutboxValue) → Hears m IsText old from (kinds.Accepted x) new out → KeepsMembers x.command
       → Keeps set b received old × NothingToRun old → Keeps set b received new × NothingToRun new
   one_keeps m IsText old new from x out takes plain k =
       let h : Handled m IsText old (content.Node from (kinds.Accepted x)) new out =

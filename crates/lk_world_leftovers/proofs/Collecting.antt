@@ -564,7 +564,8 @@ module _ (m : Meaning) (IsText : List ℕ → Type 0) (asks_law : DueNodeAsks)
     header = refl;
     acceptor = refl;
     ballot = λ u is. ap (λ (w : TermValue). w.ballot) (sym (one_term u is));
-    offered = λ u is p d. absurd (none_in p (subst (λ (w : TermValue). Contains w.proposals p) (sym (one_term u is)) d));
+    offered = λ u is p d. absurd (none_in p
+        (subst (λ (w : TermValue). Contains w.proposals p) (sym (one_term u is)) d));
     reported = λ u is q d. absurd (none_heard q
         (subst (λ (w : TermValue). Contains w.received q) (sym (one_term u is)) d));
   }

@@ -97,8 +97,9 @@ module _ (m : Meaning) (IsText : List ℕ → Type 0) where
         run.is run.term run.current
 
     filling : IsFilling m IsText run.filled x run.leader run.term set (map number_of others) highest
-    filling = subst (λ (q : ReplicaValue). IsFilling m IsText run.filled x q run.term set (map number_of others) highest)
-        one.0 (subst (λ (t : TermValue). IsFilling m IsText run.filled x filled.after t set (map number_of others)
+    filling = subst
+        (λ (q : ReplicaValue). IsFilling m IsText run.filled x q run.term set (map number_of others) highest) one.0
+        (subst (λ (t : TermValue). IsFilling m IsText run.filled x filled.after t set (map number_of others)
         highest) one.1 filled.fills)
 
     ready_in : IsReadyIn m IsText run.filled x run.leader run.term set (map number_of others)

@@ -171,7 +171,8 @@ module _ (m : Meaning) (IsText : List ℕ → Type 0) (leader_law : LeaderAccept
 
     voted_sent : HasSentTo run.accepted n x (kinds.Accepted v)
     voted_sent = sent_as old run.accepted n x voting.start (kinds.Accepted v)
-        (found_header voter.replica voting.start voting.found ∙ has_header m IsText old k.holds n voter.replica voter.up)
+        (found_header voter.replica voting.start voting.found
+        ∙ has_header m IsText old k.holds n voter.replica voter.up)
         taken.genesis (voting.sent (letter_to voting.start (kinds.Accepted v) x) voted.accepts.told)
 
   -- the leader
@@ -394,7 +395,8 @@ module _ (m : Meaning) (IsText : List ℕ → Type 0) (leader_law : LeaderAccept
   current : last_node.leader.term ≡ Some later_term
   current = later_fills.leads.leads.current
 
-  voters_later : (n : ℕ) → Contains others n → VotesIn new later_term.ballot (executed chain.after.node.learner + 1) last n
+  voters_later : (n : ℕ) → Contains others n
+      → VotesIn new later_term.ballot (executed chain.after.node.learner + 1) last n
   voters_later n other = record {
     replica = (voting n other).after;
     up = chain.others n (Up (voting n other).after) (apart n other) (voting n other).is;

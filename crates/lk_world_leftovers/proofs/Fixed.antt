@@ -1,6 +1,7 @@
 -- What the nodes of a world know if nobody has asked to change the members.
-use Rattle.std.proofs.Common.{◌≡◌, ◌∙◌, inl, inr, ℕ, suc, ◌+◌, ◌-◌, ◌≤◌, ◌&&◌, nat_lt, nat_le, false}
-use Rattle.std.proofs.Common.{List, [], ◌∷◌, Some, Contains, length, refl, ap, sym, subst, arith}
+use Rattle.std.proofs.Common.{◌≡◌, ◌∙◌, inl, inr, ℕ, suc, ◌+◌, ◌-◌, ◌<◌, ◌≤◌, ◌&&◌, nat_lt, nat_le, true, false}
+use Rattle.std.proofs.Common.{List, [], ◌∷◌, Option, Some, None, Contains, length, refl, ap, sym, subst, arith}
+use Rattle.std.proofs.lemmas.Bool.Decides.{nat_tests}
 use Rattle.std.proofs.lemmas.List.Elements.{Contains-append_left, Contains-push}
 use Rattle.std.proofs.lemmas.Option.{slice_get-get_or}
 use Rattle.std.specs.Prelude.{slice_get}
@@ -10,16 +11,18 @@ use Rattle.lk_types.specs.declared.genesis.Genesis.{Genesis}
 use Rattle.lk_types.specs.declared.vote.Vote.{Vote}
 use Rattle.lk_store_format.specs.Values.{HeaderValue}
 use Rattle.lk_messages.specs.declared.message.NodeMessage.TheVariants as kinds
-use Rattle.lk_agreement_laws.proofs.Histories.{at_most_trans, at_most_below, below_self, chosen_was_accepted, contains_more}
-use Rattle.lk_agreement_laws.proofs.Histories.{entry_chosen}
+use Rattle.lk_agreement_laws.proofs.Histories.{at_most_trans, at_most_below, below_self, chosen_was_accepted}
+use Rattle.lk_agreement_laws.proofs.Histories.{contains_more, entry_chosen}
 use Rattle.lk_agreement_laws.specs.Acceptors.{AcceptorState}
 use Rattle.lk_agreement_laws.specs.Chosen.{Chosen, ChosenAt}
 use Rattle.lk_agreement_laws.specs.Datagrams.{HasSent, WasSent}
 use Rattle.lk_members.proofs.Memberships.{set_of_window}
-use Rattle.lk_members.specs.Effects.{Command, Noop, Request}
-use Rattle.lk_state.proofs.Wholes.{by_pushes, ran-whole_after}
+use Rattle.lk_members.specs.Effects.{Command, IsLast, Noop, Request, RequestValue}
+use Rattle.lk_state.proofs.Wholes.{by_pushes, last_is_greatest, ran-whole_after, seen_last}
 use Rattle.lk_state.specs.Meanings.{Meaning}
-use Rattle.lk_state.specs.States.{WholeValue, whole_after}
+use Rattle.lk_state.specs.Sessions.{session_of, is_new}
+use Rattle.lk_state.specs.States.{WholeValue, last_session, whole_after}
+use Rattle.lk_state.specs.declared.session.Session.{Session}
 use Rattle.lk_learner.proofs.Learnerships.{ran_moves}
 use Rattle.lk_learner.specs.Learners.{alpha, executed}
 use Rattle.lk_node.specs.Beginning.{greatest_round, next_ballot}
@@ -39,8 +42,8 @@ use Rattle.lk_world_progress.proofs.Stepping.{has_header, up_fits}
 use Rattle.lk_world_progress.specs.Exchanging.{number_of}
 use Rattle.lk_world_progress.specs.Stepping.{Holds, IsUpAs, Shows, behaviour}
 use Rattle.lk_world_leftovers.specs.Collecting.{AreLeftovers, HasLeftovers}
-use Rattle.lk_world_leftovers.specs.Fixed.{FixedWorldHasLeftovers, KnowsMembers, NobodyChanges, NobodyIsAhead}
-use Rattle.lk_world_leftovers.specs.Fixed.{NodesKnowMembers, VotesAreOlder}
+use Rattle.lk_world_leftovers.specs.Fixed.{FixedWorldHasLeftovers, FreshRequestsAreNew, IsFresh, KnowsMembers}
+use Rattle.lk_world_leftovers.specs.Fixed.{NobodyChanges, NobodyIsAhead, NodesKnowMembers, VotesAreOlder}
 
 -- ---- a list without changes
 
@@ -76,6 +79,46 @@ module _ (m : Meaning) (genesis : Genesis) (some : 1 ≤ genesis.alpha) where
 
 -- ---- what was asked
 
+module _ (m : Meaning) (IsText : List ℕ → Type 0) (w : Scene ReplicaValue) (holds : Holds m IsText w) where
+  chosen_asked : (i : ℕ) (v : Command) → ChosenAt w.genesis w.sent i v
+      → WasAsked (happened w.genesis w.sent w.trace) v
+  chosen_asked i v chosen =
+      let n = chosen_was_accepted w.genesis w.sent i v chosen in
+      holds.proposed (record { position = i; ballot = n.1; command = v })
+      (holds.world.sound.proposed n.0 (record { position = i; ballot = n.1; command = v }) n.2)
+
+  list_asked : (L : List Command) → Chosen w.genesis w.sent L → (v : Command) → Contains L v
+      → WasAsked (happened w.genesis w.sent w.trace) v
+  list_asked L chosen v c = chosen_asked (suc c.0) v
+      (entry_chosen w.genesis w.sent L chosen (suc c.0) v (slice_get-get_or L c.0 v c.1 ∙ ap Some c.2))
+
+  module _ (n : ℕ) (node : ReplicaValue) (r : RequestValue) (up : IsUpAs w n node) (fresh : IsFresh w r) where
+    shown : UpFits (Shows m) (disks_by (behaviour m IsText)) m (happened w.genesis w.sent w.trace) (holds.states n) n
+        node
+    shown = up_fits m IsText w holds n node up
+
+    by_session : (o : Option Session) → session_of r.client node.node.learner.whole.sessions ≡ o
+        → is_new o r.number ≡ true
+    by_session None e = refl
+    by_session (Some s) e =
+        let last : last_session m w.genesis shown.holding.paxos.done r.client ≡ Some s =
+        sym (seen_last m w.genesis shown.holding.paxos.done node.node.learner.whole r.client
+        shown.shown.held.follows.sums) ∙ e in
+        let used : IsLast shown.holding.paxos.done r.client s.number =
+        last_is_greatest m w.genesis shown.holding.paxos.done r.client s last in
+        let less : used.request.number < r.number = fresh used.request
+        (list_asked shown.holding.paxos.done shown.fits.paxos.stems.done (Request used.request) used.used)
+        used.of_client in
+        let same : used.request.number ≡ s.number = used.of_number in
+        let below : s.number < r.number = omega (arith, less, same) in
+        grind (arith, nat_tests)
+
+pub fresh_new : (m : Meaning) (IsText : List ℕ → Type 0) → FreshRequestsAreNew m IsText
+fresh_new m IsText w n node r holds up fresh = by_session m IsText w holds n node r up fresh
+    (session_of r.client node.node.learner.whole.sessions) refl
+
+-- ---- members
+
 module _ (m : Meaning) (IsText : List ℕ → Type 0) (w : Scene ReplicaValue) (holds : Holds m IsText w)
     (changes : NobodyChanges w) where
   asked_keeps : (v : Command) → WasAsked (happened w.genesis w.sent w.trace) v → KeepsMembers v
@@ -86,14 +129,10 @@ module _ (m : Meaning) (IsText : List ℕ → Type 0) (w : Scene ReplicaValue) (
   sent_keeps x sent = asked_keeps x.command (holds.proposed x sent)
 
   chosen_keeps : (i : ℕ) (v : Command) → ChosenAt w.genesis w.sent i v → KeepsMembers v
-  chosen_keeps i v chosen =
-      let n = chosen_was_accepted w.genesis w.sent i v chosen in
-      sent_keeps (record { position = i; ballot = n.1; command = v })
-      (holds.world.sound.proposed n.0 (record { position = i; ballot = n.1; command = v }) n.2)
+  chosen_keeps i v chosen = asked_keeps v (chosen_asked m IsText w holds i v chosen)
 
   list_keeps : (L : List Command) → Chosen w.genesis w.sent L → (v : Command) → Contains L v → KeepsMembers v
-  list_keeps L chosen v c = chosen_keeps (suc c.0) v
-      (entry_chosen w.genesis w.sent L chosen (suc c.0) v (slice_get-get_or L c.0 v c.1 ∙ ap Some c.2))
+  list_keeps L chosen v c = asked_keeps v (list_asked m IsText w holds L chosen v c)
 
   module _ (n : ℕ) (r : ReplicaValue) (up : IsUpAs w n r) where
     fits : UpFits (Shows m) (disks_by (behaviour m IsText)) m (happened w.genesis w.sent w.trace) (holds.states n) n r

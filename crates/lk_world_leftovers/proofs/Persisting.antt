@@ -1,6 +1,7 @@
 -- Rejections leave a candidate and its voters as they were, but for what they have promised.
 use Rattle.std.proofs.Common.{◌≡◌, ◌∙◌, inl, inr, ℕ, zero, suc, ◌+◌, ◌*◌, ◌<◌, ◌≤◌, Bool, true, false, cond}
-use Rattle.std.proofs.Common.{List, [], ◌∷◌, Some, None, map, length, Contains, nat_lt, eqb, refl, ap, sym, subst, arith}
+use Rattle.std.proofs.Common.{List, [], ◌∷◌, Some, None, map, length, Contains, nat_lt, eqb, refl, ap, sym, subst}
+use Rattle.std.proofs.Common.{arith}
 use Rattle.std.proofs.lemmas.Bool.{cases_Bool, eq-eqb, eqb-true}
 use Rattle.std.proofs.lemmas.Bool.Decides.{nat_tests}
 use Rattle.lk_types.specs.BallotValue.{BallotValue}
@@ -16,7 +17,6 @@ use Rattle.lk_agreement_laws.proofs.Histories.{at_most_unless_below, cons_cases,
 use Rattle.lk_members.specs.Majorities.{IsMajority}
 use Rattle.lk_members.specs.Rosters.{is_member}
 use Rattle.lk_state.specs.Meanings.{Meaning}
-use Rattle.lk_state.specs.Sessions.{session_of, is_new}
 use Rattle.lk_state.specs.States.{WholeValue}
 use Rattle.lk_acceptor.specs.AcceptorValue.{AcceptorValue}
 use Rattle.lk_leader.specs.Terms.{LeaderValue, is_term_below}
@@ -34,7 +34,8 @@ use Rattle.lk_node.specs.Waiting.{BeginsWhereDue, ticked}
 use Rattle.lk_node.specs.Yielding.{seeing, with_round, without_term}
 use Rattle.lk_progress.proofs.Proposing.{goes_on_waiting}
 use Rattle.lk_progress.specs.Electing.{AsksWindow, DueNodeAsks, IsDue}
-use Rattle.lk_progress.specs.Exchanges.{prepare_by}
+use Rattle.lk_progress.specs.Beginnings.{NewClustersAreQuiet, StartsQuietly, new_node}
+use Rattle.lk_progress.specs.Exchanges.{IsQuietVoter, prepare_by}
 use Rattle.lk_progress.specs.Hearing.{Takes}
 use Rattle.lk_rebases.proofs.Rebases.{Handled, HasSame, handled, idle_begins, proposed_same, taken_learner}
 use Rattle.lk_replica.specs.ReplicaValue.{ReplicaValue}
@@ -47,15 +48,18 @@ use Rattle.lk_world_progress.proofs.Overtaking.{new_acceptor, responds}
 use Rattle.lk_world_progress.proofs.Rebasing.{begun_rests}
 use Rattle.lk_world_progress.proofs.Stepping.{event_steps, has_header, one_replica}
 use Rattle.lk_world_progress.specs.Balloting.{BeginsIn}
+use Rattle.lk_world_progress.specs.Beginning.{IsNewWorld}
 use Rattle.lk_world_progress.specs.Delivering.{AreDistinct}
 use Rattle.lk_world_progress.specs.Exchanging.{number_of}
 use Rattle.lk_world_progress.specs.Overtaking.{DeliveredNackRaises, GoesAboveIn, HasFewerRivals, IsRejected, IsRival}
 use Rattle.lk_world_progress.specs.Overtaking.{RejectedCandidateHasFewerRivals}
+use Rattle.lk_world_progress.specs.Restarting.{NodesRestart}
 use Rattle.lk_world_progress.specs.Stepping.{GoesWell, Holds, IsFound, IsUpAs, TakesStep}
 use Rattle.lk_world_leftovers.specs.Exchanging.{WorldWithLeftoversAnswers}
-use Rattle.lk_world_leftovers.specs.Fixed.{FixedWorldHasLeftovers, NobodyIsAhead}
+use Rattle.lk_world_leftovers.specs.Fixed.{FixedWorldHasLeftovers, FreshRequestsAreNew, IsFresh, NobodyIsAhead}
 use Rattle.lk_world_leftovers.specs.Persisting.{AreFixed, Contends, HasAnsweredInTime, HasPersisted, IsNoRival}
-use Rattle.lk_world_leftovers.specs.Persisting.{MayFollow, MayLead, RestartedNodesContend}
+use Rattle.lk_world_leftovers.specs.Persisting.{MayFollow, MayLead, NewWorldsContend, RestartedMajorityAnswers}
+use Rattle.lk_world_leftovers.specs.Persisting.{RestartedNodesContend}
 use Rattle.lk_world_leftovers.specs.Persisting.{MayVote, Persists, PersistingCandidateAnswers, RejectionsAreFew}
 use Rattle.lk_world_leftovers.specs.Persisting.{Retries, RetriesInTurn, VotesUpTo, WaitsIn}
 
@@ -113,7 +117,8 @@ seen_keeps b node = by_test (is_term_below b node.leader.term)
     by_test : (t : Bool)
         → ((cond t (without_term (with_round b node)) (with_round b node)).acceptor ≡ node.acceptor)
         × ((cond t (without_term (with_round b node)) (with_round b node)).learner ≡ node.learner)
-        × (node.leader.waiting ≡ [] → (cond t (without_term (with_round b node)) (with_round b node)).leader.waiting ≡ [])
+        × (node.leader.waiting ≡ []
+        → (cond t (without_term (with_round b node)) (with_round b node)).leader.waiting ≡ [])
     by_test true = (refl, refl, λ e. refl)
     by_test false = (refl, refl, λ e. e)
 
@@ -235,6 +240,51 @@ restarted_contend m IsText x e others last old new has holds distinct tell =
       distinct = distinct;
     }
 
+-- ---- a new cluster
+
+module _ (m : Meaning) (IsText : List ℕ → Type 0) (w : Scene ReplicaValue) (c : ReplicaValue) (index ticks : ℕ)
+    (others : List ℕ) (new : IsNewWorld m IsText w c index ticks others)
+    (quiet : StartsQuietly m w.genesis (number_of c) ticks) where
+  abbrev own : NodeValue
+  own = new_node m w.genesis (number_of c) ticks
+
+  none_yet : executed own.learner ≤ 0
+  none_yet = (quiet.others (number_of c) ticks).behind
+
+  on_own : (P : NodeValue → Type 0) → P own → P c.node
+  on_own P p = subst P (sym new.new.1) p
+
+  new_contends : Contends m IsText w (number_of c) 0 others 0
+  new_contends = record {
+    holds = new.holds;
+    candidate = c;
+    up = new.new.0;
+    reach = on_own (λ node. executed node.learner ≡ 0) (omega (arith, none_yet));
+    idle = on_own (λ node. node.leader.term ≡ None) refl;
+    waiting = on_own (λ node. node.leader.waiting ≡ []) refl;
+    known = on_own NothingToRun quiet.candidate.known;
+    near = on_own (λ node. AreNear node.acceptor node.learner) quiet.candidate.near;
+    pairs = on_own (λ node. (p : Pair) → Contains node.learner.pairs p → p.0 ≤ 0) (λ p d. absurd (omega (arith, d.1)));
+    votes = on_own (λ node. VotesUpTo node 0) (quiet.others (number_of c) ticks).votes;
+    others_may = λ n d.
+        let v = new.voters n d in
+        let is : IsQuietVoter (new_node m w.genesis n v.1) (next_ballot own) 0 = quiet.others n v.1 in
+        record {
+          replica = v.0;
+          up = v.2.0;
+          near = subst (λ (node : NodeValue). AreNear node.acceptor node.learner) (sym v.2.1) is.near;
+          behind = subst (λ (node : NodeValue). executed node.learner ≤ 0) (sym v.2.1) is.behind;
+          reaches = subst (λ (node : NodeValue). 0 < executed node.learner + 2 * alpha node.learner) (sym v.2.1)
+              is.within;
+          votes = subst (λ (node : NodeValue). VotesUpTo node 0) (sym v.2.1) is.votes;
+        };
+    distinct = new.distinct;
+  }
+
+pub new_worlds_contend : (m : Meaning) (IsText : List ℕ → Type 0) → NewClustersAreQuiet → NewWorldsContend m IsText
+new_worlds_contend m IsText law w c index ticks others new =
+    new_contends m IsText w c index ticks others new (law m w.genesis (number_of c) index ticks new.due)
+
 -- ---- a tick that begins nothing
 
 module _ (m : Meaning) (IsText : List ℕ → Type 0) (old new : Scene ReplicaValue) (x e : ℕ) (others : List ℕ)
@@ -267,7 +317,8 @@ module _ (m : Meaning) (IsText : List ℕ → Type 0) (old new : Scene ReplicaVa
   ticked_lasts : Lasts k.candidate.node s.after.node
   ticked_lasts = lasts_trans k.candidate.node s.start s.after.node (lasts_found k.candidate s.start waiting_found)
       (lasts_promise s.start s.after.node s.start.acceptor.state.promised
-      (ap (λ (n : NodeValue). n.learner) (after_is ∙ last_is)) (ap (λ (n : NodeValue). n.acceptor) (after_is ∙ last_is)))
+      (ap (λ (n : NodeValue). n.learner) (after_is ∙ last_is))
+      (ap (λ (n : NodeValue). n.acceptor) (after_is ∙ last_is)))
 
   ticked_contends : Contends m IsText new x e others last
   ticked_contends = still_contends m IsText old new x e others last k s.after goes.after s.is ticked_lasts
@@ -368,8 +419,8 @@ module _ (m : Meaning) (IsText : List ℕ → Type 0) (asks_law : DueNodeAsks) (
   asks = asks_law s.start s.last s.out due s.steps
 
   began_is : s.after.node ≡ beginning (next_ballot s.start) (ticked s.start)
-  began_is = s.left.rests (begun_rests (ticked s.start) s.last s.out (idle_begins s.start s.last s.out due.idle s.steps))
-      ∙ asks.becomes
+  began_is = s.left.rests (begun_rests (ticked s.start) s.last s.out
+      (idle_begins s.start s.last s.out due.idle s.steps)) ∙ asks.becomes
 
   began_lasts : Lasts c.node s.after.node
   began_lasts = lasts_trans c.node s.start s.after.node (lasts_found c s.start found)
@@ -399,8 +450,8 @@ module _ (m : Meaning) (IsText : List ℕ → Type 0) (asks_law : DueNodeAsks) (
       r.asked new s.after tt still_up r.tells
 
   told_lasts : Lasts told.start told.after.node × (told.start.leader.waiting ≡ [] → told.after.node.leader.waiting ≡ [])
-  told_lasts = nack_lasts m IsText told.start told.after.node rival (refusal (next_ballot c.node) r.is_rival.replica.node)
-      told.out told.takes
+  told_lasts = nack_lasts m IsText told.start told.after.node rival
+      (refusal (next_ballot c.node) r.is_rival.replica.node) told.out told.takes
 
   raised : GoesAboveIn x s.after nack new
   raised = raises_law r.asked new x s.after rival nack still_up r.tells
@@ -597,11 +648,12 @@ rejections_few m IsText asks_law raises_law fewer_law x e others last rivals old
 -- ---- the answer
 
 module _ (m : Meaning) (IsText : List ℕ → Type 0) (few_law : RejectionsAreFew m IsText)
-    (fixed_law : FixedWorldHasLeftovers m IsText) (answers_law : WorldWithLeftoversAnswers m IsText) (x e : ℕ)
+    (fixed_law : FixedWorldHasLeftovers m IsText) (new_law : FreshRequestsAreNew m IsText)
+    (answers_law : WorldWithLeftoversAnswers m IsText) (x e : ℕ)
     (others : List ℕ) (highest : ℕ) (r : RequestValue) (first last : Scene ReplicaValue)
     (k : Contends m IsText first x e others highest) (low : e ≤ highest) (room : highest < 281474976710656)
     (run : Persists m IsText x others r first last) (fixed : AreFixed run.ready x others)
-    (fresh : is_new (session_of r.client run.exchanges.leader.node.learner.whole.sessions) r.number ≡ true) where
+    (fresh : IsFresh run.exchanges.filled r) where
   persisted : HasPersisted m IsText x e others highest run.rivals run.retried
   persisted = few_law x e others highest run.rivals first run.retried k run.retries
 
@@ -678,11 +730,23 @@ module _ (m : Meaning) (IsText : List ℕ → Type 0) (few_law : RejectionsAreFe
   answered = record {
     few = persisted.few;
     answer = answers_law run.candidate run.ready.genesis.members r run.voters highest run.ready last
-        (fixed_law run.ready run.candidate run.voters highest ahead) run.exchanges fresh;
+        (fixed_law run.ready run.candidate run.voters highest ahead) run.exchanges
+        (new_law run.exchanges.filled (number_of run.candidate) run.exchanges.leader r
+        run.exchanges.serves.requests.before run.exchanges.is fresh);
     reach = reach;
   }
 
 pub persisting_answers : (m : Meaning) (IsText : List ℕ → Type 0) → RejectionsAreFew m IsText
-    → FixedWorldHasLeftovers m IsText → WorldWithLeftoversAnswers m IsText → PersistingCandidateAnswers m IsText
-persisting_answers m IsText few_law fixed_law answers_law x e others highest r first last k low room run fixed fresh =
-    answered m IsText few_law fixed_law answers_law x e others highest r first last k low room run fixed fresh
+    → FixedWorldHasLeftovers m IsText → FreshRequestsAreNew m IsText → WorldWithLeftoversAnswers m IsText
+    → PersistingCandidateAnswers m IsText
+persisting_answers m IsText few_law fixed_law new_law answers_law x e others highest r first last k low room run fixed
+    fresh =
+    answered m IsText few_law fixed_law new_law answers_law x e others highest r first last k low room run fixed fresh
+
+pub restarted_majority_answers : (m : Meaning) (IsText : List ℕ → Type 0) → NodesRestart m IsText
+    → RestartedNodesContend m IsText → PersistingCandidateAnswers m IsText → RestartedMajorityAnswers m IsText
+restarted_majority_answers m IsText restarts contend answers x e others highest r old first last distinct turns holds
+    tell low room run fixed fresh =
+    answers x e others highest r first last
+    (contend x e others highest old first (restarts old first (x ∷ others) distinct turns) holds distinct tell) low room
+    run fixed fresh

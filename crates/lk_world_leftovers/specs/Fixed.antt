@@ -9,6 +9,7 @@ use Rattle.lk_types.specs.declared.vote.Vote.{Vote}
 use Rattle.lk_members.specs.Majorities.{IsMajority}
 use Rattle.lk_members.specs.Rosters.{IsChange, is_member}
 use Rattle.lk_state.specs.Meanings.{Meaning}
+use Rattle.lk_state.specs.Sessions.{session_of, is_new}
 use Rattle.lk_leader.specs.Proposing.{AreMembersAt}
 use Rattle.lk_leader.specs.Values.{is_changing_at}
 use Rattle.lk_learner.specs.Learners.{Pair, executed, alpha}
@@ -44,6 +45,18 @@ pub record KnowsMembers (genesis : Genesis) (node : NodeValue) : Type 0 where
 abbrev pub NodesKnowMembers : Meaning → (List ℕ → Type 0) → Type 0
 NodesKnowMembers m IsText = (w : Scene ReplicaValue) (n : ℕ) (r : ReplicaValue) → Holds m IsText w → NobodyChanges w
     → IsUpAs w n r → KnowsMembers w.genesis r.node
+
+-- ---- requests
+
+-- the client has asked nothing with this number or a greater one
+abbrev pub IsFresh : Scene ReplicaValue → RequestValue → Type 0
+IsFresh w r = (q : RequestValue) → Contains (asked_in w.trace) q → q.client ≡ r.client → q.number < r.number
+
+-- so its number is above that of its client's last request at each node
+abbrev pub FreshRequestsAreNew : Meaning → (List ℕ → Type 0) → Type 0
+FreshRequestsAreNew m IsText = (w : Scene ReplicaValue) (n : ℕ) (node : ReplicaValue) (r : RequestValue)
+    → Holds m IsText w → IsUpAs w n node → IsFresh w r
+    → is_new (session_of r.client node.node.learner.whole.sessions) r.number ≡ true
 
 -- ---- ballots
 

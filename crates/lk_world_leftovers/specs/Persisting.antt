@@ -7,7 +7,6 @@ use Rattle.lk_types.specs.declared.vote.Vote.{Vote}
 use Rattle.lk_members.specs.Majorities.{IsMajority}
 use Rattle.lk_members.specs.Rosters.{is_member}
 use Rattle.lk_state.specs.Meanings.{Meaning}
-use Rattle.lk_state.specs.Sessions.{session_of, is_new}
 use Rattle.lk_learner.specs.Learners.{Pair, executed, alpha}
 use Rattle.lk_node.specs.Beginning.{next_ballot}
 use Rattle.lk_node.specs.Executing.{NothingToRun}
@@ -17,13 +16,14 @@ use Rattle.lk_progress.specs.Electing.{IsDue}
 use Rattle.lk_replica.specs.ReplicaValue.{ReplicaValue}
 use Rattle.lk_sim.specs.Scenes.{Scene}
 use Rattle.lk_sim.specs.declared.event.Event.TheVariants as event
+use Rattle.lk_world_progress.specs.Beginning.{IsNewWorld}
 use Rattle.lk_world_progress.specs.Delivering.{AreDistinct}
 use Rattle.lk_world_progress.specs.Exchanging.{number_of}
 use Rattle.lk_world_progress.specs.Overtaking.{IsRejected, IsRival}
-use Rattle.lk_world_progress.specs.Restarting.{HaveRestarted}
+use Rattle.lk_world_progress.specs.Restarting.{HaveRestarted, RestartInTurn}
 use Rattle.lk_world_progress.specs.Stepping.{GoesWell, Holds, IsUpAs}
 use Rattle.lk_world_leftovers.specs.Exchanging.{Exchanges, LeftoversAnswer}
-use Rattle.lk_world_leftovers.specs.Fixed.{NobodyChanges}
+use Rattle.lk_world_leftovers.specs.Fixed.{IsFresh, NobodyChanges}
 
 -- ---- who takes part
 
@@ -84,6 +84,12 @@ abbrev pub RestartedNodesContend : Meaning → (List ℕ → Type 0) → Type 0
 RestartedNodesContend m IsText = (x e : ℕ) (others : List ℕ) (last : ℕ) (old new : Scene ReplicaValue)
     → HaveRestarted (x ∷ others) old new → Holds m IsText new → AreDistinct (x ∷ others)
     → DisksTellEnough new x e others last → Contends m IsText new x e others last
+
+-- so do the nodes of a new cluster, which have executed nothing
+abbrev pub NewWorldsContend : Meaning → (List ℕ → Type 0) → Type 0
+NewWorldsContend m IsText = (w : Scene ReplicaValue) (candidate : ReplicaValue) (index ticks : ℕ) (others : List ℕ)
+    → IsNewWorld m IsText w candidate index ticks others
+    → Contends m IsText w (number_of candidate) 0 others 0
 
 -- ---- rejections
 
@@ -173,5 +179,13 @@ abbrev pub PersistingCandidateAnswers : Meaning → (List ℕ → Type 0) → Ty
 PersistingCandidateAnswers m IsText = (x e : ℕ) (others : List ℕ) (highest : ℕ) (r : RequestValue)
     (first last : Scene ReplicaValue) → Contends m IsText first x e others highest → e ≤ highest
     → highest < max_count → (k : Persists m IsText x others r first last) → AreFixed k.ready x others
-    → is_new (session_of r.client k.exchanges.leader.node.learner.whole.sessions) r.number ≡ true
+    → IsFresh k.exchanges.filled r → HasAnsweredInTime m IsText x e others highest r first last k
+
+-- The same after the candidate and the others have restarted, one after another, if their disks tell enough: whatever
+-- they did before, and whatever they have promised, the request is answered.
+abbrev pub RestartedMajorityAnswers : Meaning → (List ℕ → Type 0) → Type 0
+RestartedMajorityAnswers m IsText = (x e : ℕ) (others : List ℕ) (highest : ℕ) (r : RequestValue)
+    (old first last : Scene ReplicaValue) → AreDistinct (x ∷ others) → RestartInTurn m IsText (x ∷ others) old first
+    → Holds m IsText first → DisksTellEnough first x e others highest → e ≤ highest → highest < max_count
+    → (k : Persists m IsText x others r first last) → AreFixed k.ready x others → IsFresh k.exchanges.filled r
     → HasAnsweredInTime m IsText x e others highest r first last k

@@ -3,9 +3,11 @@
 ghost use Rattle.lk_world_leftovers.specs.Answering.{ReadyLeaderAnswers};
 ghost use Rattle.lk_world_leftovers.specs.Collecting.{CandidateFillsIn};
 ghost use Rattle.lk_world_leftovers.specs.Exchanging.{LeftoversAreFilled, WorldWithLeftoversAnswers};
-ghost use Rattle.lk_world_leftovers.specs.Fixed.{FixedWorldHasLeftovers, NodesKnowMembers, VotesAreOlder};
+ghost use Rattle.lk_world_leftovers.specs.Fixed.{FixedWorldHasLeftovers, FreshRequestsAreNew, NodesKnowMembers};
+ghost use Rattle.lk_world_leftovers.specs.Fixed.{VotesAreOlder};
 ghost use Rattle.lk_world_leftovers.specs.Filling.{FillingLeaderOffers, PositionIsFilled};
 ghost use Rattle.lk_world_leftovers.specs.Persisting.{PersistingCandidateAnswers, RejectionsAreFew};
+ghost use Rattle.lk_world_leftovers.specs.Persisting.{NewWorldsContend, RestartedMajorityAnswers};
 ghost use Rattle.lk_world_leftovers.specs.Persisting.{RestartedNodesContend};
 
 use lk_leftovers::laws::{
@@ -15,10 +17,11 @@ use lk_leftovers::laws::{
 use lk_progress::laws::{
     a_due_node_asks_its_window, a_fresh_request_is_proposed, a_near_node_accepts,
     a_prepare_is_promised_or_rejected_for_a_cause, an_accepted_request_is_answered,
+    new_clusters_are_quiet,
 };
 use lk_state::Machine;
 use lk_world_progress::laws::{
-    a_delivered_rejection_raises, a_rejected_candidate_has_fewer_rivals,
+    a_delivered_rejection_raises, a_rejected_candidate_has_fewer_rivals, restarts_are_fresh,
 };
 
 // ---- a majority promises
@@ -91,6 +94,11 @@ pub fn nodes_know_their_members<M: Machine>()
     ensures { NodesKnowMembers M.meaning M.IsText }
 {}
 
+/// A request is fresh at each node if its client has asked nothing with its number or a greater one.
+pub fn fresh_requests_are_new<M: Machine>()
+    ensures { FreshRequestsAreNew M.meaning M.IsText }
+{}
+
 /// The votes of a node that has promised no ballot above the next one of another node are of smaller ballots than that.
 pub fn votes_are_older<M: Machine>()
     ensures { VotesAreOlder M.meaning M.IsText }
@@ -119,6 +127,7 @@ pub fn a_persisting_candidate_answers<M: Machine>()
 {
     rejections_are_few::<M>();
     a_fixed_world_has_leftovers::<M>();
+    fresh_requests_are_new::<M>();
     a_world_with_leftovers_answers::<M>();
 }
 
@@ -127,3 +136,20 @@ pub fn a_persisting_candidate_answers<M: Machine>()
 pub fn restarted_nodes_contend<M: Machine>()
     ensures { RestartedNodesContend M.meaning M.IsText }
 {}
+
+/// So do the nodes of a new cluster.
+pub fn new_worlds_contend<M: Machine>()
+    ensures { NewWorldsContend M.meaning M.IsText }
+{
+    new_clusters_are_quiet();
+}
+
+/// A majority that restarts answers: whatever its nodes did before and have promised, if nobody of them has executed
+/// more than the candidate, and their votes and pairs are near.
+pub fn a_restarted_majority_answers<M: Machine>()
+    ensures { RestartedMajorityAnswers M.meaning M.IsText }
+{
+    restarts_are_fresh::<M>();
+    restarted_nodes_contend::<M>();
+    a_persisting_candidate_answers::<M>();
+}
