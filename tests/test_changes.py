@@ -93,6 +93,18 @@ class LookTest(unittest.TestCase):
         lines = [f"node 3 has executed 3 of 61{NO_MAJORITY}", f"node 4 does not report{NO_MAJORITY}"]
         self.is_withheld([executed(61), executed(61), executed(3)], ("join", "4", "1"), *lines)
 
+    def test_a_join_far_above_the_members_is_sent_with_a_warning(self):
+        """Nothing is said of twice the greatest member, and of a join that is withheld nothing more."""
+        nodes = [executed(61)] * 3
+        self.is_sent(nodes, "join", "6", "1")
+        warning = "warning: node 7 is above twice the greatest member: no smaller number can join after it\n"
+        self.assertEqual(self.asks(nodes, "join", "7", "1"), (0, "left\n", warning))
+        self.assertEqual(self.asks([executed(61)], "join", "3", "1"), (0, "left\n", warning.replace("7", "3")))
+        self.is_sent(nodes, "leave", "7")
+        self.is_sent(nodes, "--force", "join", "7", "1")
+        lines = [f"node 3 has executed 3 of 61{NO_MAJORITY}", f"node 7 does not report{NO_MAJORITY}"]
+        self.is_withheld([executed(61), executed(61), executed(3)], ("join", "7", "1"), *lines)
+
     def test_a_single_node_may_grow(self):
         self.is_sent([executed(61)], "join", "2", "1")
         line = "an earlier join or leave has not taken effect yet\n"

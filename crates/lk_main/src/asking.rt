@@ -1,17 +1,19 @@
 //! Runs `locks ask`: sends a request, a join or a leave only after a look at the members.
 
-ghost use Rattle.std.specs.Prelude.{◌≡◌, ◌≤◌, ◌↔◌, false, IsTrue, IfOk};
+ghost use Rattle.std.specs.Io.KnownBytes.{Appends};
+ghost use Rattle.std.specs.Prelude.{◌≡◌, ◌≤◌, ◌↔◌, false, IsTrue, IfOk, OnOk};
 ghost use Rattle.lk_members.specs.Rosters.{IsChange};
-ghost use Rattle.lk_main.specs.Looks.{IsShownSafe};
+ghost use Rattle.lk_main.specs.Looks.{IsShownSafe, is_above_twice, is_far, far_line, far_text};
 
 use lk_client::destination::Place;
 use lk_client::question::{Question, ask};
 use lk_program_fault::ProgramFault;
-use lk_status::target::Inquiry;
+use lk_status::target::{Inquiry, Target};
 use lk_status_command::withheld::may_send;
 use lk_transport::socket::DatagramSocket;
-use lk_types::Op;
+use lk_types::{NodeNo, Op};
 use std::alloc::Global;
+use std::io;
 use std::io::Write;
 
 // Whether an op is a join or a leave.
@@ -24,7 +26,48 @@ fn is_change(op: &Op) -> bool
     }
 }
 
-// Returns whether a request may be sent: it is forced or no change, or a look shows it safe. If not, writes why.
+// Whether a number is above twice the number of a target's node, where it is known.
+fn is_above_twice(node: NodeNo, target: &Target) -> bool
+    ensures { result ≡ is_above_twice node target.now.node }
+{
+    match target.node {
+        Some(member) => u64::from(node.get()) > 2 * u64::from(member.get()),
+        None => true,
+    }
+}
+
+// Whether a number is above twice the number of each of these members.
+fn is_far(node: NodeNo, members: &[Target]) -> bool
+    ensures { result ≡ is_far node members.now }
+{
+    members.iter().all(|member| is_above_twice(node, member))
+}
+
+// Writes that a number is above twice the greatest member.
+fn write_far<E: Write>(node: NodeNo, err: &mut E) -> io::Result<()>
+    ensures { OnOk result (Appends (E.contents err.old) (E.contents err.new) (far_line node)) }
+{
+    let node = node.get();
+    writeln!(
+        err,
+        "warning: node {node} is above twice the greatest member: no smaller number can join after it"
+    )?;
+    Ok(())
+}
+
+// Writes the same of an op, if it joins such a number.
+fn warn_of<E: Write>(op: &Op, members: &[Target], err: &mut E) -> io::Result<()>
+    ensures { OnOk result (Appends (E.contents err.old) (E.contents err.new) (far_text op.now members.now)) }
+{
+    match op {
+        Op::Join(node, _) if is_far(*node, members) => write_far(*node, err)?,
+        _ => {}
+    }
+    Ok(())
+}
+
+// Returns whether a request may be sent: it is forced or no change, or a look shows it safe. If not, writes why. Warns
+// of a join that may be sent, if its number is above twice the greatest member; a failed write is ignored.
 fn is_cleared<S: DatagramSocket, E: Write>(
     alloc: Global,
     socket: &mut S,
@@ -40,6 +83,9 @@ fn is_cleared<S: DatagramSocket, E: Write>(
         return Ok(true);
     }
     let may = may_send(alloc, socket, inquiry, op, err)?;
+    if may {
+        let _ = warn_of(op, &inquiry.targets, err);
+    }
     Ok(may)
 }
 
