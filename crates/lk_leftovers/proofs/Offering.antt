@@ -286,7 +286,7 @@ module _ (b : BallotValue) (whose : HeaderValue) (a : AcceptorValue) (F G : Vote
 -- ---- how far it gets
 
 module _ (width last : ℕ) (some : 1 ≤ width) where
-  learned_reaches : (p : Pair) (old new : NodeValue) (before after : OutboxValue) → Learns p old before new after
+  pub learned_reaches : (p : Pair) (old new : NodeValue) (before after : OutboxValue) → Learns p old before new after
       → p.0 ≤ last → Reaches width last old → Reaches width last new
   learned_reaches p old new before after (inl kept) low r = subst (Reaches width last) (sym kept.1) (record {
     width_is = r.width_is;
@@ -296,7 +296,7 @@ module _ (width last : ℕ) (some : 1 ≤ width) where
   })
   learned_reaches p old new before after (inr left) low r = subst (Reaches width last) (sym left.1) r
 
-  same_reaches : (old new : NodeValue) → new.learner ≡ old.learner → Reaches width last old → Reaches width last new
+  pub same_reaches : (old new : NodeValue) → new.learner ≡ old.learner → Reaches width last old → Reaches width last new
   same_reaches old new e r = record {
     width_is = ap (λ (l : LearnerValue). alpha l) e ∙ r.width_is;
     within = subst (λ (l : LearnerValue). executed l ≤ last) (sym e) r.within;
@@ -326,7 +326,7 @@ module _ (width last : ℕ) (some : 1 ≤ width) where
         pairs = λ p c. r.pairs p (without_from (executed old.learner + 1) old.learner.pairs p c);
       }
 
-  runs_reach : (m : Meaning) (old : NodeValue) (before : OutboxValue) (new : NodeValue) (after : OutboxValue)
+  pub runs_reach : (m : Meaning) (old : NodeValue) (before : OutboxValue) (new : NodeValue) (after : OutboxValue)
       → Runs m old before new after → Reaches width last old → Reaches width last new
   runs_reach m old before _ _ stays r = r
   runs_reach m old before new after (goes_on {mid = mid} so_far e) r =

@@ -62,6 +62,25 @@ use Rattle.lk_world_leftovers.specs.Persisting.{MayFollow, MayLead, NewWorldsCon
 use Rattle.lk_world_leftovers.specs.Persisting.{RestartedNodesContend}
 use Rattle.lk_world_leftovers.specs.Persisting.{MayVote, Persists, PersistingCandidateAnswers, RejectionsAreFew}
 use Rattle.lk_world_leftovers.specs.Persisting.{Retries, RetriesInTurn, VotesUpTo, WaitsIn}
+use Rattle.lk_messages.specs.Values.{DecidedValue}
+use Rattle.lk_node.specs.Executing.{EndsWaitIfAny, Runs, goes_on, is_outside, stays, without_term_if_outside}
+use Rattle.lk_node.specs.Learning.{Learns}
+use Rattle.lk_node.specs.DecidedPairs.{LearnsPairs, none_yet, one_more}
+use Rattle.lk_node.specs.Leading.{ProposesAll}
+use Rattle.lk_leftovers.proofs.Offering.{Reaches, learned_reaches, runs_reach}
+use Rattle.lk_learner.proofs.Learnerships.{ran_moves}
+use Rattle.lk_leader.specs.Waits.{left_by}
+use Rattle.lk_node_interface.specs.KeptReplies.{session_by}
+use Rattle.lk_state.specs.Runs.{run_answer}
+use Rattle.lk_state.specs.declared.session.Session.{Session}
+use Rattle.lk_members.specs.Effects.{Command}
+use Rattle.std.proofs.lemmas.Option.{slice_get_within}
+use Rattle.lk_world_progress.proofs.Delivering.{TakesFrom, found_as, left_as}
+use Rattle.lk_world_progress.proofs.Stepping.{shown}
+use Rattle.lk_world_progress.specs.Delivering.{Hears}
+use Rattle.lk_world_leftovers.specs.Persisting.{FedCandidateContends}
+use Rattle.lk_node_interface.specs.Outboxes.{nothing}
+use Rattle.std.proofs.Common.{Option}
 
 -- ---- what lasts
 
@@ -180,22 +199,23 @@ module _ (m : Meaning) (IsText : List ℕ → Type 0) where
 
 -- ---- what that leaves of those that take part
 
-may_vote : (old new : Scene ReplicaValue) (e last n : ℕ) (k : MayVote old e last n) (q : ReplicaValue)
-    → IsUpAs new n q → Lasts k.replica.node q.node → MayVote new e last n
-may_vote old new e last n k q up l = record {
+may_vote : (old new : Scene ReplicaValue) (top last n : ℕ) (k : MayVote old top last n) (q : ReplicaValue)
+    → IsUpAs new n q → Lasts k.replica.node q.node → MayVote new top last n
+may_vote old new top last n k q up l = record {
   replica = q;
   up = up;
   near = l.near k.near;
-  behind = subst (λ (w : WholeValue). w.roster.executed ≤ e) (sym l.whole) k.behind;
+  behind = subst (λ (w : WholeValue). w.roster.executed ≤ top) (sym l.whole) k.behind;
   reaches = subst (λ (w : WholeValue). last < w.roster.executed + 2 * length w.roster.sets) (sym l.whole) k.reaches;
   votes = λ v c. k.votes v (l.votes v c);
 }
 
-still_contends : (m : Meaning) (IsText : List ℕ → Type 0) (old new : Scene ReplicaValue) (x e : ℕ) (others : List ℕ)
-    (last : ℕ) (k : Contends m IsText old x e others last) (q : ReplicaValue) → Holds m IsText new → IsUpAs new x q
+still_contends : (m : Meaning) (IsText : List ℕ → Type 0) (old new : Scene ReplicaValue) (x e top : ℕ)
+    (others : List ℕ)
+    (last : ℕ) (k : Contends m IsText old x e top others last) (q : ReplicaValue) → Holds m IsText new → IsUpAs new x q
     → Lasts k.candidate.node q.node → q.node.leader.term ≡ None → q.node.leader.waiting ≡ []
-    → ((n : ℕ) → Contains others n → MayVote new e last n) → Contends m IsText new x e others last
-still_contends m IsText old new x e others last k q holds up l idle waiting may = record {
+    → ((n : ℕ) → Contains others n → MayVote new top last n) → Contends m IsText new x e top others last
+still_contends m IsText old new x e top others last k q holds up l idle waiting may = record {
   holds = holds;
   candidate = q;
   up = up;
@@ -248,18 +268,18 @@ module _ (m : Meaning) (IsText : List ℕ → Type 0) (w : Scene ReplicaValue) (
   abbrev own : NodeValue
   own = new_node m w.genesis (number_of c) ticks
 
-  none_yet : executed own.learner ≤ 0
-  none_yet = (quiet.others (number_of c) ticks).behind
+  nothing_executed : executed own.learner ≤ 0
+  nothing_executed = (quiet.others (number_of c) ticks).behind
 
   on_own : (P : NodeValue → Type 0) → P own → P c.node
   on_own P p = subst P (sym new.new.1) p
 
-  new_contends : Contends m IsText w (number_of c) 0 others 0
+  new_contends : Contends m IsText w (number_of c) 0 0 others 0
   new_contends = record {
     holds = new.holds;
     candidate = c;
     up = new.new.0;
-    reach = on_own (λ node. executed node.learner ≡ 0) (omega (arith, none_yet));
+    reach = on_own (λ node. executed node.learner ≡ 0) (omega (arith, nothing_executed));
     idle = on_own (λ node. node.leader.term ≡ None) refl;
     waiting = on_own (λ node. node.leader.waiting ≡ []) refl;
     known = on_own NothingToRun quiet.candidate.known;
@@ -285,10 +305,202 @@ pub new_worlds_contend : (m : Meaning) (IsText : List ℕ → Type 0) → NewClu
 new_worlds_contend m IsText law w c index ticks others new =
     new_contends m IsText w c index ticks others new (law m w.genesis (number_of c) index ticks new.due)
 
+-- ---- a Decided
+
+-- the node's acceptor is this one, it has no term, nothing waits, and it has executed at least so much
+record HasBeenFed (a : AcceptorValue) (e : ℕ) (node : NodeValue) : Type 0 where
+  acceptor : node.acceptor ≡ a
+  idle : node.leader.term ≡ None
+  waiting : node.leader.waiting ≡ []
+  grows : e ≤ executed node.learner
+
+module _ (a : AcceptorValue) (e width last : ℕ) (some : 1 ≤ width) where
+  none_left : (client number : ℕ) (rs : List RequestValue) → rs ≡ [] → left_by client number rs ≡ []
+  none_left client number [] is = refl
+  none_left client number (r ∷ rs) is = absurd (cc is)
+
+  waited_fed : (o : Option Session) (old new : NodeValue) (before after : OutboxValue)
+      → EndsWaitIfAny o old before new after → HasBeenFed a e old → HasBeenFed a e new
+  waited_fed None old new before after ends f = subst (HasBeenFed a e) (sym ends.0) f
+  waited_fed (Some s) old new before after ends f = subst (HasBeenFed a e) (sym ends.becomes) (record {
+    acceptor = f.acceptor;
+    idle = f.idle;
+    waiting = none_left s.client s.number old.leader.waiting f.waiting;
+    grows = f.grows;
+  })
+
+  inside_fed : (node : NodeValue) → HasBeenFed a e node → HasBeenFed a e (without_term_if_outside node)
+  inside_fed node f = by_test (is_outside node)
+    where
+      by_test : (t : Bool) → HasBeenFed a e (cond t (without_term node) node)
+      by_test true = record { acceptor = f.acceptor; idle = refl; waiting = refl; grows = f.grows }
+      by_test false = f
+
+  runs_fed : (m : Meaning) (old : NodeValue) (before : OutboxValue) (new : NodeValue) (after : OutboxValue)
+      → Runs m old before new after → Reaches width last old → HasBeenFed a e old → HasBeenFed a e new
+  runs_fed m old before _ _ stays r f = f
+  runs_fed m old before new after (goes_on {mid = mid} {between = between} so_far x) r f =
+      let earlier : HasBeenFed a e mid = runs_fed m old before mid between so_far r f in
+      let reached : Reaches width last mid = runs_reach width last some m old before mid between so_far r in
+      let moves = ran_moves m x.command mid.learner.whole (omega (arith, some, reached.width_is)) in
+      subst (HasBeenFed a e) (sym x.becomes) (inside_fed x.mid
+      (waited_fed (session_by x.command (run_answer m x.command mid.learner.whole)) _ x.mid _ after x.ends_wait
+      (record {
+        acceptor = earlier.acceptor;
+        idle = earlier.idle;
+        waiting = earlier.waiting;
+        grows = omega (arith, earlier.grows, moves.0);
+      })))
+
+  learned_fed : (p : Pair) (old new : NodeValue) (before after : OutboxValue) → Learns p old before new after
+      → HasBeenFed a e old → HasBeenFed a e new
+  learned_fed p old new before after (inl kept) f = subst (HasBeenFed a e) (sym kept.1)
+      (record { acceptor = f.acceptor; idle = f.idle; waiting = f.waiting; grows = f.grows })
+  learned_fed p old new before after (inr left) f = subst (HasBeenFed a e) (sym left.1) f
+
+  record Feeds (node : NodeValue) : Type 0 where
+    fed : HasBeenFed a e node
+    reaches : Reaches width last node
+    known : NothingToRun node
+
+  pairs_feed : (m : Meaning) (first : ℕ) (commands : List Command) (old : NodeValue) (before : OutboxValue) (k : ℕ)
+      (new : NodeValue) (after : OutboxValue) → first + length commands ≤ last + 1
+      → LearnsPairs m first commands old before k new after → Feeds old → Feeds new
+  pairs_feed m first commands old before _ _ _ low none_yet f = f
+  pairs_feed m first commands old before _ new after low
+      (one_more {k = j} {mid = mid} {between = between} v so_far at l) f =
+      let earlier : Feeds mid = pairs_feed m first commands old before j mid between low so_far f in
+      let within : j < length commands = slice_get_within commands j v at in
+      let learned : Reaches width last l.learned = learned_reaches width last some (first + j, v) mid l.learned between
+      l.written l.learns (omega (arith, within, low)) earlier.reaches in
+      record {
+        fed = runs_fed m l.learned l.written new after l.runs.0 learned
+            (learned_fed (first + j, v) mid l.learned between l.written l.learns earlier.fed);
+        reaches = runs_reach width last some m l.learned l.written new after l.runs.0 learned;
+        known = l.runs.1;
+      }
+
+-- without a term nothing is proposed
+idle_proposes : (xs : List Vote) (old new : NodeValue) (before out : OutboxValue) → ProposesAll xs old new before out
+    → old.leader.term ≡ None → new ≡ old
+idle_proposes [] old new before out p idle = p.1
+idle_proposes (x ∷ xs) old new before out p idle = absurd (cc (sym idle ∙ p.0.current))
+
+module _ (m : Meaning) (IsText : List ℕ → Type 0) (x e top : ℕ) (others : List ℕ) (last from : ℕ)
+    (told : DecidedValue) (old new : Scene ReplicaValue) (k : Contends m IsText old x e top others last)
+    (low : told.first + length told.commands ≤ last + 1) (within : e ≤ last)
+    (hears : Hears m IsText x (content.Node from (kinds.Decided told)) old new) where
+  fed_from : TakesFrom m IsText x (content.Node from (kinds.Decided told)) old new
+  fed_from = heard_from m IsText x (content.Node from (kinds.Decided told)) old new hears
+
+  fed_found : IsFound k.candidate fed_from.start
+  fed_found = found_as m IsText x (content.Node from (kinds.Decided told)) old new k.candidate hears.goes.before k.up
+      fed_from
+
+  fed_takes : Takes m IsText fed_from.start (content.Node from (kinds.Decided told)) fed_from.after.node fed_from.out
+  fed_takes = left_as m IsText x (content.Node from (kinds.Decided told)) old new tt fed_from
+
+  abbrev fed_start : NodeValue
+  fed_start = fed_from.start
+
+  start_lasts : Lasts k.candidate.node fed_start
+  start_lasts = lasts_found k.candidate fed_start fed_found
+
+  start_near : AreNear fed_start.acceptor fed_start.learner
+  start_near = start_lasts.near k.near
+
+  start_reach : executed fed_start.learner ≡ e
+  start_reach = ap (λ (w : WholeValue). w.roster.executed) start_lasts.whole ∙ k.reach
+
+  some_alpha : 1 ≤ alpha fed_start.learner
+  some_alpha =
+      let told_by = (shown m IsText old k.holds x k.candidate k.up).1.told.tells in
+      let same : alpha fed_start.learner ≡ alpha k.candidate.node.learner =
+      ap (λ (w : WholeValue). length w.roster.sets) start_lasts.whole in
+      omega (arith, told_by.some, told_by.window, same)
+
+  before_feeding : Feeds fed_start.acceptor e (alpha fed_start.learner) last some_alpha fed_start
+  before_feeding = record {
+    fed = record {
+      acceptor = refl;
+      idle = found_has k.candidate fed_start fed_found (λ node. node.leader.term ≡ None) (λ q. q) k.idle;
+      waiting = found_has k.candidate fed_start fed_found (λ node. node.leader.waiting ≡ []) (λ q. q) k.waiting;
+      grows = omega (arith, start_reach);
+    };
+    reaches = record {
+      width_is = refl;
+      within = omega (arith, start_reach, within);
+      pairs = subst (λ (ps : List Pair). (p : Pair) → Contains ps p → p.0 ≤ last) (sym start_lasts.pairs) k.pairs;
+    };
+    known = found_has k.candidate fed_start fed_found NothingToRun (λ q. q) k.known;
+  }
+
+  module _ (h : Handled m IsText fed_start (content.Node from (kinds.Decided told)) fed_from.after.node
+      fed_from.out) where
+    mid_feeds : Feeds fed_start.acceptor e (alpha fed_start.learner) last some_alpha h.mid
+    mid_feeds = pairs_feed fed_start.acceptor e (alpha fed_start.learner) last some_alpha m told.first told.commands
+        fed_start nothing (length told.commands) h.mid h.first low h.handles before_feeding
+
+    fed_after_is : fed_from.after.node ≡ h.mid
+    fed_after_is = idle_proposes h.proposes.0 h.mid fed_from.after.node h.first fed_from.out h.proposes.1
+        mid_feeds.fed.idle
+
+    after_feeds : Feeds fed_start.acceptor e (alpha fed_start.learner) last some_alpha fed_from.after.node
+    after_feeds = subst (Feeds fed_start.acceptor e (alpha fed_start.learner) last some_alpha) (sym fed_after_is)
+        mid_feeds
+
+    abbrev fed_after : NodeValue
+    fed_after = fed_from.after.node
+
+    fed_kept : (v : Vote) → Contains fed_after.acceptor.state.votes v → Contains fed_start.acceptor.state.votes v
+    fed_kept v c = subst (λ (y : AcceptorValue). Contains y.state.votes v) after_feeds.fed.acceptor c
+
+    fed_contends : (f : ℕ) × (e ≤ f) × Contends m IsText new x f top others last
+    fed_contends = (
+      executed fed_after.learner,
+      after_feeds.fed.grows,
+      record {
+        holds = hears.goes.after;
+        candidate = fed_from.after;
+        up = fed_from.is;
+        reach = refl;
+        idle = after_feeds.fed.idle;
+        waiting = after_feeds.fed.waiting;
+        known = after_feeds.known;
+        near = record {
+          alpha_is = ap (λ (y : AcceptorValue). y.alpha) after_feeds.fed.acceptor ∙ start_near.alpha_is
+              ∙ sym after_feeds.reaches.width_is;
+          snapshot = omega (
+            arith,
+            ap (λ (y : AcceptorValue). y.state.snapshot_position) after_feeds.fed.acceptor,
+            start_near.snapshot,
+            start_reach,
+            after_feeds.fed.grows,
+          );
+          votes = λ v c.
+              let near_one = start_near.votes v (fed_kept v c) in
+              omega (arith, near_one, start_reach, after_feeds.fed.grows, after_feeds.reaches.width_is);
+        };
+        pairs = after_feeds.reaches.pairs;
+        votes = λ v c. k.votes v (start_lasts.votes v (fed_kept v c));
+        others_may = λ n c. may_vote old new top last n (k.others_may n c) (k.others_may n c).replica
+            (fed_from.others n (Up (k.others_may n c).replica)
+            (λ is. k.distinct.0 (subst (λ (j : ℕ). Contains others j) is c)) (k.others_may n c).up)
+            (lasts_itself (k.others_may n c).replica.node);
+        distinct = k.distinct;
+      },
+    )
+
+pub fed_candidate_contends : (m : Meaning) (IsText : List ℕ → Type 0) → FedCandidateContends m IsText
+fed_candidate_contends m IsText x e top others last from told old new k within low hears =
+    fed_contends m IsText x e top others last from told old new k low within hears
+    (handled m IsText _ (content.Node from (kinds.Decided told)) _ _
+    (fed_takes m IsText x e top others last from told old new k low within hears))
+
 -- ---- a tick that begins nothing
 
-module _ (m : Meaning) (IsText : List ℕ → Type 0) (old new : Scene ReplicaValue) (x e : ℕ) (others : List ℕ)
-    (last : ℕ) (k : Contends m IsText old x e others last) (goes : GoesWell m IsText old (event.Tick x) new)
+module _ (m : Meaning) (IsText : List ℕ → Type 0) (old new : Scene ReplicaValue) (x e top : ℕ) (others : List ℕ)
+    (last : ℕ) (k : Contends m IsText old x e top others last) (goes : GoesWell m IsText old (event.Tick x) new)
     (idle : (r : ReplicaValue) → IsUpAs new x r → r.node.leader.term ≡ None)
     (s : TakesStep m IsText old x Tick new) where
   waiting_found : IsFound k.candidate s.start
@@ -320,11 +532,11 @@ module _ (m : Meaning) (IsText : List ℕ → Type 0) (old new : Scene ReplicaVa
       (ap (λ (n : NodeValue). n.learner) (after_is ∙ last_is))
       (ap (λ (n : NodeValue). n.acceptor) (after_is ∙ last_is)))
 
-  ticked_contends : Contends m IsText new x e others last
-  ticked_contends = still_contends m IsText old new x e others last k s.after goes.after s.is ticked_lasts
+  ticked_contends : Contends m IsText new x e top others last
+  ticked_contends = still_contends m IsText old new x e top others last k s.after goes.after s.is ticked_lasts
       (ap (λ (n : NodeValue). n.leader.term) (after_is ∙ last_is) ∙ start_idle)
       (ap (λ (n : NodeValue). n.leader.waiting) (after_is ∙ last_is) ∙ start_waiting)
-      (λ n c. may_vote old new e last n (k.others_may n c) (k.others_may n c).replica
+      (λ n c. may_vote old new top last n (k.others_may n c) (k.others_may n c).replica
       (s.others n (Up (k.others_may n c).replica)
       (λ is. k.distinct.0 (subst (λ (j : ℕ). Contains others j) is c)) (k.others_may n c).up)
       (lasts_itself (k.others_may n c).replica.node))
@@ -349,29 +561,29 @@ module _ (m : Meaning) (IsText : List ℕ → Type 0) (old new : Scene ReplicaVa
             ∙ ballot_is) rival.above);
       })
 
-module _ (m : Meaning) (IsText : List ℕ → Type 0) (x e : ℕ) (others : List ℕ) (last : ℕ) where
+module _ (m : Meaning) (IsText : List ℕ → Type 0) (x e top : ℕ) (others : List ℕ) (last : ℕ) where
   abbrev Settled : Scene ReplicaValue → List ℕ → Type 0
   Settled w ns = (n : ℕ) → Contains ns n → IsNoRival w x n
 
   record HasWaited (old new : Scene ReplicaValue) : Type 0 where
-    contends : Contends m IsText new x e others last
+    contends : Contends m IsText new x e top others last
     settled : (ns : List ℕ) → ((n : ℕ) → Contains ns n → Contains others n) → Settled old ns → Settled new ns
 
-  waited : (j : ℕ) (old new : Scene ReplicaValue) → Contends m IsText old x e others last
+  waited : (j : ℕ) (old new : Scene ReplicaValue) → Contends m IsText old x e top others last
       → WaitsIn m IsText x j old new → HasWaited old new
   waited zero old new k same = record {
-    contends = subst (λ (w : Scene ReplicaValue). Contends m IsText w x e others last) (sym same) k;
+    contends = subst (λ (w : Scene ReplicaValue). Contends m IsText w x e top others last) (sym same) k;
     settled = λ ns among none. subst (λ (w : Scene ReplicaValue). Settled w ns) (sym same) none;
   }
   waited (suc j) old new k d =
       let s : TakesStep m IsText old x Tick d.0 =
       event_steps m IsText old d.0 (event.Tick x) x Tick d.1 (refl, refl) in
       let rest : HasWaited d.0 new =
-      waited j d.0 new (ticked_contends m IsText old d.0 x e others last k d.1 d.2 s) d.3 in
+      waited j d.0 new (ticked_contends m IsText old d.0 x e top others last k d.1 d.2 s) d.3 in
       record {
         contends = rest.contends;
         settled = λ ns among none. rest.settled ns among
-            (λ n c. no_new_rival m IsText old d.0 x e others last k d.1 d.2 s n (among n c) (none n c));
+            (λ n c. no_new_rival m IsText old d.0 x e top others last k d.1 d.2 s n (among n c) (none n c));
       }
 
 -- ---- a rejected ballot
@@ -386,8 +598,8 @@ below_test a b (inr equal) =
     rw (f, s, t) refl
 
 module _ (m : Meaning) (IsText : List ℕ → Type 0) (asks_law : DueNodeAsks) (raises_law : DeliveredNackRaises m IsText)
-    (c : ReplicaValue) (others : List ℕ) (rival : ℕ) (old new : Scene ReplicaValue) (e last : ℕ)
-    (k : Contends m IsText old (number_of c) e others last)
+    (c : ReplicaValue) (others : List ℕ) (rival : ℕ) (old new : Scene ReplicaValue) (e top last : ℕ)
+    (k : Contends m IsText old (number_of c) e top others last)
     (r : IsRejected m IsText c others rival old new) where
   abbrev x : ℕ
   x = number_of c
@@ -471,7 +683,7 @@ module _ (m : Meaning) (IsText : List ℕ → Type 0) (asks_law : DueNodeAsks) (
     apart : n ≡ x → ⊥
     apart is = k.distinct.0 (subst (λ (j : ℕ). Contains others j) is o)
 
-    abbrev voter : MayVote old e last n
+    abbrev voter : MayVote old top last n
     voter = k.others_may n o
 
     took : HeardIt m IsText n prepare voter.replica r.asked
@@ -482,14 +694,14 @@ module _ (m : Meaning) (IsText : List ℕ → Type 0) (asks_law : DueNodeAsks) (
         (content.Node rival (kinds.Nack (refusal (next_ballot c.node) r.is_rival.replica.node))) r.asked new
         r.tells).others n (Up took.after) apart took.is
 
-    took_may : MayVote new e last n
-    took_may = may_vote old new e last n voter took.after took_up
+    took_may : MayVote new top last n
+    took_may = may_vote old new top last n voter took.after took_up
         (lasts_trans voter.replica.node took.start took.after.node
         (lasts_found voter.replica took.start took.found)
         (prepare_lasts m IsText took.start took.after.node x b (executed c.node.learner + 1) took.out took.takes))
 
-  rejected_contends : Contends m IsText new (number_of c) e others last
-  rejected_contends = still_contends m IsText old new x e others last k told.after r.tells.goes.after told.is
+  rejected_contends : Contends m IsText new (number_of c) e top others last
+  rejected_contends = still_contends m IsText old new x e top others last k told.after r.tells.goes.after told.is
       (lasts_trans k.candidate.node s.after.node told.after.node
       (subst (λ (q : ReplicaValue). Lasts q.node s.after.node) (sym same) began_lasts)
       (lasts_trans s.after.node told.start told.after.node (lasts_found s.after told.start told.found) told_lasts.0))
@@ -500,10 +712,10 @@ module _ (m : Meaning) (IsText : List ℕ → Type 0) (asks_law : DueNodeAsks) (
 -- ---- one rejection after another
 
 module _ (m : Meaning) (IsText : List ℕ → Type 0) (asks_law : DueNodeAsks) (raises_law : DeliveredNackRaises m IsText)
-    (fewer_law : RejectedCandidateHasFewerRivals m IsText) (e : ℕ) (others : List ℕ) (last : ℕ) where
+    (fewer_law : RejectedCandidateHasFewerRivals m IsText) (e top : ℕ) (others : List ℕ) (last : ℕ) where
   -- the candidate has heard of this one, is no rival's candidate of these any more, and goes on
   record HasRetried (x : ℕ) (rival : ℕ) (old new : Scene ReplicaValue) : Type 0 where
-    contends : Contends m IsText new x e others last
+    contends : Contends m IsText new x e top others last
     among : Contains others rival
     was_rival : IsNoRival old x rival → ⊥
     none : IsNoRival new x rival
@@ -511,14 +723,14 @@ module _ (m : Meaning) (IsText : List ℕ → Type 0) (asks_law : DueNodeAsks) (
         → ((n : ℕ) → Contains ns n → IsNoRival old x n) → (n : ℕ) → Contains ns n → IsNoRival new x n
 
   retried_at : (rival : ℕ) (old due new : Scene ReplicaValue) (c : ReplicaValue) (j : ℕ)
-      → Contends m IsText old (number_of c) e others last → WaitsIn m IsText (number_of c) j old due
+      → Contends m IsText old (number_of c) e top others last → WaitsIn m IsText (number_of c) j old due
       → IsRejected m IsText c others rival due new → HasRetried (number_of c) rival old new
   retried_at rival old due new c j k waits r =
-      let w : HasWaited m IsText (number_of c) e others last old due =
-      waited m IsText (number_of c) e others last j old due k waits in
+      let w : HasWaited m IsText (number_of c) e top others last old due =
+      waited m IsText (number_of c) e top others last j old due k waits in
       let fewer : HasFewerRivals m IsText c others rival due new r = fewer_law c others rival due new r in
       record {
-        contends = rejected_contends m IsText asks_law raises_law c others rival due new e last w.contends r;
+        contends = rejected_contends m IsText asks_law raises_law c others rival due new e top last w.contends r;
         among = r.among;
         was_rival = λ none. w.settled (rival ∷ [])
             (λ n d. elim (cons_cases rival [] n d) [
@@ -536,26 +748,26 @@ module _ (m : Meaning) (IsText : List ℕ → Type 0) (asks_law : DueNodeAsks) (
             (one_replica m IsText new r.tells.goes.after (number_of c) q fewer.after up fewer.is) is));
       }
 
-  retried : (x rival : ℕ) (old new : Scene ReplicaValue) → Contends m IsText old x e others last
+  retried : (x rival : ℕ) (old new : Scene ReplicaValue) → Contends m IsText old x e top others last
       → Retries m IsText x others rival old new → HasRetried x rival old new
   retried x rival old new k run = subst (λ (n : ℕ). HasRetried n rival old new) run.number
       (retried_at rival old run.due new run.candidate run.ticks
-      (subst (λ (n : ℕ). Contends m IsText old n e others last) (sym run.number) k)
+      (subst (λ (n : ℕ). Contends m IsText old n e top others last) (sym run.number) k)
       (subst (λ (n : ℕ). WaitsIn m IsText n run.ticks old run.due) (sym run.number) run.waits) run.rejected)
 
   -- the rivals, none of which was settled before
   record HaveRetried (x : ℕ) (rivals : List ℕ) (old new : Scene ReplicaValue) : Type 0 where
-    contends : Contends m IsText new x e others last
+    contends : Contends m IsText new x e top others last
     distinct : AreDistinct rivals
     among : (n : ℕ) → Contains rivals n → Contains others n
     settled : (n : ℕ) → Contains rivals n → IsNoRival new x n
     unsettled : (n : ℕ) → Contains rivals n → IsNoRival old x n → ⊥
     stays : (n : ℕ) → Contains others n → IsNoRival old x n → IsNoRival new x n
 
-  all_retried : (x : ℕ) (rivals : List ℕ) (old new : Scene ReplicaValue) → Contends m IsText old x e others last
+  all_retried : (x : ℕ) (rivals : List ℕ) (old new : Scene ReplicaValue) → Contends m IsText old x e top others last
       → RetriesInTurn m IsText x others rivals old new → HaveRetried x rivals old new
   all_retried x [] old new k same = record {
-    contends = subst (λ (w : Scene ReplicaValue). Contends m IsText w x e others last) (sym same) k;
+    contends = subst (λ (w : Scene ReplicaValue). Contends m IsText w x e top others last) (sym same) k;
     distinct = tt;
     among = λ n d. absurd (omega (arith, d.1));
     settled = λ n d. absurd (omega (arith, d.1));
@@ -634,9 +846,9 @@ few_distinct (n ∷ ns) ms distinct among =
 
 pub rejections_few : (m : Meaning) (IsText : List ℕ → Type 0) → DueNodeAsks → DeliveredNackRaises m IsText
     → RejectedCandidateHasFewerRivals m IsText → RejectionsAreFew m IsText
-rejections_few m IsText asks_law raises_law fewer_law x e others last rivals old new k run =
-    let all : HaveRetried m IsText asks_law raises_law fewer_law e others last x rivals old new =
-    all_retried m IsText asks_law raises_law fewer_law e others last x rivals old new k run in
+rejections_few m IsText asks_law raises_law fewer_law x e top others last rivals old new k run =
+    let all : HaveRetried m IsText asks_law raises_law fewer_law e top others last x rivals old new =
+    all_retried m IsText asks_law raises_law fewer_law e top others last x rivals old new k run in
     record {
       contends = all.contends;
       distinct = all.distinct;
@@ -649,16 +861,17 @@ rejections_few m IsText asks_law raises_law fewer_law x e others last rivals old
 
 module _ (m : Meaning) (IsText : List ℕ → Type 0) (few_law : RejectionsAreFew m IsText)
     (fixed_law : FixedWorldHasLeftovers m IsText) (new_law : FreshRequestsAreNew m IsText)
-    (answers_law : WorldWithLeftoversAnswers m IsText) (x e : ℕ)
+    (answers_law : WorldWithLeftoversAnswers m IsText) (x e top : ℕ)
     (others : List ℕ) (highest : ℕ) (r : RequestValue) (first last : Scene ReplicaValue)
-    (k : Contends m IsText first x e others highest) (low : e ≤ highest) (room : highest < 281474976710656)
+    (k : Contends m IsText first x e top others highest) (ahead_of : top ≤ e) (low : e ≤ highest)
+    (room : highest < 281474976710656)
     (run : Persists m IsText x others r first last) (fixed : AreFixed run.ready x others)
     (fresh : IsFresh run.exchanges.filled r) where
-  persisted : HasPersisted m IsText x e others highest run.rivals run.retried
-  persisted = few_law x e others highest run.rivals first run.retried k run.retries
+  persisted : HasPersisted m IsText x e top others highest run.rivals run.retried
+  persisted = few_law x e top others highest run.rivals first run.retried k run.retries
 
-  ready : Contends m IsText run.ready x e others highest
-  ready = (waited m IsText x e others highest run.ticks run.retried run.ready persisted.contends run.waits).contends
+  ready : Contends m IsText run.ready x e top others highest
+  ready = (waited m IsText x e top others highest run.ticks run.retried run.ready persisted.contends run.waits).contends
 
   is_candidate : ready.candidate ≡ run.candidate
   is_candidate = one_replica m IsText run.ready ready.holds x ready.candidate run.candidate ready.up run.up
@@ -683,7 +896,7 @@ module _ (m : Meaning) (IsText : List ℕ → Type 0) (few_law : RejectionsAreFe
   one_of q c = subst (λ (ns : List ℕ). Contains ns (number_of q)) others_are (map_has number_of run.voters q c)
 
   module _ (q : ReplicaValue) (c : Contains run.voters q) where
-    abbrev may : MayVote run.ready e highest (number_of q)
+    abbrev may : MayVote run.ready top highest (number_of q)
     may = ready.others_may (number_of q) (one_of q c)
 
     is_voter : may.replica ≡ q
@@ -713,7 +926,7 @@ module _ (m : Meaning) (IsText : List ℕ → Type 0) (few_law : RejectionsAreFe
     others_near = λ q c. of_voter q c (λ y. AreNear y.node.acceptor y.node.learner) (may q c).near;
     ballot = not_above;
     behind = λ q c. of_voter q c (λ y. executed y.node.learner ≤ executed run.candidate.node.learner)
-        (let low_one = (may q c).behind in omega (arith, reach, low_one));
+        (let low_one = (may q c).behind in omega (arith, reach, low_one, ahead_of));
     reaches = λ q c. of_voter q c (λ y. highest < executed y.node.learner + 2 * alpha y.node.learner)
         (may q c).reaches;
     votes = λ q c. elim (cons_cases run.candidate run.voters q c) [
@@ -739,14 +952,15 @@ module _ (m : Meaning) (IsText : List ℕ → Type 0) (few_law : RejectionsAreFe
 pub persisting_answers : (m : Meaning) (IsText : List ℕ → Type 0) → RejectionsAreFew m IsText
     → FixedWorldHasLeftovers m IsText → FreshRequestsAreNew m IsText → WorldWithLeftoversAnswers m IsText
     → PersistingCandidateAnswers m IsText
-persisting_answers m IsText few_law fixed_law new_law answers_law x e others highest r first last k low room run fixed
-    fresh =
-    answered m IsText few_law fixed_law new_law answers_law x e others highest r first last k low room run fixed fresh
+persisting_answers m IsText few_law fixed_law new_law answers_law x e top others highest r first last k ahead_of low
+    room run fixed fresh =
+    answered m IsText few_law fixed_law new_law answers_law x e top others highest r first last k ahead_of low room run
+    fixed fresh
 
 pub restarted_majority_answers : (m : Meaning) (IsText : List ℕ → Type 0) → NodesRestart m IsText
     → RestartedNodesContend m IsText → PersistingCandidateAnswers m IsText → RestartedMajorityAnswers m IsText
 restarted_majority_answers m IsText restarts contend answers x e others highest r old first last distinct turns holds
     tell low room run fixed fresh =
-    answers x e others highest r first last
-    (contend x e others highest old first (restarts old first (x ∷ others) distinct turns) holds distinct tell) low room
-    run fixed fresh
+    answers x e e others highest r first last
+    (contend x e others highest old first (restarts old first (x ∷ others) distinct turns) holds distinct tell)
+    (omega arith) low room run fixed fresh

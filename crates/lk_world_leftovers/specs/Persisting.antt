@@ -4,6 +4,9 @@ use Rattle.std.specs.Prelude.{◌≡◌, ℕ, zero, suc, ◌+◌, ◌*◌, ◌<�
 use Rattle.lk_types.specs.Limits.{max_count}
 use Rattle.lk_types.specs.declared.command.Request.{Request as RequestValue}
 use Rattle.lk_types.specs.declared.vote.Vote.{Vote}
+use Rattle.lk_messages.specs.Values.{DecidedValue}
+use Rattle.lk_messages.specs.declared.message.Content.TheVariants as content
+use Rattle.lk_messages.specs.declared.message.NodeMessage.TheVariants as kinds
 use Rattle.lk_members.specs.Majorities.{IsMajority}
 use Rattle.lk_members.specs.Rosters.{is_member}
 use Rattle.lk_state.specs.Meanings.{Meaning}
@@ -17,7 +20,7 @@ use Rattle.lk_replica.specs.ReplicaValue.{ReplicaValue}
 use Rattle.lk_sim.specs.Scenes.{Scene}
 use Rattle.lk_sim.specs.declared.event.Event.TheVariants as event
 use Rattle.lk_world_progress.specs.Beginning.{IsNewWorld}
-use Rattle.lk_world_progress.specs.Delivering.{AreDistinct}
+use Rattle.lk_world_progress.specs.Delivering.{AreDistinct, Hears}
 use Rattle.lk_world_progress.specs.Exchanging.{number_of}
 use Rattle.lk_world_progress.specs.Overtaking.{IsRejected, IsRival}
 use Rattle.lk_world_progress.specs.Restarting.{HaveRestarted, RestartInTurn}
@@ -31,19 +34,20 @@ use Rattle.lk_world_leftovers.specs.Fixed.{IsFresh, NobodyChanges}
 abbrev pub VotesUpTo : NodeValue → ℕ → Type 0
 VotesUpTo node last = (v : Vote) → Contains node.acceptor.state.votes v → v.position ≤ last
 
--- the node is up, has executed at most e positions, and keeps no vote above the last one. Each position up to the one
+-- the node is up, has executed at most d positions, and keeps no vote above the last one. Each position up to the one
 -- after that is one of its next 2 alpha
-pub record MayVote (w : Scene ReplicaValue) (e last : ℕ) (n : ℕ) : Type 0 where
+pub record MayVote (w : Scene ReplicaValue) (d last : ℕ) (n : ℕ) : Type 0 where
   pub replica : ReplicaValue
   pub up : IsUpAs w n replica
   pub near : AreNear replica.node.acceptor replica.node.learner
-  pub behind : executed replica.node.learner ≤ e
+  pub behind : executed replica.node.learner ≤ d
   pub reaches : last < executed replica.node.learner + 2 * alpha replica.node.learner
   pub votes : VotesUpTo replica.node last
 
 -- The candidate is up, and has executed e positions. It has no term, nothing waits, and nothing is left to execute. It
--- keeps no vote, and knows no pair, above the last position. The others may vote.
-pub record Contends (m : Meaning) (IsText : List ℕ → Type 0) (w : Scene ReplicaValue) (x e : ℕ) (others : List ℕ)
+-- keeps no vote, and knows no pair, above the last position. The others may vote, and have executed at most d
+-- positions.
+pub record Contends (m : Meaning) (IsText : List ℕ → Type 0) (w : Scene ReplicaValue) (x e d : ℕ) (others : List ℕ)
     (last : ℕ) : Type 0 where
   pub holds : Holds m IsText w
   pub candidate : ReplicaValue
@@ -55,7 +59,7 @@ pub record Contends (m : Meaning) (IsText : List ℕ → Type 0) (w : Scene Repl
   pub near : AreNear candidate.node.acceptor candidate.node.learner
   pub pairs : (p : Pair) → Contains candidate.node.learner.pairs p → p.0 ≤ last
   pub votes : VotesUpTo candidate.node last
-  pub others_may : (n : ℕ) → Contains others n → MayVote w e last n
+  pub others_may : (n : ℕ) → Contains others n → MayVote w d last n
   pub distinct : AreDistinct (x ∷ others)
 
 -- ---- after a restart
@@ -83,13 +87,24 @@ pub record DisksTellEnough (w : Scene ReplicaValue) (x e : ℕ) (others : List �
 abbrev pub RestartedNodesContend : Meaning → (List ℕ → Type 0) → Type 0
 RestartedNodesContend m IsText = (x e : ℕ) (others : List ℕ) (last : ℕ) (old new : Scene ReplicaValue)
     → HaveRestarted (x ∷ others) old new → Holds m IsText new → AreDistinct (x ∷ others)
-    → DisksTellEnough new x e others last → Contends m IsText new x e others last
+    → DisksTellEnough new x e others last → Contends m IsText new x e e others last
 
 -- so do the nodes of a new cluster, which have executed nothing
 abbrev pub NewWorldsContend : Meaning → (List ℕ → Type 0) → Type 0
 NewWorldsContend m IsText = (w : Scene ReplicaValue) (candidate : ReplicaValue) (index ticks : ℕ) (others : List ℕ)
     → IsNewWorld m IsText w candidate index ticks others
-    → Contends m IsText w (number_of candidate) 0 others 0
+    → Contends m IsText w (number_of candidate) 0 0 others 0
+
+-- ---- a candidate that is behind
+
+-- A node that contends, and takes decided commands of positions up to the last one, contends on, and has executed no
+-- less. How much more it has executed is in the laws of feeding.
+abbrev pub FedCandidateContends : Meaning → (List ℕ → Type 0) → Type 0
+FedCandidateContends m IsText = (x e d : ℕ) (others : List ℕ) (last from : ℕ) (told : DecidedValue)
+    (old new : Scene ReplicaValue) → Contends m IsText old x e d others last
+    → e ≤ last → told.first + length told.commands ≤ last + 1
+    → Hears m IsText x (content.Node from (kinds.Decided told)) old new
+    → (f : ℕ) × (e ≤ f) × Contends m IsText new x f d others last
 
 -- ---- rejections
 
@@ -127,18 +142,18 @@ IsNoRival w x n = (c : ReplicaValue) → IsUpAs w x c → IsRival w (next_ballot
 
 -- The rivals that have rejected it are different, and each is one of the others, so they are not more than these. None
 -- of them is a rival any more, and the candidate and the others are as before.
-pub record HasPersisted (m : Meaning) (IsText : List ℕ → Type 0) (x e : ℕ) (others : List ℕ) (last : ℕ)
+pub record HasPersisted (m : Meaning) (IsText : List ℕ → Type 0) (x e d : ℕ) (others : List ℕ) (last : ℕ)
     (rivals : List ℕ) (new : Scene ReplicaValue) : Type 0 where
-  pub contends : Contends m IsText new x e others last
+  pub contends : Contends m IsText new x e d others last
   pub distinct : AreDistinct rivals
   pub among : (n : ℕ) → Contains rivals n → Contains others n
   pub few : length rivals ≤ length others
   pub settled : (n : ℕ) → Contains rivals n → IsNoRival new x n
 
 abbrev pub RejectionsAreFew : Meaning → (List ℕ → Type 0) → Type 0
-RejectionsAreFew m IsText = (x e : ℕ) (others : List ℕ) (last : ℕ) (rivals : List ℕ) (old new : Scene ReplicaValue)
-    → Contends m IsText old x e others last → RetriesInTurn m IsText x others rivals old new
-    → HasPersisted m IsText x e others last rivals new
+RejectionsAreFew m IsText = (x e d : ℕ) (others : List ℕ) (last : ℕ) (rivals : List ℕ)
+    (old new : Scene ReplicaValue) → Contends m IsText old x e d others last
+    → RetriesInTurn m IsText x others rivals old new → HasPersisted m IsText x e d others last rivals new
 
 -- ---- until a request is answered
 
@@ -176,8 +191,8 @@ pub record HasAnsweredInTime (m : Meaning) (IsText : List ℕ → Type 0) (x e :
   pub reach : executed k.candidate.node.learner ≡ e
 
 abbrev pub PersistingCandidateAnswers : Meaning → (List ℕ → Type 0) → Type 0
-PersistingCandidateAnswers m IsText = (x e : ℕ) (others : List ℕ) (highest : ℕ) (r : RequestValue)
-    (first last : Scene ReplicaValue) → Contends m IsText first x e others highest → e ≤ highest
+PersistingCandidateAnswers m IsText = (x e d : ℕ) (others : List ℕ) (highest : ℕ) (r : RequestValue)
+    (first last : Scene ReplicaValue) → Contends m IsText first x e d others highest → d ≤ e → e ≤ highest
     → highest < max_count → (k : Persists m IsText x others r first last) → AreFixed k.ready x others
     → IsFresh k.exchanges.filled r → HasAnsweredInTime m IsText x e others highest r first last k
 

@@ -6,7 +6,8 @@ ghost use Rattle.lk_world_leftovers.specs.Exchanging.{LeftoversAreFilled, WorldW
 ghost use Rattle.lk_world_leftovers.specs.Fixed.{FixedWorldHasLeftovers, FreshRequestsAreNew, NodesKnowMembers};
 ghost use Rattle.lk_world_leftovers.specs.Fixed.{VotesAreOlder};
 ghost use Rattle.lk_world_leftovers.specs.Filling.{FillingLeaderOffers, PositionIsFilled};
-ghost use Rattle.lk_world_leftovers.specs.Persisting.{PersistingCandidateAnswers, RejectionsAreFew};
+ghost use Rattle.lk_world_leftovers.specs.Persisting.{FedCandidateContends, PersistingCandidateAnswers};
+ghost use Rattle.lk_world_leftovers.specs.Persisting.{RejectionsAreFew};
 ghost use Rattle.lk_world_leftovers.specs.Persisting.{NewWorldsContend, RestartedMajorityAnswers};
 ghost use Rattle.lk_world_leftovers.specs.Persisting.{RestartedNodesContend};
 
@@ -137,7 +138,12 @@ pub fn restarted_nodes_contend<M: Machine>()
     ensures { RestartedNodesContend M.meaning M.IsText }
 {}
 
-/// So do the nodes of a new cluster.
+/// A candidate that is behind, and takes decided commands, meets them still, and has executed no less.
+pub fn a_fed_candidate_contends<M: Machine>()
+    ensures { FedCandidateContends M.meaning M.IsText }
+{}
+
+/// The nodes of a new cluster meet them.
 pub fn new_worlds_contend<M: Machine>()
     ensures { NewWorldsContend M.meaning M.IsText }
 {
