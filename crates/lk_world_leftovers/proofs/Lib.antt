@@ -1,7 +1,11 @@
 mod Keeping
 mod Filling
 mod Serving
+mod Promising
 mod Collecting
 mod Exchanging
 mod Fixed
+mod Lasting
+mod Feeding
+mod Retrying
 mod Persisting

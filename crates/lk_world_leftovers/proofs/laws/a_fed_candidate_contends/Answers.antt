@@ -1,4 +1,4 @@
-use Rattle.lk_world_leftovers.proofs.Persisting.{fed_candidate_contends}
+use Rattle.lk_world_leftovers.proofs.Feeding.{fed_candidate_contends}
 use Rattle.lk_world_leftovers.proofs.laws.a_fed_candidate_contends.Goals as goal
 
 pub returns : goal.returns

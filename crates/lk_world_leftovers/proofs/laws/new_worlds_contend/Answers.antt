@@ -1,4 +1,4 @@
-use Rattle.lk_world_leftovers.proofs.Persisting.{new_worlds_contend}
+use Rattle.lk_world_leftovers.proofs.Lasting.{new_worlds_contend}
 use Rattle.lk_world_leftovers.proofs.laws.new_worlds_contend.Goals as goal
 
 pub returns : goal.returns

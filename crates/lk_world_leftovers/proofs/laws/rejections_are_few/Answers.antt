@@ -1,4 +1,4 @@
-use Rattle.lk_world_leftovers.proofs.Persisting.{rejections_few}
+use Rattle.lk_world_leftovers.proofs.Retrying.{rejections_few}
 use Rattle.lk_world_leftovers.proofs.laws.rejections_are_few.Goals as goal
 
 pub returns : goal.returns

@@ -1,4 +1,4 @@
-use Rattle.lk_world_leftovers.proofs.Persisting.{restarted_contend}
+use Rattle.lk_world_leftovers.proofs.Lasting.{restarted_contend}
 use Rattle.lk_world_leftovers.proofs.laws.restarted_nodes_contend.Goals as goal
 
 pub returns : goal.returns
