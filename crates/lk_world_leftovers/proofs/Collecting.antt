@@ -1,6 +1,6 @@
 -- A candidate of a world hears the promises of a majority, leads and fills up.
-use Rattle.std.proofs.Common.{◌≡◌, ◌∙◌, inl, inr, ℕ, ◌+◌, ◌*◌, ◌<◌, ◌≤◌, List, []}
-use Rattle.std.proofs.Common.{◌∷◌, map, Some, Contains, refl, ap, sym, subst, arith}
+use Rattle.std.proofs.Common.{◌≡◌, ◌∙◌, inl, inr, ℕ, ◌+◌, ◌*◌, ◌<◌, ◌≤◌, List, [], ◌∷◌, map, Some, Contains, refl, ap}
+use Rattle.std.proofs.Common.{sym, subst, arith}
 use Rattle.lk_types.specs.BallotValue.{BallotValue}
 use Rattle.lk_types.specs.Ballots.{IsAtMost, IsBelow}
 use Rattle.lk_types.specs.declared.member.Member.{Member}
@@ -53,12 +53,12 @@ use Rattle.lk_world_progress.specs.Delivering.{InstallsNothing}
 use Rattle.lk_world_progress.specs.Exchanging.{number_of}
 use Rattle.lk_world_progress.specs.Stepping.{IsFound, IsUpAs, Lives, TakesStep}
 use Rattle.lk_world_leftovers.proofs.Keeping.{fills_itself, votes_itself}
+use Rattle.lk_world_leftovers.proofs.Promising.{HasTerm, Knows, PromisesFrom, Stands, StillBegun, above_from}
+use Rattle.lk_world_leftovers.proofs.Promising.{knows_alike, knows_snapshot, own_prepare, promises_from}
+use Rattle.lk_world_leftovers.proofs.Promising.{stands_promised, stands_snapshot, then_votes}
 use Rattle.lk_world_leftovers.specs.Collecting.{AreLeftovers, CandidateFillsIn, Collects, HasCollected, HasLeftovers}
 use Rattle.lk_world_leftovers.specs.Collecting.{IsNearVoter, promise_in}
 use Rattle.lk_world_leftovers.specs.Filling.{IsFilling, VotesIn}
-use Rattle.lk_world_leftovers.proofs.Promising.{HasTerm, Knows, PromisesFrom, Stands, StillBegun, above_from}
-use Rattle.lk_world_leftovers.proofs.Promising.{knows_alike, knows_snapshot}
-use Rattle.lk_world_leftovers.proofs.Promising.{own_prepare, promises_from, stands_promised, stands_snapshot, then_votes}
 
 -- ---- the exchange
 

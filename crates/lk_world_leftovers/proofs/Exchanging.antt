@@ -1,6 +1,5 @@
 -- Positions are filled one after another, and then a request is answered.
-use Rattle.std.proofs.Common.{◌≡◌, ◌∙◌, ℕ, true, Some, List, [], ◌∷◌, map, refl, ap}
-use Rattle.std.proofs.Common.{sym, subst, arith}
+use Rattle.std.proofs.Common.{◌≡◌, ◌∙◌, ℕ, true, Some, List, [], ◌∷◌, map, refl, ap, sym, subst, arith}
 use Rattle.lk_types.specs.declared.command.Request.{Request as RequestValue}
 use Rattle.lk_types.specs.declared.member.Member.{Member}
 use Rattle.lk_types.specs.declared.vote.Vote.{Vote}
@@ -18,8 +17,8 @@ use Rattle.lk_world_progress.specs.Stepping.{IsUpAs}
 use Rattle.lk_world_leftovers.proofs.Filling.{next_offered}
 use Rattle.lk_world_leftovers.specs.Answering.{IsReadyIn, ReadyLeaderAnswers}
 use Rattle.lk_world_leftovers.specs.Collecting.{CandidateFillsIn, HasCollected, HasLeftovers}
-use Rattle.lk_world_leftovers.specs.Exchanging.{Exchanges, HaveFilled, IsNextIn, LeftoversAnswer}
-use Rattle.lk_world_leftovers.specs.Exchanging.{LeftoversAreFilled, WorldWithLeftoversAnswers}
+use Rattle.lk_world_leftovers.specs.Exchanging.{Exchanges, HaveFilled, IsNextIn, LeftoversAnswer, LeftoversAreFilled}
+use Rattle.lk_world_leftovers.specs.Exchanging.{WorldWithLeftoversAnswers}
 use Rattle.lk_world_leftovers.specs.Filling.{FillsOnIn, IsFilling, IsNextVote, PositionIsFilled}
 
 module _ (m : Meaning) (IsText : List ℕ → Type 0) where

@@ -1,49 +1,44 @@
 -- A candidate that is behind takes decided commands.
-use Rattle.std.proofs.Common.{◌≡◌, ◌∙◌, inl, inr, ℕ, ◌+◌, ◌<◌, ◌≤◌, Bool, true, false, cond}
-use Rattle.std.proofs.Common.{List, [], ◌∷◌, Some, None, length, Contains, refl, ap, sym, subst}
-use Rattle.std.proofs.Common.{arith}
+use Rattle.std.proofs.Common.{◌≡◌, ◌∙◌, inl, inr, ℕ, ◌+◌, ◌<◌, ◌≤◌, Bool, true, false, cond, List, [], ◌∷◌, Some}
+use Rattle.std.proofs.Common.{None, length, Contains, refl, ap, sym, subst, arith, Option}
+use Rattle.std.proofs.lemmas.Option.{slice_get_within}
 use Rattle.lk_types.specs.declared.command.Request.{Request as RequestValue}
 use Rattle.lk_types.specs.declared.vote.Vote.{Vote}
+use Rattle.lk_messages.specs.Values.{DecidedValue}
 use Rattle.lk_messages.specs.declared.message.Content.TheVariants as content
 use Rattle.lk_messages.specs.declared.message.NodeMessage.TheVariants as kinds
+use Rattle.lk_members.specs.Effects.{Command}
 use Rattle.lk_state.specs.Meanings.{Meaning}
+use Rattle.lk_state.specs.Runs.{run_answer}
 use Rattle.lk_state.specs.States.{WholeValue}
+use Rattle.lk_state.specs.declared.session.Session.{Session}
 use Rattle.lk_acceptor.specs.AcceptorValue.{AcceptorValue}
+use Rattle.lk_leader.specs.Waits.{left_by}
+use Rattle.lk_learner.proofs.Learnerships.{ran_moves}
 use Rattle.lk_learner.specs.Learners.{Pair, alpha, executed}
-use Rattle.lk_node_interface.specs.Outboxes.{OutboxValue}
-use Rattle.lk_node.specs.Executing.{NothingToRun}
+use Rattle.lk_node_interface.specs.KeptReplies.{session_by}
+use Rattle.lk_node_interface.specs.Outboxes.{OutboxValue, nothing}
+use Rattle.lk_node.specs.DecidedPairs.{LearnsPairs, none_yet, one_more}
+use Rattle.lk_node.specs.Executing.{NothingToRun, EndsWaitIfAny, Runs, goes_on, is_outside, stays}
+use Rattle.lk_node.specs.Executing.{without_term_if_outside}
+use Rattle.lk_node.specs.Leading.{ProposesAll}
+use Rattle.lk_node.specs.Learning.{Learns}
 use Rattle.lk_node.specs.Nearness.{AreNear}
 use Rattle.lk_node.specs.NodeValue.{NodeValue}
 use Rattle.lk_node.specs.Yielding.{without_term}
 use Rattle.lk_progress.specs.Hearing.{Takes}
 use Rattle.lk_rebases.proofs.Rebases.{Handled, handled}
+use Rattle.lk_leftovers.proofs.Offering.{Reaches, learned_reaches, runs_reach}
 use Rattle.lk_replica.specs.ReplicaValue.{ReplicaValue}
 use Rattle.lk_sim.specs.Scenes.{Scene}
 use Rattle.lk_sim_nodes.specs.declared.seat.Life.TheVariants.{Up}
 use Rattle.lk_world_progress.proofs.Balloting.{found_has}
-use Rattle.lk_world_progress.proofs.Delivering.{heard_from}
-use Rattle.lk_world_progress.specs.Stepping.{IsFound}
-use Rattle.lk_world_leftovers.specs.Persisting.{Contends}
-use Rattle.lk_messages.specs.Values.{DecidedValue}
-use Rattle.lk_node.specs.Executing.{EndsWaitIfAny, Runs, goes_on, is_outside, stays, without_term_if_outside}
-use Rattle.lk_node.specs.Learning.{Learns}
-use Rattle.lk_node.specs.DecidedPairs.{LearnsPairs, none_yet, one_more}
-use Rattle.lk_node.specs.Leading.{ProposesAll}
-use Rattle.lk_leftovers.proofs.Offering.{Reaches, learned_reaches, runs_reach}
-use Rattle.lk_learner.proofs.Learnerships.{ran_moves}
-use Rattle.lk_leader.specs.Waits.{left_by}
-use Rattle.lk_node_interface.specs.KeptReplies.{session_by}
-use Rattle.lk_state.specs.Runs.{run_answer}
-use Rattle.lk_state.specs.declared.session.Session.{Session}
-use Rattle.lk_members.specs.Effects.{Command}
-use Rattle.std.proofs.lemmas.Option.{slice_get_within}
-use Rattle.lk_world_progress.proofs.Delivering.{TakesFrom, found_as, left_as}
+use Rattle.lk_world_progress.proofs.Delivering.{heard_from, TakesFrom, found_as, left_as}
 use Rattle.lk_world_progress.proofs.Stepping.{shown}
 use Rattle.lk_world_progress.specs.Delivering.{Hears}
-use Rattle.lk_world_leftovers.specs.Persisting.{FedCandidateContends}
-use Rattle.lk_node_interface.specs.Outboxes.{nothing}
-use Rattle.std.proofs.Common.{Option}
+use Rattle.lk_world_progress.specs.Stepping.{IsFound}
 use Rattle.lk_world_leftovers.proofs.Lasting.{Lasts, lasts_found, lasts_itself, may_vote}
+use Rattle.lk_world_leftovers.specs.Persisting.{Contends, FedCandidateContends}
 
 -- ---- a Decided
 

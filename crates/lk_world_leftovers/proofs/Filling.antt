@@ -1,6 +1,6 @@
 -- A leader of a world fills one position.
-use Rattle.std.proofs.Common.{◌≡◌, ◌∙◌, inl, inr, ℕ, ◌+◌, ◌*◌, ◌<◌, ◌≤◌, true, Some, List, [], ◌∷◌, Contains}
-use Rattle.std.proofs.Common.{nat_le, refl, ap, sym, subst, arith}
+use Rattle.std.proofs.Common.{◌≡◌, ◌∙◌, inl, inr, ℕ, ◌+◌, ◌*◌, ◌<◌, ◌≤◌, true, Some, List, [], ◌∷◌, Contains, nat_le}
+use Rattle.std.proofs.Common.{refl, ap, sym, subst, arith}
 use Rattle.std.proofs.lemmas.Bool.{cases_Bool, leb-true}
 use Rattle.std.specs.List.{list_any}
 use Rattle.lk_types.specs.BallotValue.{BallotValue}
@@ -9,6 +9,7 @@ use Rattle.lk_types.specs.declared.genesis.Genesis.{Genesis}
 use Rattle.lk_types.specs.declared.member.Member.{Member}
 use Rattle.lk_types.specs.declared.vote.Vote.{Vote}
 use Rattle.lk_store_format.specs.Values.{HeaderValue}
+use Rattle.lk_messages.specs.Grammar.{spelling}
 use Rattle.lk_messages.specs.declared.message.Content.{Content}
 use Rattle.lk_messages.specs.declared.message.Content.TheVariants as content
 use Rattle.lk_messages.specs.declared.message.NodeMessage.{NodeMessage}
@@ -16,7 +17,6 @@ use Rattle.lk_messages.specs.declared.message.NodeMessage.TheVariants as kinds
 use Rattle.lk_agreement_laws.proofs.Histories.{cons_cases, contains_more}
 use Rattle.lk_agreement_laws.specs.Datagrams.{Datagram, said_by}
 use Rattle.lk_agreement_laws.specs.declared.party.Party.TheVariants as party
-use Rattle.lk_messages.specs.Grammar.{spelling}
 use Rattle.lk_members.specs.Nodes.{nodes_of}
 use Rattle.lk_state.specs.Meanings.{Meaning}
 use Rattle.lk_acceptor.specs.AcceptorValue.{AcceptorValue}

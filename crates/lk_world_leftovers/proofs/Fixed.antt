@@ -1,6 +1,6 @@
 -- What the nodes of a world know if nobody has asked to change the members.
-use Rattle.std.proofs.Common.{◌≡◌, ◌∙◌, inl, inr, ℕ, suc, ◌+◌, ◌-◌, ◌<◌, ◌≤◌, ◌&&◌, nat_lt, nat_le, true, false}
-use Rattle.std.proofs.Common.{List, [], ◌∷◌, Option, Some, None, Contains, length, refl, ap, sym, subst, arith}
+use Rattle.std.proofs.Common.{◌≡◌, ◌∙◌, inl, inr, ℕ, suc, ◌+◌, ◌-◌, ◌<◌, ◌≤◌, ◌&&◌, nat_lt, nat_le, true, false, List}
+use Rattle.std.proofs.Common.{[], ◌∷◌, Option, Some, None, Contains, length, refl, ap, sym, subst, arith}
 use Rattle.std.proofs.lemmas.Bool.Decides.{nat_tests}
 use Rattle.std.proofs.lemmas.List.Elements.{Contains-append_left, Contains-push}
 use Rattle.std.proofs.lemmas.Option.{slice_get-get_or}
@@ -24,7 +24,7 @@ use Rattle.lk_state.specs.Sessions.{session_of, is_new}
 use Rattle.lk_state.specs.States.{WholeValue, last_session, whole_after}
 use Rattle.lk_state.specs.declared.session.Session.{Session}
 use Rattle.lk_learner.proofs.Learnerships.{ran_moves}
-use Rattle.lk_learner.specs.Learners.{alpha, executed}
+use Rattle.lk_learner.specs.Learners.{executed}
 use Rattle.lk_node.specs.Beginning.{greatest_round, next_ballot}
 use Rattle.lk_node.specs.Histories.{WasAsked}
 use Rattle.lk_node.specs.NodeValue.{NodeValue}

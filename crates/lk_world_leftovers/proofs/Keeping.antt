@@ -1,6 +1,5 @@
 -- What a rebase leaves of a leader that fills up, and of a voter.
-use Rattle.std.proofs.Common.{inl, inr, ℕ, ◌<◌, List, Contains, nat_lt}
-use Rattle.std.proofs.Common.{subst, arith}
+use Rattle.std.proofs.Common.{inl, inr, ℕ, ◌<◌, List, Contains, nat_lt, subst, arith}
 use Rattle.std.proofs.lemmas.Bool.{cases_lt}
 use Rattle.lk_types.specs.BallotValue.{BallotValue}
 use Rattle.lk_types.specs.declared.member.Member.{Member}

@@ -1,7 +1,6 @@
 -- What rejections leave of a node, and which nodes contend for answering a request.
-use Rattle.std.proofs.Common.{◌≡◌, ◌∙◌, inl, inr, ℕ, ◌+◌, ◌*◌, ◌<◌, ◌≤◌, Bool, true, false, cond}
-use Rattle.std.proofs.Common.{List, [], None, length, Contains, nat_lt, refl, ap, sym, subst}
-use Rattle.std.proofs.Common.{arith}
+use Rattle.std.proofs.Common.{◌≡◌, ◌∙◌, inl, inr, ℕ, ◌+◌, ◌*◌, ◌<◌, ◌≤◌, Bool, true, false, cond, List, [], None}
+use Rattle.std.proofs.Common.{length, Contains, nat_lt, refl, ap, sym, subst, arith}
 use Rattle.lk_types.specs.BallotValue.{BallotValue}
 use Rattle.lk_types.specs.declared.vote.Vote.{Vote}
 use Rattle.lk_messages.specs.declared.message.Content.TheVariants as content
@@ -32,11 +31,8 @@ use Rattle.lk_world_progress.proofs.Overtaking.{new_acceptor, responds}
 use Rattle.lk_world_progress.specs.Beginning.{IsNewWorld}
 use Rattle.lk_world_progress.specs.Exchanging.{number_of}
 use Rattle.lk_world_progress.specs.Stepping.{Holds, IsFound, IsUpAs}
-use Rattle.lk_world_leftovers.specs.Persisting.{Contends}
-use Rattle.lk_world_leftovers.specs.Persisting.{MayFollow, MayLead, NewWorldsContend}
-use Rattle.lk_world_leftovers.specs.Persisting.{RestartedNodesContend}
-use Rattle.lk_world_leftovers.specs.Persisting.{MayVote}
-use Rattle.lk_world_leftovers.specs.Persisting.{VotesUpTo}
+use Rattle.lk_world_leftovers.specs.Persisting.{Contends, MayFollow, MayLead, NewWorldsContend, RestartedNodesContend}
+use Rattle.lk_world_leftovers.specs.Persisting.{MayVote, VotesUpTo}
 
 -- ---- what lasts
 

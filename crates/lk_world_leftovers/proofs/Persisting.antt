@@ -1,6 +1,5 @@
 -- A candidate that has no rival any more answers.
-use Rattle.std.proofs.Common.{◌≡◌, ◌∙◌, inl, inr, ℕ, ◌+◌, ◌*◌, ◌<◌, ◌≤◌}
-use Rattle.std.proofs.Common.{List, [], ◌∷◌, map, Contains, ap, sym, subst}
+use Rattle.std.proofs.Common.{◌≡◌, ◌∙◌, inl, inr, ℕ, ◌+◌, ◌*◌, ◌<◌, ◌≤◌, List, [], ◌∷◌, map, Contains, ap, sym, subst}
 use Rattle.std.proofs.Common.{arith}
 use Rattle.lk_types.specs.Ballots.{IsAtMost}
 use Rattle.lk_types.specs.declared.command.Request.{Request as RequestValue}
@@ -21,14 +20,12 @@ use Rattle.lk_world_progress.specs.Delivering.{AreDistinct}
 use Rattle.lk_world_progress.specs.Exchanging.{number_of}
 use Rattle.lk_world_progress.specs.Restarting.{NodesRestart}
 use Rattle.lk_world_progress.specs.Stepping.{IsUpAs}
+use Rattle.lk_world_leftovers.proofs.Retrying.{waited}
 use Rattle.lk_world_leftovers.specs.Exchanging.{WorldWithLeftoversAnswers}
 use Rattle.lk_world_leftovers.specs.Fixed.{FixedWorldHasLeftovers, FreshRequestsAreNew, IsFresh, NobodyIsAhead}
 use Rattle.lk_world_leftovers.specs.Persisting.{AreFixed, Contends, HasAnsweredInTime, HasPersisted}
-use Rattle.lk_world_leftovers.specs.Persisting.{RestartedMajorityAnswers}
-use Rattle.lk_world_leftovers.specs.Persisting.{RestartedNodesContend}
-use Rattle.lk_world_leftovers.specs.Persisting.{MayVote, Persists, PersistingCandidateAnswers, RejectionsAreFew}
-use Rattle.lk_world_leftovers.specs.Persisting.{VotesUpTo}
-use Rattle.lk_world_leftovers.proofs.Retrying.{waited}
+use Rattle.lk_world_leftovers.specs.Persisting.{RestartedMajorityAnswers, RestartedNodesContend, MayVote, Persists}
+use Rattle.lk_world_leftovers.specs.Persisting.{PersistingCandidateAnswers, RejectionsAreFew, VotesUpTo}
 
 -- ---- the answer
 

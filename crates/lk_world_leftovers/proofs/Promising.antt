@@ -10,9 +10,9 @@ use Rattle.lk_types.specs.declared.vote.Vote.{Vote}
 use Rattle.lk_store_format.specs.Values.{HeaderValue}
 use Rattle.lk_messages.specs.declared.message.Content.TheVariants as content
 use Rattle.lk_messages.specs.declared.message.NodeMessage.TheVariants as kinds
-use Rattle.lk_agreement_laws.proofs.Histories.{at_most_below, below_self, filter_from}
-use Rattle.lk_agreement_laws.proofs.Histories.{filter_passes_at}
+use Rattle.lk_agreement_laws.proofs.Histories.{at_most_below, below_self, filter_from, filter_passes_at}
 use Rattle.lk_agreement_laws.specs.Changes.{with_promise}
+use Rattle.lk_members.specs.Effects.{Command}
 use Rattle.lk_members.specs.Rosters.{is_member}
 use Rattle.lk_state.specs.Meanings.{Meaning}
 use Rattle.lk_acceptor.specs.AcceptorValue.{AcceptorValue}
@@ -22,7 +22,6 @@ use Rattle.lk_leader.specs.Proposing.{AreMembersAt}
 use Rattle.lk_leader.specs.Terms.{LeaderValue, begun}
 use Rattle.lk_leader.specs.Values.{is_changing_at}
 use Rattle.lk_learner.specs.Learners.{IsNext, LearnerValue, Pair, alpha, executed}
-use Rattle.lk_members.specs.Effects.{Command}
 use Rattle.lk_node_interface.specs.Outboxes.{OutboxValue}
 use Rattle.lk_node.specs.Executing.{NothingToRun}
 use Rattle.lk_node.specs.Leading.{NothingToPropose, ProposesAll, having_proposed}

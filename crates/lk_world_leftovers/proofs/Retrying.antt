@@ -1,7 +1,6 @@
 -- A candidate that is rejected, one rival after another, stays as it was.
-use Rattle.std.proofs.Common.{◌≡◌, ◌∙◌, inl, inr, ℕ, zero, suc, ◌+◌, ◌≤◌, true, false, cond}
-use Rattle.std.proofs.Common.{List, [], ◌∷◌, Some, None, length, Contains, nat_lt, eqb, refl, ap, sym, subst}
-use Rattle.std.proofs.Common.{arith}
+use Rattle.std.proofs.Common.{◌≡◌, ◌∙◌, inl, inr, ℕ, zero, suc, ◌+◌, ◌≤◌, true, false, cond, List, [], ◌∷◌, Some}
+use Rattle.std.proofs.Common.{None, length, Contains, nat_lt, eqb, refl, ap, sym, subst, arith}
 use Rattle.std.proofs.lemmas.Bool.{cases_Bool, eq-eqb, eqb-true}
 use Rattle.std.proofs.lemmas.Bool.Decides.{nat_tests}
 use Rattle.lk_types.specs.BallotValue.{BallotValue}
@@ -35,12 +34,10 @@ use Rattle.lk_world_progress.specs.Exchanging.{number_of}
 use Rattle.lk_world_progress.specs.Overtaking.{DeliveredNackRaises, GoesAboveIn, HasFewerRivals, IsRejected, IsRival}
 use Rattle.lk_world_progress.specs.Overtaking.{RejectedCandidateHasFewerRivals}
 use Rattle.lk_world_progress.specs.Stepping.{GoesWell, IsFound, IsUpAs, TakesStep}
-use Rattle.lk_world_leftovers.specs.Persisting.{Contends, IsNoRival}
-use Rattle.lk_world_leftovers.specs.Persisting.{MayVote, RejectionsAreFew}
-use Rattle.lk_world_leftovers.specs.Persisting.{Retries, RetriesInTurn, WaitsIn}
-use Rattle.lk_node.specs.Executing.{stays}
-use Rattle.lk_world_leftovers.proofs.Lasting.{Lasts, lasts_found, lasts_itself, lasts_promise, lasts_trans, may_vote, nack_lasts}
-use Rattle.lk_world_leftovers.proofs.Lasting.{prepare_lasts, still_contends}
+use Rattle.lk_world_leftovers.proofs.Lasting.{Lasts, lasts_found, lasts_itself, lasts_promise, lasts_trans, may_vote}
+use Rattle.lk_world_leftovers.proofs.Lasting.{nack_lasts, prepare_lasts, still_contends}
+use Rattle.lk_world_leftovers.specs.Persisting.{Contends, IsNoRival, MayVote, RejectionsAreFew, Retries}
+use Rattle.lk_world_leftovers.specs.Persisting.{RetriesInTurn, WaitsIn}
 
 -- ---- a tick that begins nothing
 

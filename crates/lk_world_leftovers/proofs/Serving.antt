@@ -1,6 +1,6 @@
 -- A leader of a world that is ready answers.
-use Rattle.std.proofs.Common.{◌≡◌, ◌∙◌, inl, inr, ℕ, ◌+◌, ◌≤◌, true, Some, List, [], ◌∷◌, Contains}
-use Rattle.std.proofs.Common.{refl, ap, sym, subst, arith}
+use Rattle.std.proofs.Common.{◌≡◌, ◌∙◌, inl, inr, ℕ, ◌+◌, ◌≤◌, true, Some, List, [], ◌∷◌, Contains, refl, ap, sym}
+use Rattle.std.proofs.Common.{subst, arith}
 use Rattle.lk_types.specs.Ballots.{IsAtMost, IsBelow}
 use Rattle.lk_types.specs.declared.command.Request.{Request as RequestValue}
 use Rattle.lk_types.specs.declared.genesis.Genesis.{Genesis}
