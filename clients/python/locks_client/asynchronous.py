@@ -167,12 +167,12 @@ class AsyncClient(Base):
         if watch is None:
             yield
             return
-        self.watches += 1
         task = asyncio.create_task(self.keep_watch(name, fence, watch))
+        self.watches.add(task)
         try:
             yield
         finally:
-            self.watches -= 1
+            self.watches.discard(task)
             task.cancel()
 
     async def keep_watch(self, name: str, fence: int, watch: Watch) -> None:

@@ -46,7 +46,7 @@ class Base:
         own = own_address(self.core.ports, self.core.hosts.values())
         self.guard = threading.RLock()  # one that an interrupt leaves locked does not lock its own thread out
         self.releasing: set[int] = set()  # threads that wait to release or to check: other calls let them go first
-        self.watches = 0  # locks that are watched now: as long as there is one, calls wait for each other
+        self.watches: set[object] = set()  # one for each watch: as long as there is one, calls wait for each other
         self.cleanup = CLEANUP
         self.numbers = self.core.numbers = Numbers(first, state)
         self.socket = self.bound(own)

@@ -32,20 +32,27 @@ class Watch(NamedTuple):
 def watching(client: "Client", name: str, fence: int, watch: Watch) -> Iterator[None]:
     """Watches in a thread while the block runs. Nothing is called any more once it ends."""
     over = threading.Event()
-    client.watches += 1
     try:
-        threading.Thread(target=keep_watch, args=(client, name, fence, watch, over), daemon=True).start()
+        threading.Thread(target=run_watch, args=(client, name, fence, watch, over), daemon=True).start()
         yield
     finally:
         over.set()
-        client.watches -= 1
+
+
+def run_watch(client: "Client", name: str, fence: int, watch: Watch, over: threading.Event) -> None:
+    """Keeps the watch. Other calls wait for its own until it has ended."""
+    client.watches.add(over)
+    try:
+        keep_watch(client, name, fence, watch, over)
+    finally:
+        client.watches.discard(over)
 
 
 def keep_watch(client: "Client", name: str, fence: int, watch: Watch, over: threading.Event) -> None:
     """Carries the steps out until one says that the lock is lost, or until it is over."""
     while not over.wait(watch.every):
         try:
-            if client.run(watch.step(name, fence), client.patience) or over.is_set():
+            if client.run(step(name, fence, watch, over), client.patience) or over.is_set():
                 continue
         except ENDING as error:
             if not over.is_set():
@@ -56,6 +63,11 @@ def keep_watch(client: "Client", name: str, fence: int, watch: Watch, over: thre
             continue
         tell_lost(name, fence, watch)
         return
+
+
+def step(name: str, fence: int, watch: Watch, over: threading.Event) -> Plan[bool]:
+    """The step, unless it is over once its turn has come."""
+    return True if over.is_set() else (yield from watch.step(name, fence))
 
 
 def tell_lost(name: str, fence: int, watch: Watch) -> None:

@@ -38,7 +38,16 @@ class WatchTest(TableCase):
             with one.lock("db", on_lost=lambda *it: told.append(it)):
                 time.sleep(0.06)
         time.sleep(0.2)
-        self.assertEqual((told, self.holders("db"), one.watches), ([], [], 0))
+        self.assertEqual((told, self.holders("db"), one.watches), ([], [], set()))
+
+    def test_a_check_whose_turn_comes_after_the_hold_refuses_no_call(self):
+        one = self.client()
+        with one.lock("db", on_lost=print):
+            with one.guard:  # the check waits for its turn
+                self.wait_for(lambda: one.releasing)
+        for _ in range(20):
+            one.ask("other")
+        self.assertEqual(self.holders("db"), [])
 
     def test_calls_beside_a_watch_wait_for_it(self):
         one = self.client()
