@@ -13,7 +13,7 @@ import subprocess
 from scripting import TOP, Tally, parser
 
 LIMIT = 120
-DATA = ("*.csv", "*.edit", "crates.txt", "clients/golden.txt", "runs/*.txt", "tools/callers/*.txt")
+DATA = ("*.csv", "*.edit", "crates.txt", "clients/golden*.txt", "runs/*.txt", "tools/callers/*.txt")
 UNBROKEN = re.compile(r'\s*(#\[.*\]|\(?"[^"]*".*)')
 
 
