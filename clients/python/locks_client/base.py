@@ -14,7 +14,7 @@ from .plans import Mark, Plan
 from .seals import read_keys
 from .waits import seconds_of
 
-LONGEST = 100  # bytes that are read of a datagram: more than any reply has
+LONGEST = 128  # bytes that are read of a datagram: more than any reply or notice has
 CLEANUP = 2.0  # seconds that the withdrawal of an acquire is tried that an interrupt or a cancellation has ended
 WATCH_EVERY = 1.0  # seconds between two checks of a lock that is watched
 
@@ -74,7 +74,7 @@ class Base:
 
     @property
     def leader(self) -> Endpoint | None:
-        """The endpoint from which the last answer came, None if none has come since a node was silent."""
+        """The node that answered last, or said last that it leads. None if none has since a node was silent."""
         return self.core.leader
 
     @property

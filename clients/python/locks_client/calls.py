@@ -11,18 +11,21 @@ OtherAnswer, and a smaller number is Passed; then nothing was sent but that Ask,
 these, and after `skip_to`, the client begins again.
 """
 import logging
+import math
 from typing import Any
 
 from .core import GRANTING, Core
 from .errors import Busy, LocksError, NoAnswer, NotHeld, OtherAnswer, Refused, Unknown
 from .numbers import SPARE, Numbers
-from .plans import Grant, Made, Mark, Plan, Request, Sleep
+from .plans import Grant, Made, Mark, Plan, Request
 from .results import Free, Held, HeldShared, result
-from .waits import Polls, seconds_of
+from .waiter import Waiter
+from .waits import seconds_of
 from .wire import Answer, Op, name_bytes, table_op
 
 ANSWER_TIME = 0.5  # seconds that a request is given at least: none is begun later before the end of a wait
 CHECK_TIME = 1.0  # seconds that a request of a watch is given: the caller's own requests wait for it
+WAY_TIME = 1.0  # seconds after a release in which this client lets those that wait for the name go first
 BEGIN = table_op("ask", "begin")  # what a run begins with
 
 log = logging.getLogger("locks_client")
@@ -32,7 +35,8 @@ class Calls(Core):
     """What one client knows: where its numbers go on, which request is open, and what it was granted.
 
     last: the last request that was begun. grants: those of this run, by name. settled: the names that no earlier run
-    shares. before: who shared a name before this client asked to.
+    shares. before: who shared a name before this client asked to. released: what was released just now, its fence, and
+    when.
     """
 
     numbers: Numbers
@@ -43,23 +47,48 @@ class Calls(Core):
         self.grants: dict[str, Grant] = {}
         self.settled: set[str] = set()
         self.before: dict[str, HeldShared] = {}
+        self.released: dict[str, tuple[int, float]] = {}
 
     def poll(self, word: str, name: str, wait: float) -> Plan[int]:
-        """Asks for a lock until it is granted, or until the seconds are over."""
-        op, polls, start = table_op(word, name), Polls(), self.clock()
+        """Asks for a lock until it is granted, or until the seconds are over. Between two requests it watches."""
+        op, start = table_op(word, name), self.clock()
         deadline = start + max(seconds_of(wait, "wait"), self.patience)
-        while True:
-            try:
-                fence: int = yield from self.request(op, result, deadline)
-                return fence
-            except Busy as busy:
-                left = min(start + wait, deadline - ANSWER_TIME) - self.clock()
-                if self.is_held(name, busy.fence):
-                    raise self.of(Busy(self.client, busy.fence), op) from None
-                if left <= 0 or busy.holder == self.client:
-                    raise
-                pause = polls.after(busy.fence)
-            yield Sleep(min(pause, left))
+        end = min(start + wait, deadline - ANSWER_TIME)
+        waiter = self.waiter = Waiter(self, word, name)
+        try:
+            yield from self.give_way(waiter, name, end)
+            while True:
+                try:
+                    fence: int = yield from self.request(op, result, deadline)
+                    waiter.is_granted = True
+                    return fence
+                except Busy as busy:
+                    if self.is_held(name, busy.fence):
+                        raise self.of(Busy(self.client, busy.fence), op) from None
+                    if self.clock() >= end or busy.holder == self.client:
+                        raise
+                    held = busy.fence
+                yield from waiter.pause(held, end)
+        except LocksError:
+            yield from self.stop_waiting()
+            raise
+        finally:
+            waiter.rest()
+
+    def give_way(self, waiter: Waiter, name: str, end: float) -> Plan[None]:
+        """Lets those go first who wait for a name that this client has released within the last second.
+
+        It would win against them nearly always: its request needs half a round trip, theirs a notice before it.
+        """
+        fence, since = self.released.get(name, (0, -math.inf))
+        if self.clock() - since < WAY_TIME and self.clock() < end and waiter.has_listeners():
+            yield from waiter.pause(fence, end)
+
+    def stop_waiting(self) -> Plan[None]:
+        """Withdraws the watch of a wait that has ended without the lock."""
+        waiter, self.waiter = self.waiter, None
+        if waiter:
+            yield from waiter.withdraw()
 
     def share(self, name: str, wait: float, adopt: bool) -> Plan[int]:
         """The same for a shared hold. That of an earlier run is left alone, unless the caller adopts it.
@@ -130,6 +159,7 @@ class Calls(Core):
 
     def abandon(self, name: str, mark: Mark, seconds: float) -> Plan[bool]:
         """Withdraws what an interrupted plan has asked, and nothing that another call holds. Whether it was granted."""
+        yield from self.stop_waiting()
         request = mark.request or self.last
         if not mark.has_begun or request is None or request is mark.before:
             return False
@@ -165,6 +195,7 @@ class Calls(Core):
         What was granted to another request stays, as that of an earlier run: its own answer tells the two apart. False
         only if it is known; else an error is raised.
         """
+        yield from self.stop_waiting()
         request = self.open or self.last
         if request is None or request.op.word not in GRANTING or request.op.name != name:
             return (yield from self.withdraw_earlier(name))
@@ -304,6 +335,13 @@ class Calls(Core):
         if answer.text == "released":
             self.unknown.discard(op.name)
             self.settled.add(op.name)
+            self.note_release(op)
+
+    def note_release(self, op: Op) -> None:
+        """Remembers a release for a second."""
+        now = self.clock()
+        self.released = {name: it for name, it in self.released.items() if now - it[1] < WAY_TIME}
+        self.released[op.name] = op.fence, now
 
     def is_held(self, name: str, fence: int) -> bool:
         """Whether this run was granted the name at that fence, and knows neither of a release nor of a loss."""

@@ -51,10 +51,10 @@ class Client(Base):
         self.close()
 
     def acquire(self, name: str, wait: float = 0.0, blocking: bool | None = None) -> int:
-        """Takes the lock, and gives its fence. Asks up to `wait` seconds while another client holds it.
+        """Takes the lock, and gives its fence. Waits up to `wait` seconds while another client holds it.
 
-        `blocking=True` asks for ever. Busy if it is held then, or by this client itself since an earlier run; NoRoom or
-        Spent if it cannot be granted; NoAnswer if no answer came within `wait` and `patience`, whichever is longer:
+        `blocking=True` waits for ever. Busy if it is held then, or by this client itself since an earlier run; NoRoom
+        or Spent if it cannot be granted; NoAnswer if no answer came within `wait` and `patience`, whichever is longer:
         then `again` asks once more, and `withdraw` gives it up.
         """
         return self.run(self.core.poll("acquire", name, wait_of(wait, blocking)))

@@ -10,6 +10,7 @@ from .errors import LocksError, NoAnswer, Passed, Unanswered
 from .plans import Datagram, Listen, Plan, Request, Send
 from .seals import Seals
 from .waits import seconds_of, waits
+from .waiter import Waiter
 from .wire import MAX_CLIENT, Answer, Elsewhere, Op, Overtaken, ranged, read_reply, request_bytes
 
 MAX_ELSEWHERE = 7  # Elsewheres that are followed between two waits: a cluster has no more members
@@ -22,9 +23,11 @@ log = logging.getLogger("locks_client")
 class Core:
     """What one client knows of the nodes, and of the request that it waits for.
 
-    clock: gives seconds. leader: the endpoint from which the last answer came. open: the request that has no answer
-    yet. opening: the Ask that is sent before it, since the run begins with it. is_sent: whether the open request was
-    sent. unknown: the names whose acquire was dropped without an answer.
+    clock: gives seconds. leader: the node that answered last, or said that it leads. open: the request that has no
+    answer yet. opening: the Ask that is sent before it, since the run begins with it. is_sent: whether the open request
+    was sent. unknown: the names whose acquire was dropped without an answer. waiter: the last wait for a lock, unless
+    it was withdrawn. watch_number: that of the last watch; they rise over restarts, unless a clock is set back.
+    unanswered: how many watches in turn each node has not answered.
     """
 
     def __init__(
@@ -48,6 +51,8 @@ class Core:
         self.unknown: set[str] = set()
         self.sent_number = 0
         self.sent_to: set[Endpoint] = set()  # where the request of that number was sent
+        self.waiter: Waiter | None = None
+        self.watch_number, self.unanswered = time.time_ns(), dict[Endpoint, int]()
 
     def set_ports(self, ports: Iterable[Endpoint]) -> None:
         """Asks these nodes from now on."""
@@ -55,7 +60,7 @@ class Core:
         if not found:
             raise ValueError("no port of a node is given")
         self.ports, self.turn = found, itertools.cycle(found)
-        self.leader: Endpoint | None = None  # the endpoint from which the last answer came
+        self.leader: Endpoint | None = None
 
     def set_keys(self, keys: Sequence[bytes]) -> None:
         """Seals with these keys from now on, the open request too."""
@@ -126,9 +131,14 @@ class Core:
                 self.lost_name()
                 self.open, self.opening, self.has_begun = None, None, False
                 raise Passed(reply.last)
-            if isinstance(reply, Elsewhere) and followed < MAX_ELSEWHERE:
+            if followed == MAX_ELSEWHERE:
+                continue
+            if isinstance(reply, Elsewhere):
                 followed += 1
                 yield self.sent(request, self.endpoint_in(reply, heard.port))
+            elif self.waiter and self.waiter.leads(heard):
+                followed += 1
+                yield self.sent(request, heard.port)
         return None
 
     def is_asked(self, source: Endpoint) -> bool:
@@ -136,13 +146,16 @@ class Core:
         return bool(self.seals.keys) or source in self.sent_to
 
     def heard_by(self, until: float) -> Plan[Datagram | None]:
-        """The datagram that comes by then. Logs a warning for every few seconds without an answer."""
-        while self.warn_at < until:
-            heard = yield Listen(self.warn_at)
+        """The datagram that comes by then. Warns of each few seconds without an answer, and renews a watch."""
+        while (due := min(self.warn_at, self.waiter.renew_at if self.waiter else self.warn_at)) < until:
+            heard = yield Listen(due)
             if heard:
                 return heard
-            self.warn_at += WARN_EVERY
-            log.warning("client %d: no answer for another %.0f s to %s", self.client, WARN_EVERY, self.asked())
+            if due == self.warn_at:
+                self.warn_at += WARN_EVERY
+                log.warning("client %d: no answer for another %.0f s to %s", self.client, WARN_EVERY, self.asked())
+            elif self.waiter:
+                yield from self.waiter.send()
         return (yield Listen(until))
 
     def reply_in(self, data: bytes, number: int) -> Answer | Elsewhere | Overtaken | None:

@@ -6,8 +6,10 @@ import time
 import unittest
 import warnings
 
+from fake_node import WatchQueue
 from locks_client import Client
 from locks_client.plans import Datagram, Send
+from locks_client.seals import REPLY, REQUEST, Seals
 from locks_client.wire import HEADER
 
 
@@ -84,7 +86,8 @@ class TableClient(Client):
     def perform(self, effect):
         """Answers what is sent."""
         if isinstance(effect, Send):
-            self.waiting.append(self.table.reply(effect.data))
+            if effect.data[:2] == b"LK":
+                self.waiting.append(self.table.reply(effect.data))
             return None
         return Datagram(self.waiting.pop(0), 1) if self.waiting else super().perform(effect)
 
@@ -107,9 +110,11 @@ class TableNode(threading.Thread):
 
     def run(self):
         while True:
-            data, sender = self.socket.recvfrom(100)
+            data, sender = self.socket.recvfrom(128)
             if not data:
                 return self.socket.close()
+            if data[:2] != b"LK":
+                continue  # an old node drops watches
             body = data[HEADER.size + 2]
             self.heard.append(body)
             if self.takes(body):
@@ -121,6 +126,90 @@ class TableNode(threading.Thread):
     def stop(self):
         with socket.socket(socket.AF_INET, socket.SOCK_DGRAM) as it:
             it.sendto(b"", ("127.0.0.1", self.port))
+        self.join()
+
+
+class QueueNode(threading.Thread):
+    """A node with the queue of those who wait, for a table that it may have in common with others.
+
+    leads: whether it answers requests, and tells who waits. period: seconds of one. posts: what is made of its notices
+    before they are sent, a list of bytes and addresses. key: that of a client, if what it takes and sends is sealed.
+    heard: the first byte of the body of each request. watched: each watch. sent: each notice.
+    """
+
+    def __init__(self, table=None, number=1, leads=True, period=0.1, key=None):
+        super().__init__(daemon=True)
+        self.table, self.leads, self.period, self.key = table or Table(), leads, period, key
+        self.queue = WatchQueue(number, self.standing)
+        self.posts = lambda letters: letters
+        self.takes = lambda body: True
+        self.heard, self.watched, self.sent, self.is_over = [], [], [], False
+        self.socket = socket.socket(socket.AF_INET, socket.SOCK_DGRAM)
+        self.socket.bind(("127.0.0.1", 0))
+        self.socket.settimeout(0.01)
+        self.port = self.socket.getsockname()[1]
+        self.start()
+
+    def standing(self, name):
+        """Who holds a name, and its last fence."""
+        return self.table.holders.get(name, ()), self.table.fences.get(name, 0)
+
+    def run(self):
+        due = time.monotonic() + self.period
+        while not self.is_over:
+            with contextlib.suppress(TimeoutError):
+                data, sender = self.socket.recvfrom(128)
+                self.take(self.opened(data), sender)
+            if time.monotonic() >= due:
+                self.queue.pass_period()
+                due += self.period
+            self.queue.speaks = self.leads
+            self.post(self.queue.letters())
+        self.socket.close()
+
+    def opened(self, frame):
+        """What a frame has of a client, bare if there is no key."""
+        if not self.key:
+            return frame
+        datagram = frame[36:]
+        return datagram if self.seals(datagram).frame(REQUEST, self.key, datagram) == frame else b""
+
+    def sealed(self, datagram):
+        """The frame of a datagram to a client."""
+        return self.seals(datagram).frame(REPLY, self.key, datagram) if self.key else datagram
+
+    def seals(self, datagram):
+        return Seals(5, int.from_bytes(datagram[16:18], "big"), [])
+
+    def take(self, data, sender):
+        """Takes a watch or a request."""
+        if data[:2] == b"LW":
+            self.watched.append(data)
+            self.queue.speaks = self.leads
+            return self.post(self.queue.hear(data, sender))
+        if data[:2] != b"LK":
+            return None
+        body = data[HEADER.size + 2]
+        self.heard.append(body)
+        if self.leads and self.takes(body):
+            self.answer(data, sender)
+
+    def answer(self, data, sender):
+        """Executes a request and replies. Whoever holds a name now waits no more."""
+        reply = self.table.reply(data)
+        for name, who in list(self.table.holders.items()):
+            for client in who:
+                self.queue.granted(client, name)
+        self.socket.sendto(self.sealed(reply), sender)
+
+    def post(self, letters):
+        """Sends notices."""
+        for notice, sender in self.posts(letters) if letters else []:
+            self.sent.append(notice)
+            self.socket.sendto(self.sealed(notice), sender)
+
+    def stop(self):
+        self.is_over = True
         self.join()
 
 

@@ -8,6 +8,7 @@ from unittest import mock
 
 from table_case import Table, TableClient
 from locks_client import LocksError, hold
+from locks_client.plans import Send
 
 
 class Interrupter:
@@ -39,25 +40,41 @@ class Interrupter:
         return False, []
 
 
+class ToldClient(TableClient):
+    """A client that finds the lock held by client 9, which releases it once it is watched."""
+
+    def __init__(self, table):
+        super().__init__(table)
+        table.holders["db"], table.fences["db"] = (9,), 1
+
+    def perform(self, effect):
+        if not isinstance(effect, Send) or effect.data[:2] != b"LW" or not effect.data[68]:
+            return super().perform(effect)
+        if self.table.holders.get("db") == (9,):
+            del self.table.holders["db"]
+        self.waiting.append(b"LW\x01\x0a" + effect.data[4:12] + b"\0\0\0\1" + effect.data[16:68] + b"\1\0\1")
+        return None
+
+
 class InterruptTest(unittest.TestCase):
     def setUp(self):
         logging.disable(logging.CRITICAL)
         self.addCleanup(logging.disable, logging.NOTSET)
 
-    def sweep(self, hold, step):
+    def sweep(self, hold, step, kind=TableClient):
         """Interrupts a hold at each of its bytecodes, or at each `step`th one. How many there were."""
         at = 0
         while True:
             at += step
             table = Table()
-            client = TableClient(table)
+            client = kind(table)
             client.cleanup = 0.05
             is_interrupted, notes = Interrupter(at).run(lambda: hold(client))
             if not is_interrupted:
                 client.close()
                 return at
             with self.subTest(at=at, notes=notes):
-                if table.holders:
+                if any(client.client in it for it in table.holders.values()):
                     self.assertTrue(any("was not released" in note for note in notes))
                 self.goes_on(client)
             client.core.grants.clear()
@@ -89,6 +106,13 @@ class InterruptTest(unittest.TestCase):
                     assert client.table.holders.get("outer"), "the outer lock was freed"
 
         self.assertGreater(self.sweep(hold, 29), 1000)
+
+    def test_a_hold_that_was_waited_for_is_released_or_told(self):
+        def hold(client):
+            with client.lock("db"):
+                pass
+
+        self.assertGreater(self.sweep(hold, 23, ToldClient), 2000)
 
     def test_all_names_are_released_or_told(self):
         def hold(client):
