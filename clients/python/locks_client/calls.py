@@ -197,6 +197,9 @@ class Calls(Core):
         """
         yield from self.stop_waiting()
         request = self.open or self.last
+        if self.is_releasing(name):  # an earlier withdrawal was interrupted
+            yield from self.give_back(name, self.grants[name].fence)
+            return True
         if request is None or request.op.word not in GRANTING or request.op.name != name:
             return (yield from self.withdraw_earlier(name))
         if self.open and not self.is_sent:
@@ -209,6 +212,11 @@ class Calls(Core):
         if request.op.word == "share":
             yield from self.refuse_earlier(name)
         return (yield from self.give_back(name, grant.fence))
+
+    def is_releasing(self, name: str) -> bool:
+        """Whether the open request is the release of what this run was granted."""
+        op = self.open.op if self.open else BEGIN
+        return op.word == "release" and op.name == name and self.is_held(name, op.fence)
 
     def refused(self, seconds: float) -> Plan[None]:
         """Asks so long for the answer of an acquire, which may be a refusal."""

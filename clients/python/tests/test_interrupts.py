@@ -183,17 +183,21 @@ class SignalTest(unittest.TestCase):
             signal.pthread_sigmask(signal.SIG_SETMASK, before)
         if table.holders:
             self.assertIn(" stay held, or may still be granted", str(self.tell.call_args_list))
+            self.held.append(at)
         client.core.grants.clear()
         client.close()
         return status, second.left <= 0
 
     def sweep(self, call, wanted):
-        at, came = 0, True
+        """How many points there are. Hardly any leaves the lock held: the last try is for a second."""
+        at, came, self.held = 0, True, []
         while came:
             at += 1
             with self.subTest(at=at):
+                came = False  # a failure ends the sweep
                 status, came = self.stopped(call, at)
                 self.assertEqual(status, wanted)
+        self.assertLess(len(self.held), 0.1 * at)
         return at
 
     def test_a_second_signal_ends_no_withdrawal_untold(self):

@@ -72,6 +72,20 @@ class WithdrawalTest(TableCase):
         self.assertLess(time.monotonic() - start, 20.0)
         self.assertIn("db was not released by client 7: no answer", raised.exception.__notes__[0])
 
+    def test_a_withdrawal_whose_release_has_no_answer_is_made_again(self):
+        for takes in (True, False):
+            client = self.client(7 + takes)
+            fence = client.acquire("db")
+            self.node.takes = lambda body: takes or body != RELEASE
+            self.node.replies = lambda body: body != RELEASE
+            client.patience = 0.3
+            with self.hearing(RELEASE), self.assertRaises(NoAnswer):
+                client.withdraw("db")
+            self.node.takes = self.node.replies = lambda body: True
+            client.patience = 30.0
+            self.assertTrue(client.withdraw("db"))
+            self.assertEqual((self.holders("db"), client.core.grants, fence), ([], {}, 2 - takes))
+
     def test_a_lock_that_is_held_is_not_said_to_be_refused(self):
         client = self.client()
         client.acquire("db")
