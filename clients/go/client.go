@@ -83,13 +83,21 @@ type Client struct {
 	machine *core.Machine
 	numbers *numbers.Numbers
 	socket  *socket
-	before  wire.Answer // who held the name before the open Share was sent
-	events  []Event     // are told once the turn has ended
+	leads   chan netip.AddrPort // a node that leads, as a notice says
+	before  wire.Answer         // who held the name before the open Share was sent
+	events  []Event             // are told once the turn has ended
 
-	lock  sync.Mutex // of what follows
+	lock  sync.Mutex // of what follows; the socket changes in a turn and under this lock
 	holds map[string]*hold
-	ended map[string]uint64 // the fence at which this run gave a name back last
+	ended map[string]ending // where this run gave a name back last
 	maybe map[string]bool   // names that the client may hold: no answer told whether it does
+
+	seals     wire.Seals
+	nodes     []netip.AddrPort
+	leader    netip.AddrPort      // from which the last answer came
+	waits     map[string]*waiting // by name, those that send watches
+	watch     uint64              // the number of the last watch
+	isUnheard bool                // no notice came to a watch before a request: nodes may be too old to know watches
 }
 
 // Open returns a client. Its first call sends one Ask before its own request. If the answer belongs to an earlier
@@ -106,14 +114,9 @@ func Open(config Config) (*Client, error) {
 	if err != nil {
 		return nil, err
 	}
-	socket, err := listen(nodes)
-	if err != nil {
-		numbers.Close()
-		return nil, err
-	}
 	seals := wire.Seals{Cluster: config.Cluster, Client: config.Client, Keys: config.Keys}
 	random := rand.New(rand.NewSource(time.Now().UnixNano())).Float64
-	return &Client{
+	client := &Client{
 		cluster:  config.Cluster,
 		id:       config.Client,
 		patience: orElse(config.Patience, defaultPatience),
@@ -124,11 +127,27 @@ func Open(config Config) (*Client, error) {
 		turn:     make(chan struct{}, 1),
 		machine:  core.New(seals, nodes, config.Hosts, numbers, random),
 		numbers:  numbers,
-		socket:   socket,
+		leads:    make(chan netip.AddrPort, 1),
 		holds:    map[string]*hold{},
-		ended:    map[string]uint64{},
+		ended:    map[string]ending{},
 		maybe:    map[string]bool{},
-	}, nil
+		seals:    seals,
+		nodes:    nodes,
+		waits:    map[string]*waiting{},
+		watch:    numbersOfWatches(),
+	}
+	client.socket, err = listen(nodes, client.hear)
+	if err != nil {
+		numbers.Close()
+		return nil, err
+	}
+	return client, nil
+}
+
+// numbersOfWatches returns a number above those of the watches of earlier runs, unless a clock was set back. A node
+// that knows a greater one ignores the watches of this run until the old one expires, for two seconds.
+func numbersOfWatches() uint64 {
+	return numbers.Milliseconds() * 1_000_000
 }
 
 func orElse(given, usual time.Duration) time.Duration {
@@ -155,6 +174,7 @@ func (c *Client) Close() error {
 func (c *Client) close() (held, kept error) {
 	close(c.closing)
 	c.turn <- struct{}{} // stays taken: no call follows
+	c.endWaits()
 	c.socket.close()
 	kept = c.numbers.Close()
 	if op, isOpen, isSent := c.machine.Open(); isOpen && isSent && op.IsGranting() {
@@ -200,13 +220,18 @@ func (c *Client) SetNodes(ctx context.Context, nodes ...netip.AddrPort) error {
 		return err
 	}
 	return c.change(ctx, func() error {
-		socket, err := listen(checked)
+		socket, err := listen(checked, c.hear)
 		if err != nil {
 			return err
 		}
-		c.socket.close()
-		c.socket = socket
 		c.machine.SetNodes(checked)
+		c.lock.Lock()
+		defer c.lock.Unlock()
+		c.socket.close()
+		c.socket, c.nodes, c.leader = socket, checked, netip.AddrPort{}
+		for _, it := range c.waits {
+			it.waiter.SetNodes(checked)
+		}
 		return nil
 	})
 }
@@ -215,6 +240,12 @@ func (c *Client) SetNodes(ctx context.Context, nodes ...netip.AddrPort) error {
 func (c *Client) SetKeys(ctx context.Context, keys Keys) error {
 	return c.change(ctx, func() error {
 		c.machine.SetKeys(keys)
+		c.lock.Lock()
+		defer c.lock.Unlock()
+		c.seals.Keys = keys
+		for _, it := range c.waits {
+			it.waiter.SetKeys(keys)
+		}
 		return nil
 	})
 }
@@ -228,12 +259,19 @@ func (c *Client) change(ctx context.Context, what func() error) error {
 	return what()
 }
 
-// enter waits until no other goroutine sends a request.
-func (c *Client) enter(ctx context.Context) error {
+func (c *Client) isClosing() bool {
 	select {
 	case <-c.closing:
-		return ErrClosed
+		return true
 	default:
+		return false
+	}
+}
+
+// enter waits until no other goroutine sends a request.
+func (c *Client) enter(ctx context.Context) error {
+	if c.isClosing() {
+		return ErrClosed
 	}
 	if err := ctx.Err(); err != nil {
 		return err

@@ -288,7 +288,7 @@ func TestANodeOfIPv6IsAsked(t *testing.T) {
 	if err != nil {
 		t.Skip(err)
 	}
-	n := nodeAt(t, connection, free, granted, released)
+	n := nodeAt(t, connection, nil, free, granted, released)
 	at := netip.AddrPortFrom(netip.MustParseAddr("::1"), n.port())
 	client := clientOf(t, func(c *Config) { c.Nodes = []netip.AddrPort{at} })
 	mustRelease(t, mustLock(t, client, "db"))

@@ -87,6 +87,9 @@ func (c *Client) receive(ctx context.Context, until time.Time) (core.Datagram, b
 		return core.Datagram{}, false, ErrClosed
 	case <-timer.C:
 		return core.Datagram{}, false, nil
+	case node := <-c.leads:
+		c.socket.send(c.machine.Lead(node))
+		return core.Datagram{}, false, nil
 	case came := <-c.socket.came:
 		return came, true, nil
 	}

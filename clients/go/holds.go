@@ -2,6 +2,7 @@ package locks
 
 import (
 	"sync"
+	"time"
 
 	"locks/internal/core"
 	"locks/internal/wire"
@@ -38,10 +39,17 @@ func (h *hold) isEnded() bool {
 	}
 }
 
+// An ending is a release of a lock.
+type ending struct {
+	fence uint64
+	at    time.Time
+}
+
 // note remembers what an outcome says of the locks that this run holds.
 func (c *Client) note(op wire.Op, outcome *core.Outcome) {
 	c.lock.Lock()
 	defer c.lock.Unlock()
+	c.leader, _ = c.machine.Leader()
 	isUnknown := outcome.IsPassed() || outcome.IsOther()
 	switch {
 	case outcome.IsFirst:
@@ -76,7 +84,7 @@ func (c *Client) noteState(name string, answer wire.Answer) {
 }
 
 func (c *Client) noteRelease(op wire.Op, answer wire.Answer) {
-	c.ended[op.Name] = op.Fence
+	c.ended[op.Name] = ending{op.Fence, time.Now()}
 	if answer.Text == wire.NotHeld {
 		c.noteEnd(op.Name, op.Fence, &NotHeld{op.Name, op.Fence})
 		return
@@ -123,5 +131,5 @@ func (c *Client) forget(name string) {
 func (c *Client) hasEnded(name string, fence uint64) bool {
 	c.lock.Lock()
 	defer c.lock.Unlock()
-	return c.ended[name] == fence
+	return c.ended[name].fence == fence
 }

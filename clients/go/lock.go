@@ -3,14 +3,13 @@ package locks
 import (
 	"context"
 	"errors"
-	"math/rand"
 	"time"
 
-	"locks/internal/core"
 	"locks/internal/wire"
 )
 
-// Lock takes the lock. It waits until the lock is granted or the context ends, also while no node answers.
+// Lock takes the lock. It waits until the lock is granted or the context ends, also while no node answers. While
+// another client holds the lock, nodes that know watches say when it is free; other nodes are asked again and again.
 //
 // It returns *Busy if the client itself holds the lock, and if the context ends while another client does. If the
 // context ends while a request has no answer, Lock withdraws that for the Grace of the Config, and returns *NoAnswer:
@@ -87,20 +86,32 @@ func (c *Client) try(ctx context.Context, op wire.Op) (*Guard, error) {
 	return c.take(ctx, op)
 }
 
-// wait asks for a lock until it is granted, or cannot be.
+// wait asks for a lock until it is granted, or cannot be. While another client holds it, nodes say when it is free.
 func (c *Client) wait(ctx context.Context, op wire.Op) (*Guard, error) {
-	polls := core.Polls{Random: rand.Float64}
+	if err := op.Valid(); err != nil {
+		return nil, err
+	}
+	waiting := c.waitFor(op)
+	guard, err := c.waited(ctx, op, waiting)
+	waiting.end(err == nil)
+	return guard, err
+}
+
+func (c *Client) waited(ctx context.Context, op wire.Op, waiting *waiting) (*Guard, error) {
+	if err := waiting.yield(ctx); err != nil {
+		return nil, c.unsent(op, err)
+	}
 	for {
 		guard, err := c.take(ctx, op)
 		var busy *Busy
 		if !errors.As(err, &busy) || busy.IsOwn() {
 			return guard, err
 		}
-		after := polls.After(busy.Fence)
+		after := waiting.busy(busy.Fence)
 		c.tell(Event{
 			Kind: EventWaiting, Asked: op.String(), Name: op.Name, Fence: busy.Fence, Holder: busy.Holder, Wait: after,
 		})
-		if busy.Cause = c.sleep(ctx, after); busy.Cause != nil {
+		if busy.Cause = waiting.sleep(ctx); busy.Cause != nil {
 			return nil, busy
 		}
 	}

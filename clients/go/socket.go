@@ -10,10 +10,10 @@ import (
 )
 
 const (
-	// longest is how many bytes are read of a datagram: more than any reply has.
-	longest = 100
-	// waiting is how many datagrams are kept until a call reads them. Further ones are lost.
-	waiting = 64
+	// longest is how many bytes are read of a datagram: more than any reply has, and than a sealed notice.
+	longest = 120
+	// kept is how many datagrams are kept until a call reads them. Further ones are lost.
+	kept = 64
 	// pause follows a read that failed.
 	pause = 10 * time.Millisecond
 )
@@ -22,10 +22,12 @@ const (
 type socket struct {
 	connection *net.UDPConn
 	came       chan core.Datagram
+	isNotice   func(core.Datagram) bool // takes what no request waits for
 }
 
-// listen opens a socket that can reach the nodes: on loopback if they all are at 127.0.0.1.
-func listen(nodes []netip.AddrPort) (*socket, error) {
+// listen opens a socket that can reach the nodes: on loopback if they all are at 127.0.0.1. A goroutine calls isNotice
+// with each datagram, and keeps those for which it reports false until a call reads them.
+func listen(nodes []netip.AddrPort, isNotice func(core.Datagram) bool) (*socket, error) {
 	network := "udp4"
 	if nodes[0].Addr().Is6() {
 		network = "udp6"
@@ -34,7 +36,7 @@ func listen(nodes []netip.AddrPort) (*socket, error) {
 	if err != nil {
 		return nil, err
 	}
-	made := &socket{connection, make(chan core.Datagram, waiting)}
+	made := &socket{connection, make(chan core.Datagram, kept), isNotice}
 	go made.read()
 	return made, nil
 }
@@ -66,8 +68,12 @@ func (s *socket) read() {
 			continue
 		}
 		payload := append([]byte(nil), buffer[:length]...)
+		came := core.Datagram{Payload: payload, Address: netip.AddrPortFrom(from.Addr().Unmap(), from.Port())}
+		if s.isNotice(came) {
+			continue
+		}
 		select {
-		case s.came <- core.Datagram{Payload: payload, Address: netip.AddrPortFrom(from.Addr().Unmap(), from.Port())}:
+		case s.came <- came:
 		default:
 		}
 	}

@@ -46,7 +46,10 @@ type node struct {
 	rows       []string
 	given      map[uint64]string
 	heard      []heard
-	came       chan heard // each request that comes
+	came       chan heard       // each request that comes
+	watches    chan heardWatch  // each watch that comes
+	says       func(heardWatch) // what to do at a watch; nil for a node that knows none
+	key        []byte           // of the client, if the node seals
 }
 
 var words = map[byte]string{1: "acquire", 2: "release", 3: "ask", 4: "check", 5: "share", 6: "break"}
@@ -58,14 +61,25 @@ func fakeNode(t *testing.T, rows ...string) *node {
 	if err != nil {
 		t.Fatal(err)
 	}
-	return nodeAt(t, connection, rows...)
+	return nodeAt(t, connection, nil, rows...)
 }
 
-// nodeAt starts a node at that socket.
-func nodeAt(t *testing.T, connection *net.UDPConn, rows ...string) *node {
+// sealedNode starts a node that opens what the client with that key has sealed, and seals what it replies.
+func sealedNode(t *testing.T, key []byte, rows ...string) *node {
+	t.Helper()
+	connection, err := net.ListenUDP("udp4", &net.UDPAddr{IP: net.IPv4(127, 0, 0, 1)})
+	if err != nil {
+		t.Fatal(err)
+	}
+	return nodeAt(t, connection, key, rows...)
+}
+
+// nodeAt starts a node at that socket, with the key of the client, if it has one.
+func nodeAt(t *testing.T, connection *net.UDPConn, key []byte, rows ...string) *node {
 	t.Helper()
 	made := &node{
-		t: t, connection: connection, rows: rows, given: map[uint64]string{}, came: make(chan heard, 1000),
+		t: t, connection: connection, key: key, rows: rows, given: map[uint64]string{}, came: make(chan heard, 1000),
+		watches: make(chan heardWatch, 1000),
 	}
 	t.Cleanup(func() { connection.Close() })
 	go made.serve()
@@ -75,15 +89,20 @@ func nodeAt(t *testing.T, connection *net.UDPConn, rows ...string) *node {
 func (n *node) port() uint16 { return uint16(n.connection.LocalAddr().(*net.UDPAddr).Port) }
 
 func (n *node) serve() {
-	buffer := make([]byte, 100)
+	buffer := make([]byte, 150)
 	for {
 		length, from, err := n.connection.ReadFromUDPAddrPort(buffer)
 		if err != nil {
 			return
 		}
-		it := read(buffer[:length])
+		data := n.opened(buffer[:length])
+		if watch, isOne := readWatch(data, from); isOne {
+			n.hearWatch(watch)
+			continue
+		}
+		it := read(data)
 		if row := n.row(it); row != silent {
-			n.connection.WriteToUDPAddrPort(replyTo(it.number, row), from)
+			n.send(replyTo(it.number, row), from)
 		}
 		n.came <- it
 	}

@@ -250,6 +250,15 @@ func (m *Machine) follow(reply wire.Reply, teller netip.AddrPort) []Datagram {
 	return m.send(netip.AddrPortFrom(host, reply.Port))
 }
 
+// Lead sends the open request to a node that says that it leads, which counts as an Elsewhere.
+func (m *Machine) Lead(node netip.AddrPort) []Datagram {
+	if m.open == nil || m.open.to == node || m.open.followed >= maxFollowed {
+		return nil
+	}
+	m.open.followed++
+	return m.send(node)
+}
+
 // answered ends the open request, or begins the one that follows it.
 func (m *Machine) answered(now time.Time, answer wire.Answer) ([]Datagram, *Outcome, error) {
 	if !answer.Fits(m.open.op.Word) {

@@ -162,6 +162,26 @@ func TestSevenElsewheresAreFollowedAndTheEighthIsDropped(t *testing.T) {
 	wantSent(t, sends, 2, acquire, address(8009))
 }
 
+func TestARequestGoesToANodeThatSaysThatItLeads(t *testing.T) {
+	m := machine()
+	if sends := m.Lead(two); sends != nil {
+		t.Errorf("sent %v without a request", sends)
+	}
+	m = begun(t, acquire)
+	if sends := m.Lead(one); sends != nil {
+		t.Errorf("sent twice: %v", sends)
+	}
+	for range make([]bool, maxFollowed) {
+		wantSent(t, m.Lead(three), 2, acquire, three)
+	}
+	if sends := m.Lead(three); sends != nil {
+		t.Errorf("sent without an end: %v", sends)
+	}
+	if _, outcome, _ := m.Hear(start, granted(2, three)); outcome == nil {
+		t.Error("its answer was dropped")
+	}
+}
+
 func TestAnElsewhereLeadsToTheHostOrToItsTeller(t *testing.T) {
 	m := begun(t, acquire)
 	m.hosts = map[uint32]netip.Addr{2: netip.MustParseAddr("127.0.0.9")}

@@ -12,18 +12,27 @@ import (
 	"testing"
 )
 
-// The file that the tests of all clients read.
-const golden = "../../../golden.txt"
+// The files that the tests of all clients read.
+var golden = []string{"../../../golden.txt", "../../../golden_watches.txt"}
+
+func goldenLines(t *testing.T) []string {
+	t.Helper()
+	var lines []string
+	for _, path := range golden {
+		text, err := os.ReadFile(path)
+		if err != nil {
+			t.Fatal(err)
+		}
+		lines = append(lines, strings.Split(string(text), "\n")...)
+	}
+	return lines
+}
 
 // each calls test for each line of these kinds, with the words after the kind.
 func each(t *testing.T, test func(t *testing.T, kind string, words []string), kinds ...string) {
 	t.Helper()
-	text, err := os.ReadFile(golden)
-	if err != nil {
-		t.Fatal(err)
-	}
 	count := 0
-	for _, line := range strings.Split(string(text), "\n") {
+	for _, line := range goldenLines(t) {
 		words := strings.Fields(line)
 		if len(words) == 0 || strings.HasPrefix(line, "#") || !contains(kinds, words[0]) {
 			continue
@@ -94,12 +103,9 @@ func opOf(t *testing.T, words []string) Op {
 }
 
 func TestEachKindOfLineIsKnown(t *testing.T) {
-	text, err := os.ReadFile(golden)
-	if err != nil {
-		t.Fatal(err)
-	}
-	known := strings.Fields("request answer elsewhere passed dropped client-key sealed opened closed")
-	for _, line := range strings.Split(string(text), "\n") {
+	known := strings.Fields(
+		"request answer elsewhere passed dropped client-key sealed opened closed watch notice unread")
+	for _, line := range goldenLines(t) {
 		if words := strings.Fields(line); len(words) > 0 && !strings.HasPrefix(line, "#") && !contains(known, words[0]) {
 			t.Errorf("no test reads %q", line)
 		}
