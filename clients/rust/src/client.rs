@@ -242,9 +242,10 @@ impl Client {
     /// If a release of this client has no answer yet, it is resumed first. If the same acquire has
     /// none, this resumes it. Any other open request is [`Error::Unanswered`].
     ///
-    /// Between two requests it waits 50 ms at first, and then longer, at most a second. It begins
-    /// anew where the fence has changed, and waits up to four seconds where it stays for longer than
-    /// half a minute.
+    /// Nodes that know watches say when the lock is free, in the order in which clients came, and it
+    /// asks then. Between two requests it waits up to four seconds while a node has put it in its
+    /// queue. Otherwise it waits 50 ms at first, and then longer, at most a second. It begins anew where
+    /// the fence has changed, and waits up to four seconds where it stays for longer than half a minute.
     ///
     #[doc = asks_a_node!()]
     /// # mod support { include!(concat!(env!("CARGO_MANIFEST_DIR"), "/tests/support/cluster.rs")); }

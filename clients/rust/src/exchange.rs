@@ -2,6 +2,7 @@
 
 use crate::reply::{Label, Reply};
 use crate::request::Open;
+use crate::ticket::is_notice;
 use crate::{Answer, Error, Event, Session, Waits};
 use std::collections::VecDeque;
 use std::net::SocketAddr;
@@ -92,6 +93,14 @@ impl Exchange {
         self.end.map_or(wake, |end| wake.min(end))
     }
 
+    /// Sends to a node that leads, as it says itself, which counts as an Elsewhere.
+    pub(crate) fn lead(&mut self, node: SocketAddr) {
+        if node != self.address && self.followed < FOLLOWED {
+            self.followed += 1;
+            self.to_send.push_back(node);
+        }
+    }
+
     /// Whether the request was sent to that address.
     fn has_asked(&self, from: SocketAddr) -> bool {
         let is_it = |asked: &SocketAddr| (asked.ip(), asked.port()) == (from.ip(), from.port());
@@ -100,19 +109,28 @@ impl Exchange {
 }
 
 impl Session {
-    /// Returns what to do now for the open request.
+    /// Returns what to do now for the open request, or for the lock that is waited for.
     pub fn step(&mut self, now: Instant) -> Step {
+        if let Some(step) = self.step_between(now) {
+            return step;
+        }
         let Some(mut exchange) = self.exchange.take() else {
             return Step::Done(Err(Error::NothingAsked));
         };
-        if let Some(done) = exchange.done.take() {
-            return Step::Done(done);
+        let step = match exchange.done.take() {
+            Some(done) => Step::Done(done),
+            None => self.next(&mut exchange, now),
+        };
+        match step {
+            Step::Done(done) => return self.ended(done, now),
+            _ => self.exchange = Some(exchange),
         }
-        let step = self.next(&mut exchange, now);
-        if !matches!(step, Step::Done(_)) {
-            self.exchange = Some(exchange);
+        match (step, self.renews_at()) {
+            (Step::Wait { until }, Some(renews)) => Step::Wait {
+                until: until.min(renews),
+            },
+            (step, _) => step,
         }
-        step
     }
 
     fn next(&mut self, exchange: &mut Exchange, now: Instant) -> Step {
@@ -201,9 +219,13 @@ impl Session {
         self.addresses[self.turn]
     }
 
-    /// Takes a datagram from that address. Drops whatever is no reply to the open request, and
-    /// without a key also replies from addresses to which the request was not sent.
+    /// Takes a datagram from that address. Drops whatever is no reply to the open request and no
+    /// notice to the last watch, and without a key also what comes from addresses to which neither was
+    /// sent.
     pub fn take(&mut self, datagram: &[u8], from: SocketAddr, now: Instant) {
+        if is_notice(datagram) {
+            return self.hear(datagram, from);
+        }
         let Some(mut exchange) = self.exchange.take() else {
             return;
         };
@@ -233,7 +255,7 @@ impl Session {
                     self.leader = Some(from);
                 }
                 let next = self.leader.unwrap_or(exchange.address);
-                match self.answered(answer) {
+                match self.answered(answer, now) {
                     Some(done) => exchange.done = Some(done),
                     None => exchange.restart(next, now), // with the next part of the request
                 }

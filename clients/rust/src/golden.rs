@@ -1,11 +1,14 @@
-//! The bytes of `clients/golden.txt`, which the tests of each client read.
+//! The bytes of `clients/golden.txt` and `clients/golden_watches.txt`, which the tests of each client read.
 
 use crate::op::Op;
 use crate::reply::{Label, Reply};
 use crate::{ClientId, ClusterId};
 use std::fs;
 
-const PATH: &str = concat!(env!("CARGO_MANIFEST_DIR"), "/../golden.txt");
+const PATHS: [&str; 2] = [
+    concat!(env!("CARGO_MANIFEST_DIR"), "/../golden.txt"),
+    concat!(env!("CARGO_MANIFEST_DIR"), "/../golden_watches.txt"),
+];
 
 /// The bytes of hex digits.
 pub(crate) fn hex(text: &str) -> Vec<u8> {
@@ -57,7 +60,7 @@ fn op(words: &[String]) -> Op {
 
 /// The rows of a kind, each checked; there have to be some.
 pub(crate) fn each(kind: &str, check: impl Fn(&[String])) {
-    let text = fs::read_to_string(PATH).unwrap();
+    let text = PATHS.map(|path| fs::read_to_string(path).unwrap()).concat();
     let rows = rows(&text, kind);
     assert!(!rows.is_empty(), "no row of {kind}");
     rows.iter().for_each(|words| check(words));

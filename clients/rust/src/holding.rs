@@ -1,13 +1,8 @@
 //! How a client waits for a lock, and how it gives one back.
 
-use crate::waits::BusyWaits;
 use crate::{Answer, Client, Error, Event, Lock, Op};
 use std::mem;
-use std::thread;
 use std::time::{Duration, Instant};
-
-/// The time that the last request of a wait is given at least.
-const ANSWER_TIME: Duration = Duration::from_millis(500);
 
 /// The fence of a grant.
 pub(crate) fn granted(answer: Answer) -> Result<u64, Error> {
@@ -47,42 +42,38 @@ impl Client {
         mem::replace(&mut self.patience, bounded)
     }
 
-    /// The fence of a grant, for which is asked again while another client holds the name.
+    /// The fence of a grant, for which is asked again while another client holds the name. Resumes an
+    /// open release first, and an acquire of the same name.
     pub(crate) fn fence_within(&mut self, op: Op, wait: Duration) -> Result<u64, Error> {
         let start = Instant::now();
-        let limit = wait.saturating_add(ANSWER_TIME).max(self.patience);
-        let mut waits = BusyWaits::default();
-        loop {
-            let left = limit.saturating_sub(start.elapsed());
-            let found = self.attempted(&op, left).and_then(granted);
-            let left = wait.saturating_sub(start.elapsed());
-            match found {
-                Err(Error::Busy {
-                    fence,
-                    is_own: false,
-                    ..
-                }) if !left.is_zero() => {
-                    let pause = waits.after(fence).min(left);
-                    self.pause(found, pause);
-                }
-                found => return found,
-            }
+        self.settle_release(wait.max(self.patience))?;
+        let (now, spent) = (Instant::now(), start.elapsed());
+        let (wait, patience) = (
+            wait.saturating_sub(spent),
+            self.patience.saturating_sub(spent),
+        );
+        self.session.begin_wait(op, now, wait, patience)?;
+        granted(self.driven()?)
+    }
+
+    /// Resumes a release that has no answer.
+    fn settle_release(&mut self, patience: Duration) -> Result<(), Error> {
+        let open = self.session.open.as_ref();
+        if !open.is_some_and(|open| matches!(open.op, Op::Release(..))) {
+            return Ok(());
+        }
+        self.session.resume(Instant::now(), patience)?;
+        match self.driven() {
+            Err(error) if !matches!(error, Error::NotHeld { .. }) => Err(error),
+            _ => Ok(()),
         }
     }
 
-    /// The answer to an op. Resumes it if the same one is open. Resumes an open release first.
+    /// The answer to an op. Resumes it if the same one is open.
     pub(crate) fn attempted(&mut self, op: &Op, patience: Duration) -> Result<Answer, Error> {
-        let now = Instant::now();
-        match self.session.open.as_ref().map(|open| &open.op) {
-            Some(Op::Release(..)) => {
-                self.session.resume(now, patience)?;
-                match self.driven() {
-                    Err(error) if !matches!(error, Error::NotHeld { .. }) => Err(error),
-                    _ => self.attempted(op, patience.saturating_sub(now.elapsed())),
-                }
-            }
-            Some(open) if open == op => {
-                self.session.resume(now, patience)?;
+        match &self.session.open {
+            Some(open) if open.op == *op => {
+                self.session.resume(Instant::now(), patience)?;
                 self.driven()
             }
             _ => self.request_within(op.clone(), patience),
@@ -100,24 +91,5 @@ impl Client {
             Err(Error::Busy { is_own: false, .. }) => Ok(None),
             Err(error) => Err(error),
         }
-    }
-
-    /// Waits, and logs why.
-    fn pause(&mut self, busy: Result<u64, Error>, pause: Duration) {
-        if let Err(Error::Busy {
-            name,
-            holder,
-            fence,
-            ..
-        }) = &busy
-        {
-            self.session.log.tell(&Event::Waiting {
-                name,
-                holder: *holder,
-                fence: *fence,
-                pause,
-            });
-        }
-        thread::sleep(pause);
     }
 }

@@ -45,6 +45,9 @@ mod sha256;
 mod socket;
 mod state;
 mod text;
+mod ticket;
+mod waiter;
+mod waiting;
 mod waits;
 mod watch;
 

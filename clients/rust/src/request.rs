@@ -151,10 +151,12 @@ impl Session {
         self.resume(now, patience)
     }
 
-    /// Resumes the open request with this patience. It takes effect at most once.
+    /// Resumes the open request with this patience. It takes effect at most once. A wait for its lock
+    /// ends: this yields the one answer.
     ///
     /// [`Error::NothingAsked`] if none is open.
     pub fn resume(&mut self, now: Instant, patience: Duration) -> Result<(), Error> {
+        self.end_wait();
         if self.open.is_none() {
             return Err(Error::NothingAsked);
         }
@@ -167,6 +169,7 @@ impl Session {
     /// Gives up the open request, if any. Once the next request is answered, it has taken effect or
     /// never will.
     pub fn forget(&mut self) {
+        self.end_wait();
         self.exchange = None;
         let Some(open) = self.open.take().filter(Open::is_sent) else {
             return;
@@ -184,9 +187,12 @@ impl Session {
     }
 
     /// The result of the request, or nothing if its next part is sent now.
-    pub(crate) fn answered(&mut self, answer: Answer) -> Done {
+    pub(crate) fn answered(&mut self, answer: Answer, now: Instant) -> Done {
         let open = self.open.take()?;
         let asked = open.asked();
+        if let (Op::Release(name, fence), Answer::Released) = (&asked, answer) {
+            self.waiting.released(name, *fence, now);
+        }
         let is_state = matches!(
             answer,
             Answer::Free(_) | Answer::Held { .. } | Answer::HeldShared { .. }
@@ -262,7 +268,13 @@ impl Session {
     fn judged(&mut self, op: Op, answer: Answer) -> Result<Answer, Error> {
         self.note(&op, &answer);
         let id = self.id();
-        op.judged(answer).map_err(|error| error.seen_by(id))
+        op.judged(answer).map_err(|error| match error {
+            // of those who share a name the answer tells the lowest
+            Error::Busy { name, fence, .. } if self.holds.get(&name) == Some(&fence) => {
+                Error::busy(&name, id, fence).seen_by(id)
+            }
+            error => error.seen_by(id),
+        })
     }
 
     /// Records what this run holds.

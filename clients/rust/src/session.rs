@@ -4,6 +4,7 @@ use crate::exchange::Exchange;
 use crate::key::{Keys, Seals};
 use crate::log::Log;
 use crate::request::Open;
+use crate::waiting::Waiting;
 use crate::{ClientId, ClusterId, Error, Event, Numbers};
 use std::collections::{BTreeMap, HashMap};
 use std::net::{IpAddr, Ipv4Addr, Ipv6Addr, SocketAddr};
@@ -67,6 +68,7 @@ pub struct Session {
     pub(crate) unknown: Option<String>,
     // the locks of this run, each with its fence
     pub(crate) holds: BTreeMap<String, u64>,
+    pub(crate) waiting: Waiting,
     pub(crate) log: Log,
 }
 
@@ -93,8 +95,8 @@ fn of_one_family(address: IpAddr, other: IpAddr) -> Result<(), Error> {
 }
 
 impl Session {
-    /// The bytes to receive a datagram into: more than any reply has.
-    pub const LONGEST: usize = 100;
+    /// The bytes to receive a datagram into: more than any reply or notice has.
+    pub const LONGEST: usize = 120;
 
     /// A session for a client that asks nodes at these addresses, all of one family.
     ///
@@ -125,6 +127,7 @@ impl Session {
             exchange: None,
             unknown: None,
             holds: BTreeMap::new(),
+            waiting: Waiting::new(),
             log: Log::default(),
         })
     }
@@ -156,6 +159,7 @@ impl Session {
         of_one_family(addresses[0].ip(), self.addresses[0].ip())?;
         self.addresses = addresses;
         (self.turn, self.leader) = (0, None);
+        self.watch_known();
         Ok(())
     }
 

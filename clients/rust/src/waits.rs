@@ -39,7 +39,8 @@ pub struct Waits {
 }
 
 /// Waits between two requests for a lock that another client holds, scattered too, for programs that
-/// drive a [`Session`](crate::Session).
+/// drive a [`Session`](crate::Session) and ask by themselves.
+/// [`Session::begin_wait`](crate::Session::begin_wait) needs none.
 ///
 /// They begin at 50 ms, start afresh when the fence changes, and stay below a second for half a
 /// minute.
@@ -67,6 +68,11 @@ fn random() -> f64 {
 /// The wait times a random 0.75 to 1.25.
 pub(crate) fn scattered(wait: Duration) -> Duration {
     wait.mul_f64(0.75 + 0.5 * random())
+}
+
+/// The wait of a client that has a place in the queue of a node.
+pub(crate) fn long_wait() -> Duration {
+    scattered(LONG)
 }
 
 impl Iterator for Waits {

@@ -5,7 +5,7 @@
 #[allow(dead_code)]
 mod support;
 
-use locks_client::{Answer, BusyWaits, ClientId, ClusterId, Error, Numbers, Op, Session, Step};
+use locks_client::{Answer, ClientId, ClusterId, Error, Numbers, Op, Session, Step};
 use std::future::{Future, poll_fn};
 use std::io::{ErrorKind, Result as IoResult};
 use std::net::{SocketAddr, UdpSocket};
@@ -81,18 +81,6 @@ fn wake_soon(context: &Context<'_>) {
     });
 }
 
-async fn sleep(pause: Duration) {
-    let end = Instant::now() + pause;
-    poll_fn(|context| match Instant::now() >= end {
-        true => Poll::Ready(()),
-        false => {
-            wake_soon(context);
-            Poll::Pending
-        }
-    })
-    .await;
-}
-
 /// The answer to the request that a session has begun: the loop that every runtime needs.
 async fn answered(session: &mut Session, socket: &Socket) -> Result<Answer, Error> {
     let mut buffer = [0; Session::LONGEST];
@@ -120,20 +108,13 @@ async fn resume(session: &mut Session, socket: &Socket) -> Result<Answer, Error>
     answered(session, socket).await
 }
 
-/// Asks for a lock until it is granted. Its fence.
+/// Waits for a lock until it is granted. Its fence.
 async fn lock(session: &mut Session, socket: &Socket, name: &str) -> Result<u64, Error> {
-    let mut waits = BusyWaits::default();
-    loop {
-        match ask(session, socket, Op::Acquire(name.to_owned())).await {
-            Ok(Answer::Granted(fence)) => return Ok(fence),
-            Ok(answer) => unreachable!("{answer}"),
-            Err(Error::Busy {
-                fence,
-                is_own: false,
-                ..
-            }) => sleep(waits.after(fence)).await,
-            Err(error) => return Err(error),
-        }
+    let op = Op::Acquire(name.to_owned());
+    session.begin_wait(op, Instant::now(), PATIENCE, PATIENCE)?;
+    match answered(session, socket).await? {
+        Answer::Granted(fence) => Ok(fence),
+        answer => unreachable!("{answer}"),
     }
 }
 

@@ -1,5 +1,6 @@
-//! Random runs of a session against a node in memory: datagrams are lost, doubled and late, calls are
-//! cancelled, locks are broken, and runs are killed and begin again with numbers of any age.
+//! Random runs of a session against a node in memory: datagrams are lost, doubled and late, notices say
+//! anything, calls are cancelled, locks are broken, and runs are killed and begin again with numbers of
+//! any age.
 
 #[path = "support/model.rs"]
 mod support;
@@ -40,8 +41,9 @@ struct World {
     model: Model,
     session: Session,
     now: Instant,
-    // requests that may arrive again
+    // requests and notices that may arrive again
     late: Vec<Vec<u8>>,
+    notices: Vec<Vec<u8>>,
     // what runs before this one hold; what was broken, or may be released already
     earlier: BTreeSet<(String, u64)>,
     broken: BTreeSet<(String, u64)>,
@@ -79,6 +81,7 @@ impl World {
             session: session(1, &told),
             now: Instant::now(),
             late: Vec::new(),
+            notices: Vec::new(),
             earlier: BTreeSet::new(),
             broken: BTreeSet::new(),
             told,
@@ -97,6 +100,9 @@ impl World {
         if self.random.is_one_in(4) {
             return;
         }
+        if bytes.starts_with(b"LW") {
+            return self.notify(bytes);
+        }
         let reply = self.model.reply(&bytes);
         self.late.push(bytes);
         if !self.random.is_one_in(4) {
@@ -109,6 +115,21 @@ impl World {
         }
     }
 
+    /// Answers a watch by a notice that says anything, true or not, and sometimes by an earlier one.
+    fn notify(&mut self, watch: Vec<u8>) {
+        let mut notice = watch;
+        (notice[3], notice[15]) = (10, 1);
+        notice[68] = 1 + self.random.below(3) as u8;
+        notice[70] = self.random.below(3) as u8;
+        self.session.take(&notice, node(), self.now);
+        self.notices.push(notice);
+        if self.random.is_one_in(4) {
+            let again = self.random.below(self.notices.len() as u64) as usize;
+            let notice = self.notices[again].clone();
+            self.session.take(&notice, node(), self.now);
+        }
+    }
+
     /// Steps until the request is done, or the caller leaves it.
     fn run(&mut self) -> Option<Result<Answer, Error>> {
         loop {
@@ -116,6 +137,9 @@ impl World {
                 Step::Done(done) => return Some(done),
                 Step::Send { bytes, .. } => self.deliver(bytes),
                 Step::Wait { until } => self.now = until,
+            }
+            if !self.session.is_waiting() && self.random.is_one_in(6) {
+                self.other(); // between two requests for a lock that is waited for
             }
             if self.random.is_one_in(30) {
                 return None;
@@ -146,8 +170,20 @@ impl World {
             self.broken.insert((name.clone(), *fence));
         }
         let patience = Duration::from_secs(self.random.below(9));
-        if self.session.begin(op, self.now, patience).is_ok() {
+        let begun = match wanted.is_some() && self.random.is_one_in(2) {
+            true => {
+                let wait = Duration::from_secs(self.random.below(9));
+                self.session.begin_wait(op, self.now, wait, patience)
+            }
+            false => self.session.begin(op, self.now, patience),
+        };
+        if begun.is_ok() {
             let done = self.run();
+            self.hear(&done, wanted.clone());
+            self.recover(done);
+        }
+        if !self.session.is_waiting() && self.random.is_one_in(3) {
+            let done = self.run(); // goes on with a wait that the caller has left
             self.hear(&done, wanted);
             self.recover(done);
         }
@@ -249,6 +285,7 @@ impl World {
 
 #[test]
 fn nothing_is_believed_that_is_not_held_and_nothing_held_untold() {
+    let mut notices = 0;
     for seed in 1..400 {
         let mut world = World::new(seed * 7_919);
         for step in 0..200 {
@@ -264,5 +301,7 @@ fn nothing_is_believed_that_is_not_held_and_nothing_held_untold() {
             }
             world.check(step + 1_000 * seed as usize);
         }
+        notices += world.notices.len();
     }
+    assert!(notices > 5_000, "{notices}");
 }

@@ -36,6 +36,21 @@ fn a_nested_shared_lock_is_refused() {
 }
 
 #[test]
+fn a_lock_that_this_run_shares_with_others_is_not_waited_for() {
+    let node = Node::new(vec![
+        vec![answer(2, FREE)],
+        vec![answer(3, SHARED)],
+        vec![answer(4, "02 0001 0000000000000004")], // client 1 has the lowest number
+    ]);
+    let mut client = client(&[node.port]);
+    client.share("db").unwrap();
+    let refused = client.acquire_within("db", Duration::MAX).unwrap_err();
+    assert!(
+        matches!(refused, Error::Busy { fence: 4, is_own: true, holder, .. } if holder == client.id())
+    );
+}
+
+#[test]
 fn a_share_at_the_start_of_a_run_is_not_judged_by_a_stored_answer() {
     // the answer to number 1 may have been stored for an Ask of an earlier run
     let node = Node::new(vec![
