@@ -6,9 +6,10 @@ Usage: bench/waiters.py [--clients N] [--hold S] [--turns K] [--behind S] [--pol
 
 Three nodes run as processes on loopback. N clients (20 if not given) wait for one lock at once, as N runs of `hold` do:
 each takes it, keeps it S seconds (0.5 if not given), gives it back, and does so K times (once if not given). With
-`--behind` another client holds it first, for so many seconds, while they wait. `--polling` clients send no watches, as
-older clients do. It prints, over several rounds (2 if not given), how long the lock stood free between a release and
-the next grant, how long a client waited, and how many datagrams the clients sent and received for each grant.
+`--behind` another client holds it first, for so many seconds, while they wait. They watch the lock (`notices`), but
+`--polling` of them do not, and ask at intervals; so do all of them where nodes do not answer watches. It prints, over
+several rounds (2 if not given), how long the lock stood free between a release and the next grant, how long a client
+waited, and how many datagrams the clients sent and received for each grant.
 
 Two rows of interest: `--clients 1 --behind 5 --hold 0.05 --times 5` and `--clients 20 --hold 0.05 --turns 20`.
 """
@@ -26,19 +27,15 @@ from cluster import Cluster, built, locks_client
 
 
 class Counting(locks_client.Client):
-    """A client that counts its datagrams. One that polls sends no watches."""
-
-    polls = False
+    """A client that counts its datagrams."""
 
     def __init__(self, *words, **how):
         super().__init__(*words, **how)
         self.counts = collections.Counter()
 
     def send(self, data, port):
-        kind = "watches" if data[:2] == b"LW" else "requests"
-        if kind == "requests" or not self.polls:
-            self.counts[kind] += 1
-            super().send(data, port)
+        self.counts["watches" if data[:2] == b"LW" else "requests"] += 1
+        super().send(data, port)
 
     def receive(self, until):
         came = super().receive(until)
@@ -78,14 +75,16 @@ def measured(program, folder, args):
     """The holds of a round, and the datagrams of the clients."""
     holds = Holds()
     with Cluster(program, folder) as cluster, contextlib.ExitStack() as stack:
-        made = [cluster.client(Counting, number, patience=60.0) for number in range(1, args.clients + 2)]
+        # The first client never waits, and the next ones poll.
+        made = [
+            cluster.client(Counting, number, patience=60.0, notices=number > args.polling + 1)
+            for number in range(1, args.clients + 2)
+        ]
         first, *clients = [stack.enter_context(it) for it in made]
         first.ask("db")  # now somebody leads
         threads = [threading.Thread(target=works, args=(it, holds, args.hold, args.turns)) for it in clients]
         if args.behind:
             threads.append(threading.Thread(target=keeps, args=(first, holds, first.acquire("db"), args.behind)))
-        for it in clients[:args.polling]:
-            it.polls = True
         for it in threads:
             it.start()
         for it in threads:
@@ -107,7 +106,7 @@ def arguments():
     add("--hold", type=float, default=0.5, help="the seconds that each keeps the lock, 0.5 if not given")
     add("--turns", type=int, default=1, help="how often each takes it, once if not given")
     add("--behind", type=float, default=0.0, help="the seconds that another client holds it first")
-    add("--polling", type=int, default=0, help="how many of the clients send no watches, as older ones")
+    add("--polling", type=int, default=0, help="how many of the clients send no watches")
     add("--times", type=int, default=2, help="the rounds, 2 if not given")
     add("--dir", help="where the folders of the nodes are made")
     add("--program", help="the built program; the wrapper builds it if none is given")

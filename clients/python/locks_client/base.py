@@ -27,7 +27,9 @@ class Base:
     cluster: its number. client: the number of this client, 1 to 256, which nobody else uses. ports: those of the nodes
     on 127.0.0.1, or (address, port) of each, one at least. first: the number of the first request. state: a file that
     keeps the numbers over restarts; one of the two has to be given. patience: seconds until NoAnswer. hosts: a file of
-    lines NODE ADDRESS, where a node named by another one lives. key: the file of this client's key.
+    lines NODE ADDRESS, where a node named by another one lives. key: the file of this client's key. notices: whether
+    it watches a lock that it waits for; the nodes of this version do not answer watches yet, and count them as unread
+    datagrams.
     """
 
     def __init__(
@@ -40,9 +42,11 @@ class Base:
         patience: float = 10.0,
         hosts: str | os.PathLike[str] | None = None,
         key: str | os.PathLike[str] | None = None,
+        notices: bool = False,
     ) -> None:
         known = read_hosts(hosts) if hosts else None
-        self.core = Calls(cluster, client, ports, patience, hosts=known, keys=read_keys(key) if key else ())
+        keys = read_keys(key) if key else ()
+        self.core = Calls(cluster, client, ports, patience, hosts=known, keys=keys, notices=notices)
         own = own_address(self.core.ports, self.core.hosts.values())
         self.guard = threading.RLock()  # one that an interrupt leaves locked does not lock its own thread out
         self.releasing: set[int] = set()  # threads that wait to release or to check: other calls let them go first

@@ -50,7 +50,7 @@ class Calls(Core):
         self.released: dict[str, tuple[int, float]] = {}
 
     def poll(self, word: str, name: str, wait: float) -> Plan[int]:
-        """Asks for a lock until it is granted, or until the seconds are over. Between two requests it watches."""
+        """Asks for a lock until it is granted, or until the seconds are over. With `notices` it watches meanwhile."""
         op, start = table_op(word, name), self.clock()
         deadline = start + max(seconds_of(wait, "wait"), self.patience)
         end = min(start + wait, deadline - ANSWER_TIME)
@@ -76,7 +76,7 @@ class Calls(Core):
             waiter.rest()
 
     def give_way(self, waiter: Waiter, name: str, end: float) -> Plan[None]:
-        """Lets those go first who wait for a name that this client has released within the last second.
+        """Lets those go first who wait for a name that this client has released within the last second, if it watches.
 
         It would win against them nearly always: its request needs half a round trip, theirs a notice before it.
         """

@@ -32,8 +32,9 @@ class Client(Base):
     cluster: its number. client: the number of this client, 1 to 256, which nobody else uses. ports: those of the nodes
     on 127.0.0.1, or (address, port) of each, one at least. first: the number of the first request. state: a file that
     keeps the numbers over restarts; one of the two has to be given. patience: seconds until NoAnswer. hosts: a file of
-    lines NODE ADDRESS, where a node named by another one lives. key: the file of this client's key. Use it in a `with`,
-    or call `close`.
+    lines NODE ADDRESS, where a node named by another one lives. key: the file of this client's key. notices: whether
+    it watches a lock that it waits for; the nodes of this version do not answer watches yet, and count them as unread
+    datagrams. Use it in a `with`, or call `close`.
     """
 
     def close(self) -> None:

@@ -23,11 +23,11 @@ log = logging.getLogger("locks_client")
 class Core:
     """What one client knows of the nodes, and of the request that it waits for.
 
-    clock: gives seconds. leader: the node that answered last, or said that it leads. open: the request that has no
-    answer yet. opening: the Ask that is sent before it, since the run begins with it. is_sent: whether the open request
-    was sent. unknown: the names whose acquire was dropped without an answer. waiter: the last wait for a lock, unless
-    it was withdrawn. watch_number: that of the last watch; they rise over restarts, unless a clock is set back.
-    unanswered: how many watches in turn each node has not answered.
+    clock: gives seconds. notices: whether watches are sent. leader: the node that answered last, or said that it leads.
+    open: the request that has no answer yet. opening: the Ask that is sent before it, since the run begins with it.
+    is_sent: whether the open request was sent. unknown: the names whose acquire was dropped without an answer. waiter:
+    the last wait for a lock, unless it was withdrawn. watch_number: that of the last watch; they rise over restarts,
+    unless a clock is set back. unanswered: how many watches in turn each node has not answered.
     """
 
     def __init__(
@@ -39,6 +39,7 @@ class Core:
         clock: Callable[[], float] = time.monotonic,
         hosts: Mapping[int, str] | None = None,
         keys: Sequence[bytes] = (),
+        notices: bool = False,
     ) -> None:
         self.cluster = ranged(cluster, 0, (1 << 64) - 1, "cluster")
         self.client = ranged(client, 1, MAX_CLIENT, "client")
@@ -52,6 +53,7 @@ class Core:
         self.sent_number = 0
         self.sent_to: set[Endpoint] = set()  # where the request of that number was sent
         self.waiter: Waiter | None = None
+        self.notices = notices
         self.watch_number, self.unanswered = time.time_ns(), dict[Endpoint, int]()
 
     def set_ports(self, ports: Iterable[Endpoint]) -> None:

@@ -1,9 +1,9 @@
-"""How a client waits for a lock without polling, and without a socket.
+"""How a client waits for a lock, without a socket: at intervals, or without polling where its caller wants notices.
 
-It sends a *watch* to every node that it knows. Each node keeps it in a queue, and the one that leads answers with a
-*notice*: the name is held, and this is the client's place; later, that it is free. Then the client asks at once. All
-this is a hint beside the protocol: a lost one, or a node that knows no watches, costs no more than time, since the
-client also asks at intervals, as ever.
+With notices it sends a *watch* to every node that it knows. Each node keeps it in a queue, and the one that leads
+answers with a *notice*: the name is held, and this is the client's place; later, that it is free. Then the client asks
+at once. All this is a hint beside the protocol: a lost one, or a node that knows no watches, costs no more than time,
+since the client also asks at intervals, as ever. Without notices it sends no watch.
 """
 import math
 from typing import TYPE_CHECKING
@@ -11,7 +11,7 @@ from typing import TYPE_CHECKING
 from . import waits
 from .endpoints import Endpoint
 from .notices import LIFE, News, Notice, Ticket, read_notice, watch_bytes
-from .plans import Datagram, Listen, Plan, Send
+from .plans import Datagram, Listen, Plan, Send, Sleep
 
 if TYPE_CHECKING:
     from .core import Core
@@ -41,8 +41,11 @@ class Waiter:
 
     def pause(self, fence: int, end: float) -> Plan[None]:
         """After the lock was found held at that fence: waits until it is worth asking again, at most until the end."""
-        self.count_misled(fence)
         start, polled = self.core.clock(), self.polls.after(fence)
+        if not self.core.notices:
+            yield Sleep(max(0.0, min(polled, end - start)))
+            return
+        self.count_misled(fence)
         longest = waits.scattered(waits.POLLS[-1])
         yield from self.send()
         while True:
@@ -92,8 +95,8 @@ class Waiter:
         return unanswered < GONE or unanswered % 8 == 0
 
     def has_listeners(self) -> bool:
-        """Whether a node may be expected to answer a watch."""
-        return any(self.core.unanswered.get(port, 0) < GONE for port in self.known())
+        """Whether a node may be expected to answer a watch, if this client sends any."""
+        return self.core.notices and any(self.core.unanswered.get(port, 0) < GONE for port in self.known())
 
     def known(self) -> set[Endpoint]:
         """The nodes that the caller has given, and the one that answered last."""

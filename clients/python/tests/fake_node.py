@@ -38,7 +38,7 @@ OTHERS = [
 
 
 class Node:
-    """A node that takes datagrams in turn and replies to each what its row says. It is an old one: it drops watches."""
+    """A node that takes datagrams in turn and replies to each what its row says."""
 
     def __init__(self, *rows):
         self.socket = socket.socket(socket.AF_INET, socket.SOCK_DGRAM)
@@ -55,17 +55,10 @@ class Node:
     def serve(self):
         with self.socket:
             for row in self.rows:
-                data, sender = self.request()
+                data, sender = self.socket.recvfrom(100)
                 self.heard.append(data.hex())
                 for reply in row:
                     self.socket.sendto(bytes.fromhex(reply), sender)
-
-    def request(self):
-        """The next datagram that is no watch."""
-        while True:
-            data, sender = self.socket.recvfrom(128)
-            if data[:2] != b"LW":
-                return data, sender
 
 
 def elsewhere(port):

@@ -46,12 +46,12 @@ class SimulatedNode:
 
 
 class SimulatedClient:
-    """A client that carries out a script: a generator of the steps of its plans."""
+    """A client that carries out a script: a generator of the steps of its plans. It watches, unless told not to."""
 
-    def __init__(self, simulation, number, script):
+    def __init__(self, simulation, number, script, notices=True):
         ports = list(simulation.nodes)
         self.simulation, self.number, self.inbox, self.waits_for = simulation, number, [], None
-        self.core = Calls(5, number, ports, patience=30.0, clock=lambda: simulation.now)
+        self.core = Calls(5, number, ports, patience=30.0, clock=lambda: simulation.now, notices=notices)
         self.core.numbers, self.core.has_begun, self.core.watch_number = Numbers(first=1), True, number << 32
         self.plan, self.sent = script(self), []
         simulation.at(0.0, lambda: self.go_on(None))
@@ -113,8 +113,8 @@ class Simulation:
     def at(self, time, action):
         heapq.heappush(self.events, (time, next(self.order), action))
 
-    def client(self, number, script):
-        self.clients[number] = SimulatedClient(self, number, script)
+    def client(self, number, script, notices=True):
+        self.clients[number] = SimulatedClient(self, number, script, notices)
         return self.clients[number]
 
     def send(self, client, effect):

@@ -79,8 +79,8 @@ class Table:
 class TableClient(Client):
     """A client that asks a table in memory, and is answered at once."""
 
-    def __init__(self, table, first=1):
-        super().__init__(5, 7, [1], first=first, patience=0.05)
+    def __init__(self, table, first=1, notices=False):
+        super().__init__(5, 7, [1], first=first, patience=0.05, notices=notices)
         self.table, self.waiting = table, []
 
     def perform(self, effect):
@@ -110,11 +110,9 @@ class TableNode(threading.Thread):
 
     def run(self):
         while True:
-            data, sender = self.socket.recvfrom(128)
+            data, sender = self.socket.recvfrom(100)
             if not data:
                 return self.socket.close()
-            if data[:2] != b"LK":
-                continue  # an old node drops watches
             body = data[HEADER.size + 2]
             self.heard.append(body)
             if self.takes(body):

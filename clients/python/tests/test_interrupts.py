@@ -44,7 +44,7 @@ class ToldClient(TableClient):
     """A client that finds the lock held by client 9, which releases it once it is watched."""
 
     def __init__(self, table):
-        super().__init__(table)
+        super().__init__(table, notices=True)
         table.holders["db"], table.fences["db"] = (9,), 1
 
     def perform(self, effect):

@@ -19,14 +19,14 @@ def periods(data):
     return LAYOUT.unpack(data)[-2]
 
 
-class WaiterTest(unittest.TestCase):
+class WaiterCase(unittest.TestCase):
     def setUp(self):
         self.enterContext(mock.patch("locks_client.waits.SCATTER", (1.0, 1.0)))
         self.sim = Simulation()
 
-    def waits(self, number, begin, hold=0.05, times=1, **how):
+    def waits(self, number, begin, hold=0.05, times=1, notices=True, **how):
         """A client that waits for the lock from that time on."""
-        return self.sim.client(number, self.sim.holder("db", hold, times, begin, **how))
+        return self.sim.client(number, self.sim.holder("db", hold, times, begin, **how), notices)
 
     def order(self):
         """The clients in the order of their holds."""
@@ -39,6 +39,10 @@ class WaiterTest(unittest.TestCase):
     def requests(self, client):
         """When a client sent requests."""
         return [at for at, _, data in client.sent if data[:2] == b"LK"]
+
+
+class WaiterTest(WaiterCase):
+    """Clients with notices."""
 
     def test_who_waits_is_told_at_once(self):
         self.waits(1, 0.0, hold=5.0)
@@ -292,11 +296,47 @@ class WaiterTest(unittest.TestCase):
         self.assertEqual(self.watches(waiter, 2)[-1][1], 0)
 
 
+class DefaultTest(WaiterCase):
+    """A client without notices, while nodes that know watches have others in their queues."""
+
+    def test_only_requests_are_sent_and_a_held_lock_is_asked_for_at_intervals(self):
+        self.waits(1, 0.0, hold=1.0)
+        client = self.waits(2, 0.1, notices=False)
+        self.sim.run(20.0)
+        self.assertEqual({data[:2] for _, _, data in client.sent}, {b"LK"})
+        *asked, _ = self.requests(client)  # the last one releases
+        gaps = [after - before for before, after in zip(asked, asked[1:])]
+        self.assertEqual([round(it - ROUND_TRIP, 3) for it in gaps], [0.05, 0.1, 0.2, 0.4, 0.8])
+
+    def test_nobody_goes_first_after_a_release(self):
+        client = self.waits(1, 0.0, hold=0.5, times=3, notices=False)
+        self.waits(2, 0.1)
+        self.sim.run(20.0)
+        self.assertEqual({data[:2] for _, _, data in client.sent}, {b"LK"})
+        self.assertEqual(self.order(), [1, 1, 1, 2])
+        for free in self.sim.free()[:2]:
+            self.assertAlmostEqual(free, ROUND_TRIP)
+
+    def test_a_wait_ends_in_time(self):
+        self.waits(1, 0.0, hold=9.0)
+        ends = []
+
+        def script(client):
+            with self.assertRaises(Busy):
+                yield from client.core.poll("acquire", "db", 1.0)
+            ends.append(self.sim.now)
+
+        client = self.sim.client(2, script, notices=False)
+        self.sim.run(20.0)
+        self.assertEqual({data[:2] for _, _, data in client.sent}, {b"LK"})
+        self.assertAlmostEqual(ends[0], 1.0 + ROUND_TRIP)
+
+
 class NoticeTest(unittest.TestCase):
     """Which notices are taken."""
 
     def setUp(self):
-        self.core = Calls(5, 7, [7001, 7002])
+        self.core = Calls(5, 7, [7001, 7002], notices=True)
         self.waiter = Waiter(self.core, "acquire", "db")
 
     def notice(self):

@@ -36,19 +36,20 @@ class WaitingCase(unittest.TestCase):
         self.addCleanup(node.stop)
         return node
 
-    def client(self, number=7, kind=Client, first=1, node=None, **how):
-        client = kind(5, number, [(node or self.node).port], first=first, patience=30.0, **how)
+    def client(self, number=7, kind=Client, first=1, node=None, notices=True, **how):
+        client = kind(5, number, [(node or self.node).port], first=first, patience=30.0, notices=notices, **how)
         self.addCleanup(client.close)
         self.addCleanup(client.core.forget)
         return client
 
     def hold(self, seconds, name="db"):
-        """Client 9 holds the lock for so long, and nobody asks for it meanwhile."""
+        """Client 9 holds the lock for so long, a minute for as long as the test lasts."""
         table, node = self.node.table, self.node
         table.holders[name], table.fences[name] = (9,), 1
-        timer = threading.Timer(seconds, table.holders.pop, (name,))
-        timer.start()
-        self.addCleanup(timer.join)
+        if seconds < 60.0:
+            timer = threading.Timer(seconds, table.holders.pop, (name,))
+            timer.start()
+            self.addCleanup(timer.join)
         return node
 
     def wait_for(self, is_so):
@@ -65,6 +66,16 @@ class WaitingCase(unittest.TestCase):
     def asked(self):
         """How often the lock was asked for."""
         return self.node.heard.count(ACQUIRE)
+
+    def run_hold(self, *options):
+        """The program, which waits for the lock."""
+        known = ["--cluster", "5", "--client", "7", "--first", "1", "--port", str(self.node.port), "--patience", "30"]
+        words = [*known, *options, "hold", "db", "--", "sh", "-c", "echo $LOCKS_FENCE"]
+        command = [sys.executable, "-m", "locks_client", *words]
+        process = subprocess.Popen(command, stdout=subprocess.PIPE, text=True)
+        self.addCleanup(process.communicate)
+        self.addCleanup(process.kill)
+        return process
 
 
 class WaitingTest(WaitingCase):
@@ -94,32 +105,17 @@ class WaitingTest(WaitingCase):
 
     def test_the_program_waits(self):
         self.hold(2.0)
-        process = self.run_hold()
+        process = self.run_hold("--notices")
         self.assertEqual((process.communicate(timeout=60)[0], process.returncode), ("2\n", 0))
         self.assertLessEqual(self.asked(), 3)
 
-    def run_hold(self):
-        """The program, which waits for the lock."""
-        known = ["--cluster", "5", "--client", "7", "--first", "1", "--port", str(self.node.port), "--patience", "30"]
-        command = [sys.executable, "-m", "locks_client", *known, "hold", "db", "--", "sh", "-c", "echo $LOCKS_FENCE"]
-        process = subprocess.Popen(command, stdout=subprocess.PIPE, text=True)
-        self.addCleanup(process.communicate)
-        self.addCleanup(process.kill)
-        return process
-
     def test_a_program_that_a_signal_ends_withdraws(self):
         self.hold(60.0)
-        process = self.run_hold()
+        process = self.run_hold("--notices")
         self.wait_for(lambda: self.last_periods() == 20)
         process.send_signal(signal.SIGTERM)
         self.assertEqual(process.wait(timeout=60), 128 + signal.SIGTERM)
         self.wait_for(lambda: self.last_periods() == 0)
-
-    def hold(self, seconds, name="db"):
-        if seconds < 60.0:
-            return super().hold(seconds, name)
-        self.node.table.holders[name], self.node.table.fences[name] = (9,), 1
-        return self.node
 
     def test_a_wait_that_is_interrupted_or_cancelled_is_withdrawn(self):
         self.hold(60.0)
@@ -222,7 +218,7 @@ class WaitingTest(WaitingCase):
         table = Table()
         old, new = self.queue_node(table=table), self.queue_node(table=table, number=2, leads=False)
         table.holders["db"], table.fences["db"] = (9,), 1
-        with Client(5, 7, [old.port, new.port], first=1, patience=30.0) as client:
+        with Client(5, 7, [old.port, new.port], first=1, patience=30.0, notices=True) as client:
             waiting = threading.Thread(target=client.acquire, args=("db", 30.0))
             waiting.start()
             self.wait_for(lambda: old.watched and new.watched)
@@ -234,6 +230,57 @@ class WaitingTest(WaitingCase):
             self.assertFalse(waiting.is_alive())
             self.assertIn(ACQUIRE, new.heard)
             client.core.forget()
+
+
+class DefaultTest(WaitingCase):
+    """Without notices a node that knows watches hears none: not while a client waits, and not after a release."""
+
+    def client(self, number=7, **how):
+        return super().client(number, notices=False, **how)
+
+    def hold(self, seconds=60.0, name="db"):
+        """Client 9 holds the lock until it was asked for five times more."""
+        before = self.asked()
+
+        def takes(body):
+            if body == ACQUIRE and self.asked() == before + 5:
+                self.node.table.holders.pop(name)
+            return True
+
+        self.node.takes = takes
+        return super().hold(seconds, name)
+
+    def check_no_watch(self):
+        self.assertEqual((self.node.watched, self.node.sent), ([], []))
+
+    def test_a_client_sends_requests_only(self):
+        self.hold()
+        client = self.client()
+        for take in (client.lock, client.lock, lambda name: client.lock_all([name, "other"])):
+            with take("db") as held:
+                pass
+        self.assertEqual(held, {"db": 4, "other": 1})
+        self.hold()
+        with self.assertRaises(Busy):
+            client.share("db", wait=0.5)
+        self.check_no_watch()
+
+    def test_a_client_of_asyncio_sends_requests_only(self):
+        async def held(client):
+            for take in (client.lock, client.lock, lambda name: client.lock_all([name, "other"])):
+                async with take("db") as held:
+                    pass
+            return held
+
+        self.hold()
+        self.assertEqual(asyncio.run(held(self.client(kind=AsyncClient))), {"db": 4, "other": 1})
+        self.check_no_watch()
+
+    def test_the_program_sends_requests_only(self):
+        self.hold()
+        process = self.run_hold()
+        self.assertEqual((process.communicate(timeout=60)[0], process.returncode), ("2\n", 0))
+        self.check_no_watch()
 
 
 if __name__ == "__main__":
