@@ -9,7 +9,7 @@ import (
 )
 
 // Lock takes the lock. It waits until the lock is granted or the context ends, also while no node answers. While
-// another client holds the lock, nodes that know watches say when it is free; other nodes are asked again and again.
+// another client holds the lock it asks again and again. With Notices, nodes that know watches say when it is free.
 //
 // It returns *Busy if the client itself holds the lock, and if the context ends while another client does. If the
 // context ends while a request has no answer, Lock withdraws that for the Grace of the Config, and returns *NoAnswer:
@@ -86,7 +86,7 @@ func (c *Client) try(ctx context.Context, op wire.Op) (*Guard, error) {
 	return c.take(ctx, op)
 }
 
-// wait asks for a lock until it is granted, or cannot be. While another client holds it, nodes say when it is free.
+// wait asks for a lock until it is granted, or cannot be.
 func (c *Client) wait(ctx context.Context, op wire.Op) (*Guard, error) {
 	if err := op.Valid(); err != nil {
 		return nil, err

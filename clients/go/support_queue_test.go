@@ -67,7 +67,9 @@ func startQueue(t *testing.T, loss float64) *queueNode {
 func (q *queueNode) client(number uint16) *Client {
 	q.t.Helper()
 	port := uint16(q.connection.LocalAddr().(*net.UDPAddr).Port)
-	client, err := Open(Config{Cluster: 5, Client: number, First: 1, Nodes: Loopback(port), Patience: time.Minute})
+	client, err := Open(Config{
+		Cluster: 5, Client: number, First: 1, Nodes: Loopback(port), Patience: time.Minute, Notices: true,
+	})
 	if err != nil {
 		q.t.Fatal(err)
 	}

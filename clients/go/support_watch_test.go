@@ -30,6 +30,9 @@ const (
 	saysNotHere = 3
 )
 
+// watching makes a client send watches while it waits.
+func watching(c *Config) { c.Notices = true }
+
 // readWatch reads a watch without a seal.
 func readWatch(data []byte, from netip.AddrPort) (heardWatch, bool) {
 	if len(data) != 71 || string(data[:4]) != "LW\x01\x09" {
