@@ -165,6 +165,14 @@ impl Client {
         self.rebind()
     }
 
+    /// Sets whether nodes say when a lock is free that [`Client::acquire_within`], [`Client::lock`] or
+    /// another call waits for, at first false. Then the client sends them watches meanwhile, and goes
+    /// behind others that wait if it released the lock within the last second. Nodes of this version do
+    /// not answer watches yet, and count each one as an unread datagram.
+    pub fn set_notices(&mut self, notices: bool) {
+        self.session.set_notices(notices);
+    }
+
     /// Sets how long a request waits for its answer, at first ten seconds.
     pub fn set_patience(&mut self, patience: Duration) {
         self.patience = patience;
@@ -242,10 +250,11 @@ impl Client {
     /// If a release of this client has no answer yet, it is resumed first. If the same acquire has
     /// none, this resumes it. Any other open request is [`Error::Unanswered`].
     ///
-    /// Nodes that know watches say when the lock is free, in the order in which clients came, and it
-    /// asks then. Between two requests it waits up to four seconds while a node has put it in its
-    /// queue. Otherwise it waits 50 ms at first, and then longer, at most a second. It begins anew where
-    /// the fence has changed, and waits up to four seconds where it stays for longer than half a minute.
+    /// Between two requests it waits 50 ms at first, and then longer, at most a second. It begins
+    /// anew where the fence has changed, and waits up to four seconds where it stays for longer than
+    /// half a minute. With [`Client::set_notices`] nodes that know watches say when the lock is free, in
+    /// the order in which clients came, and it asks then. While a node has put it in its queue it waits
+    /// up to four seconds between two requests.
     ///
     #[doc = asks_a_node!()]
     /// # mod support { include!(concat!(env!("CARGO_MANIFEST_DIR"), "/tests/support/cluster.rs")); }

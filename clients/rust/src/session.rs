@@ -159,7 +159,7 @@ impl Session {
         of_one_family(addresses[0].ip(), self.addresses[0].ip())?;
         self.addresses = addresses;
         (self.turn, self.leader) = (0, None);
-        self.watch_known();
+        self.change_watched();
         Ok(())
     }
 
@@ -181,6 +181,12 @@ impl Session {
         }
         self.hosts = hosts;
         Ok(())
+    }
+
+    /// Sets whether nodes say when a lock is free, as
+    /// [`Client::set_notices`](crate::Client::set_notices) does, from the next Busy on.
+    pub fn set_notices(&mut self, notices: bool) {
+        self.waiting.notices = notices;
     }
 
     /// Sets what is called for each [`Event`], as [`Client::set_log`](crate::Client::set_log) does.

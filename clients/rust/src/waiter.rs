@@ -165,9 +165,10 @@ impl Waiter {
         sends
     }
 
-    /// When the watch is renewed, if there is one.
+    /// When the watch is renewed, if nodes are watched.
     pub(crate) fn renews_at(&self) -> Option<Instant> {
-        (self.watches > 0).then(|| self.watched_at + RENEWAL)
+        let is_renewed = self.watches > 0 && !self.posts.is_empty();
+        is_renewed.then(|| self.watched_at + RENEWAL)
     }
 
     /// Renews the watch if that is due.

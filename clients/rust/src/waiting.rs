@@ -36,6 +36,8 @@ impl Wait {
 /// What a session does between two requests.
 #[derive(Debug)]
 pub(crate) struct Waiting {
+    // whether nodes are watched
+    pub(crate) notices: bool,
     wait: Option<Wait>,
     // what is sent before anything else, and how the wait that it belongs to has ended
     to_send: VecDeque<(Vec<u8>, SocketAddr)>,
@@ -53,6 +55,7 @@ impl Waiting {
     /// knows a greater one ignores those of this run until that watch expires, for two seconds.
     pub(crate) fn new() -> Waiting {
         Waiting {
+            notices: false,
             wait: None,
             to_send: VecDeque::new(),
             done: None,
@@ -78,10 +81,10 @@ impl Session {
     /// Begins to wait for a lock: asks for it, and asks again while another client holds it, until
     /// `wait` is over. The op is an acquire or a share. [`Session::step`] yields the last answer.
     ///
-    /// Meanwhile the nodes are watched: one that leads sends a notice when the lock is free, and the
-    /// lock is asked for at once. Where no notice comes, it is asked for after the waits of
-    /// [`BusyWaits`](crate::BusyWaits). A client that released the lock within the last second watches
-    /// first, so that those who wait have it before.
+    /// Between two requests are the waits of [`BusyWaits`](crate::BusyWaits). With
+    /// [`Session::set_notices`] the nodes are watched meanwhile: one that leads sends a notice when the
+    /// lock is free, and the lock is asked for at once. A client that released the lock within the last
+    /// second then watches first, so that those who wait have it before.
     ///
     /// The last answer comes half a second after `wait` at the latest, or within `patience` where that
     /// is longer. If the same request is open, it is resumed. Other errors are those of
@@ -105,10 +108,12 @@ impl Session {
             limit: now.checked_add(limit),
             op,
         };
+        let nodes = self.watched();
+        let yields = self.open.is_none() && !wait.is_zero() && !nodes.is_empty();
         let name = begun.op.wanted().unwrap_or_default();
         match self.waiting.released_lately(name, now) {
-            Some(fence) if self.open.is_none() && !wait.is_zero() => {
-                begun.waiter.set_nodes(self.known());
+            Some(fence) if yields => {
+                begun.waiter.set_nodes(nodes);
                 let sends = begun.waiter.watch_first(now, fence);
                 self.send_watches(sends, &begun);
                 self.waiting.is_unheard = true;
@@ -139,21 +144,22 @@ impl Session {
         }
     }
 
-    /// The nodes, and the one that answered last.
-    fn known(&self) -> Vec<SocketAddr> {
-        let mut known = self.addresses.clone();
-        known.extend(
-            self.leader
-                .filter(|leader| !self.addresses.contains(leader)),
-        );
-        known
+    /// The nodes that are watched: none without notices, otherwise all, and the one that answered last.
+    fn watched(&self) -> Vec<SocketAddr> {
+        if !self.waiting.notices {
+            return Vec::new();
+        }
+        let mut watched = self.addresses.clone();
+        let leader = self.leader;
+        watched.extend(leader.filter(|leader| !self.addresses.contains(leader)));
+        watched
     }
 
     /// Changes the nodes that are watched.
-    pub(crate) fn watch_known(&mut self) {
-        let known = self.known();
+    pub(crate) fn change_watched(&mut self) {
+        let watched = self.watched();
         if let Some(wait) = &mut self.waiting.wait {
-            wait.waiter.set_nodes(known);
+            wait.waiter.set_nodes(watched);
         }
     }
 
@@ -221,7 +227,7 @@ impl Session {
                 is_own: false,
                 ..
             }) if !wait.is_over(now) => {
-                wait.waiter.set_nodes(self.known());
+                wait.waiter.set_nodes(self.watched());
                 let sends = wait.waiter.busy(now, *fence);
                 self.send_watches(sends, &wait);
                 self.tell_waiting(&done, wait.waiter.pause());

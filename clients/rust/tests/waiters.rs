@@ -207,6 +207,7 @@ fn waited(clients: u16, times: u32, loss: u64) -> Node {
                 let id = ClientId::new(id).unwrap();
                 let mut client = Client::new(ClusterId::new(5), id, &[port], numbers).unwrap();
                 client.set_patience(Duration::from_secs(60));
+                client.set_notices(true);
                 for _ in 0..times {
                     let lock = client.lock("db", Duration::MAX).unwrap();
                     assert_eq!(inside.fetch_add(1, Ordering::SeqCst), 0);

@@ -9,7 +9,7 @@ use std::net::SocketAddr;
 use std::sync::mpsc::{Receiver, channel};
 use std::thread;
 use std::time::{Duration, Instant};
-use support::{BUSY, FREE, GRANTED, OWN_BUSY, RELEASED, answer, bound, client};
+use support::{BUSY, FREE, GRANTED, Node, OWN_BUSY, RELEASED, answer, bound, client, op};
 
 const PORTS: [u16; 2] = [7001, 7002];
 const PATIENCE: Duration = Duration::from_secs(10);
@@ -55,6 +55,13 @@ struct Timed {
 impl Timed {
     /// A session whose run has begun, so that the next request has number 2.
     fn new() -> Timed {
+        let mut timed = Timed::without_notices();
+        timed.session.set_notices(true);
+        timed
+    }
+
+    /// The same session as it is by default.
+    fn without_notices() -> Timed {
         let numbers = Numbers::from_first(1).unwrap();
         let (cluster, id) = (ClusterId::new(5), ClientId::new(7).unwrap());
         let session = Session::new(cluster, id, &PORTS.map(at), numbers).unwrap();
@@ -345,9 +352,8 @@ fn a_sharer_says_so() {
     assert_eq!(timed.watches()[34], 2);
 }
 
-/// A session that has released `db` at fence 1 just now.
-fn released() -> Timed {
-    let mut timed = Timed::new();
+/// The session after it has released `db` at fence 1.
+fn released(mut timed: Timed) -> Timed {
     timed.begin(Duration::ZERO);
     timed.answer(answer(2, GRANTED));
     timed.done().unwrap();
@@ -362,7 +368,7 @@ fn released() -> Timed {
 
 #[test]
 fn who_released_a_lock_watches_before_it_asks() {
-    let mut timed = released();
+    let mut timed = released(Timed::new());
     timed.begin(PATIENCE);
     let first = timed.watches();
     assert_eq!(watch(&first).1, 1);
@@ -376,7 +382,7 @@ fn who_released_a_lock_watches_before_it_asks() {
 #[test]
 fn a_try_and_a_later_wait_ask_first() {
     for (wait, pause) in [(Duration::ZERO, ms(0)), (PATIENCE, ms(1_001))] {
-        let mut timed = released();
+        let mut timed = released(Timed::new());
         timed.now += pause;
         timed.begin(wait);
         timed.answer(answer(4, "01 0000000000000002"));
@@ -386,7 +392,7 @@ fn a_try_and_a_later_wait_ask_first() {
 
 #[test]
 fn old_nodes_are_watched_before_a_request_once() {
-    let mut timed = released();
+    let mut timed = released(Timed::new());
     timed.begin(PATIENCE);
     timed.watches();
     let until = timed.until();
@@ -419,6 +425,69 @@ fn other_nodes_are_watched_from_the_next_watch_on() {
         .take(&answer(3, "02 0008 0000000000000004"), to, timed.now);
     let (bytes, to) = timed.sent();
     assert!(is_watch(&bytes) && to == at(7003));
+}
+
+#[test]
+fn by_default_a_session_sends_requests_alone_and_waits_at_intervals() {
+    let mut timed = released(Timed::without_notices());
+    timed.begin(ms(20_000));
+    let waits = [50, 100, 200, 400, 800, 800, 800];
+    for (number, wait) in (4..).zip(waits) {
+        timed.answer(answer(number, BUSY));
+        let until = timed.until();
+        let scattered = ms(wait * 3 / 4)..=ms(wait * 5 / 4);
+        assert!(scattered.contains(&(until - timed.now)));
+        timed.now = until;
+    }
+    let (request, _) = timed.sent();
+    for _ in 0..3 {
+        timed.now = timed.until(); // no watch is renewed before
+        assert_eq!(timed.sent().0, request);
+    }
+    timed
+        .session
+        .take(&answer(11, GRANTED), at(PORTS[0]), timed.now);
+    assert_eq!(timed.done().unwrap(), Answer::Granted(1));
+}
+
+#[test]
+fn by_default_a_wait_that_is_over_is_not_withdrawn() {
+    let mut timed = Timed::without_notices();
+    timed.begin(ms(30));
+    timed.answer(answer(2, BUSY));
+    assert_eq!(timed.until(), timed.now + ms(30));
+    timed.now += ms(30);
+    timed.answer(answer(3, BUSY));
+    assert!(matches!(timed.done(), Err(Error::Busy { fence: 3, .. })));
+}
+
+#[test]
+fn by_default_a_client_sends_requests_alone() {
+    let rows = [GRANTED, RELEASED, BUSY, BUSY, GRANTED, RELEASED];
+    let rows = (2..).zip(rows).map(|(at, row)| vec![answer(at, row)]);
+    let node = Node::new(rows.collect());
+    let mut client = client(&[node.port]);
+    for _ in 0..2 {
+        let lock = client.lock("db", Duration::MAX).unwrap();
+        lock.release().unwrap();
+    }
+    let (acquired, freed) = (op(1, None), op(2, Some(1)));
+    let ops = [&acquired, &freed, &acquired, &acquired, &acquired, &freed];
+    assert_eq!(node.ops().iter().collect::<Vec<_>>(), ops);
+}
+
+#[test]
+fn a_session_that_wants_no_more_notices_asks_at_intervals() {
+    let (mut timed, first) = Timed::waiting();
+    timed.session.set_notices(false);
+    timed
+        .session
+        .take(&notice(&first, FREE_NOW, 1), at(PORTS[0]), timed.now);
+    timed.answer(answer(3, BUSY)); // the last notice that is followed
+    for number in 4..9 {
+        timed.now = timed.until();
+        timed.answer(answer(number, BUSY));
+    }
 }
 
 /// A node that has client 7 in its queue while client 8 holds the lock, and grants it a second after
@@ -461,6 +530,7 @@ fn watched(is_freed: bool) -> (u16, Receiver<Vec<u8>>) {
 fn a_client_takes_a_lock_at_once_when_a_notice_comes() {
     let (port, watches) = watched(true);
     let mut client = client(&[port]);
+    client.set_notices(true);
     let start = Instant::now();
     let lock = client.lock("db", Duration::MAX).unwrap();
     let took = start.elapsed();
@@ -472,7 +542,9 @@ fn a_client_takes_a_lock_at_once_when_a_notice_comes() {
 #[test]
 fn a_client_withdraws_a_wait_that_ends() {
     let (port, watches) = watched(false);
-    let refused = client(&[port]).lock("db", ms(300)).map(drop).unwrap_err();
+    let mut client = client(&[port]);
+    client.set_notices(true);
+    let refused = client.lock("db", ms(300)).map(drop).unwrap_err();
     assert!(matches!(refused, Error::Busy { fence: 3, .. }));
     let next = || watches.recv_timeout(Duration::from_secs(20)).ok();
     assert!(std::iter::from_fn(next).any(|watch| watch[68] == 0));
