@@ -5,4 +5,5 @@ pub mod Gatherings
 pub mod Pauses
 pub mod Probes
 pub mod ProbeHandling
+pub mod WatchHandling
 pub mod Premises

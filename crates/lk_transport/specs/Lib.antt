@@ -9,3 +9,4 @@ pub mod Inquiring
 pub mod Kept
 pub mod Arrivals
 pub mod Listening
+pub mod Watches
