@@ -1,2 +1,1 @@
 pub mod Bundles
-pub mod Opened

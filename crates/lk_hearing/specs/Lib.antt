@@ -1,3 +1,2 @@
 pub mod Probes
 pub mod Histories
-pub mod Tokens

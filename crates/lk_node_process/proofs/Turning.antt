@@ -15,10 +15,12 @@ use Rattle.lk_transport.specs.ReceiveBuffers.{BufferValue}
 use Rattle.lk_transport.specs.Kept.{KeepsOf}
 use Rattle.lk_transport.specs.Posts.{all_filtered}
 use Rattle.lk_server_replica.specs.Sayings.{SaysOf}
+use Rattle.lk_server.specs.ProbeHandling.{HandlesProbes}
+use Rattle.lk_server_replica.specs.Showing.{IsShown}
 use Rattle.lk_server.specs.Servers.{ServerValue, HasReceived, TurnOrIdle as ServerTurn, LastTurn}
 use Rattle.lk_transport.specs.Chains.{Repeats}
 use Rattle.lk_node_process.specs.Revivals.{IsRestartRefused, StaysDown}
-use Rattle.lk_node_process.specs.Turns.{ActsBeside, DoesTurn, DoesTurnWith, EndsByStranger, EndsTurn, BreaksOff}
+use Rattle.lk_node_process.specs.Turns.{DoesTurn, DoesTurnWith, EndsByStranger, EndsTurn, BreaksOff}
 use Rattle.lk_node_process.specs.Turns.{BreaksOffByStranger, TellsFailure}
 
 -- what a replica on a device says, where that is honest
@@ -66,10 +68,10 @@ pub turn_taken : {Says : ReplicaValue → List (Option (List ℕ)) → List Lett
     (old mid new : ServerValue ReplicaValue) → HasReceived observable frames old mid
     → ServerTurn Says observable frames old mid
     → KeepsOf old.addresses.seals frames kept left
-    → ActsBeside observable left.asked left.reported left.watched mid new
-    → IsSameNetwork old.addresses mid.addresses → IsSameNetwork mid.addresses new.addresses → TellsFailure new
-    → After new → DoesTurnWith Says observable kept.asked kept.reported kept.watched After old new
-turn_taken After frames kept left old mid new received turn keeps acts network held failure becomes = record {
+    → HandlesProbes IsShown observable left.asked left.reported mid new
+    → IsSameNetwork old.addresses mid.addresses → TellsFailure new → After new
+    → DoesTurnWith Says observable kept.asked kept.reported After old new
+turn_taken After frames kept left old mid new received turn keeps acts network failure becomes = record {
   frames = frames;
   came = all_filtered (filter_of old.addresses) frames;
   opened = refl;
@@ -81,10 +83,8 @@ turn_taken After frames kept left old mid new received turn keeps acts network h
   last = keeps.last;
   reported = left.reported;
   first_reported = keeps.reported;
-  watched = left.watched;
-  first_watched = keeps.watched;
   acts = acts;
-  network = (held.0 ∙ network.0, held.1 ∙ network.1);
+  network = (acts.network.0 ∙ network.0, acts.network.1 ∙ network.1);
   failure = failure;
   becomes = becomes;
 }

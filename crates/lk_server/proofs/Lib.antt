@@ -1,7 +1,5 @@
 mod Free
 mod Probed
-mod Watched
-mod Telling
 mod Asking
 mod Carrying
 mod FilteredOut

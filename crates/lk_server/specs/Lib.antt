@@ -5,5 +5,4 @@ pub mod Gatherings
 pub mod Pauses
 pub mod Probes
 pub mod ProbeHandling
-pub mod WatchHandling
 pub mod Premises

@@ -13,5 +13,4 @@ mod probing;
 pub mod server;
 mod socket_input;
 pub mod turn_events;
-mod watch_handling;
 pub mod watching;

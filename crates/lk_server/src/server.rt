@@ -29,7 +29,6 @@ use lk_transport::post::SocketPost;
 use lk_transport::receive_buffer::ReceiveBuffer;
 use lk_transport::socket::DatagramSocket;
 use lk_types::NodeNo;
-use lk_watch::queue::WatchQueue;
 use log::Log;
 use std::alloc::Global;
 use std::marker::Model;
@@ -62,9 +61,6 @@ pub struct Server<R: ServerReplica, S: DatagramSocket + Drop> {
     pub(crate) tokens: TokenSource,
     // the count of periods at its last warning of a node of another genesis
     pub(crate) stranger_warned: Option<u64>,
-    // who waits for a name, and the count of periods up to which their watches have lived
-    pub(crate) watches: WatchQueue,
-    pub(crate) aged: u64,
 }
 
 impl<R: ServerReplica, S: DatagramSocket + Drop> Model for Server<R, S> {
@@ -86,8 +82,6 @@ impl<R: ServerReplica, S: DatagramSocket + Drop> Model for Server<R, S> {
       sent = s.post.sent;
       socket_failures = s.post.socket_failures;
       incoming = s.post.incoming;
-      queue = s.watches;
-      aged = s.aged;
     } };
 }
 
@@ -126,8 +120,6 @@ impl<R: ServerReplica, S: DatagramSocket + Drop> Server<R, S> {
             sync_pause: SyncPause::NONE,
             tokens: TokenSource::new(),
             stranger_warned: None,
-            watches: WatchQueue::new(alloc),
-            aged: 0,
         }
     }
 

@@ -4,4 +4,3 @@ pub mod Showing
 pub mod Statuses
 pub mod TableVersions
 pub mod Refusals
-pub mod Tables

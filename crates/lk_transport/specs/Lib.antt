@@ -9,4 +9,3 @@ pub mod Inquiring
 pub mod Kept
 pub mod Arrivals
 pub mod Listening
-pub mod Watches

@@ -65,11 +65,10 @@ abbrev pub keys_for : Seals → To → List (List ℕ)
 keys_for s (Client c) = client_keys c (key_list s.clients)
 keys_for s (Node n port) = key_list s.nodes
 
--- it begins with the letters LP, as probes and reports do, or LW, as watches and notices do: these are not part of the
--- protocol
-abbrev pub is_beside_protocol : List ℕ → Bool
-is_beside_protocol (l ∷ p ∷ rest) = if l == 76 then p == 80 || p == 87 else false
-is_beside_protocol _ = false
+-- it begins with the letters LP, as probes and reports do, which are not part of the protocol
+abbrev pub is_probe_or_report : List ℕ → Bool
+is_probe_or_report (l ∷ p ∷ rest) = if l == 76 then p == 80 else false
+is_probe_or_report _ = false
 
 -- an arrived frame with its source, opened
 abbrev pub opened_as : Filter → SocketAddr × List ℕ → SocketAddr × List ℕ
@@ -80,11 +79,11 @@ abbrev pub is_request : List ℕ → Bool
 is_request (l ∷ k ∷ v ∷ kind ∷ rest) = if l == 76 then (if k == 75 then kind == 9 else false) else false
 is_request _ = false
 
--- no replica gets it: it is not part of the protocol, or came from a node of another genesis, or a client asks it, and
--- the node is deaf
+-- no replica gets it: it is a probe or a report, or came from a node of another genesis, or a client asks it, and the
+-- node is deaf
 abbrev pub is_filtered_out : Filter → SocketAddr × List ℕ → Bool
 is_filtered_out c d =
-    is_beside_protocol (heard c.seals d.1) || (c.strangers d.0 || (c.deaf && is_request (heard c.seals d.1)))
+    is_probe_or_report (heard c.seals d.1) || (c.strangers d.0 || (c.deaf && is_request (heard c.seals d.1)))
 
 -- an arrived frame as a replica gets it: opened, or nothing if it is filtered out
 abbrev pub filtered : Filter → SocketAddr × List ℕ → List (SocketAddr × List ℕ)

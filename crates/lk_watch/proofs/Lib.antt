@@ -1,4 +1,4 @@
 mod PartLaws
-pub mod DatagramLaws
+mod DatagramLaws
 mod QueueLaws
 mod OtherLaws

@@ -1,6 +1,5 @@
 pub mod Grammar
 pub mod Reading
 pub mod Standings
-pub mod Tables
 pub mod Waiters
 pub mod Queues

@@ -9,7 +9,6 @@ mod notice;
 pub mod queue;
 mod reading;
 mod standing;
-mod table;
 mod ticket;
 mod waiter;
 mod watch;
