@@ -44,7 +44,7 @@ use Rattle.lk_leftovers.specs.Filling.{FillsUp, IsLeftover}
 -- ---- the votes
 
 -- a vote that is kept now was kept before, or is the new one
-kept_or_new : (x : Vote) (vs : List Vote) (v : Vote) → Contains (votes_with x vs) v → (x ≡ v) ⊎ Contains vs v
+pub kept_or_new : (x : Vote) (vs : List Vote) (v : Vote) → Contains (votes_with x vs) v → (x ≡ v) ⊎ Contains vs v
 kept_or_new x [] v c = elim (cons_cases x [] v c) [ inl is ↦ inl is | inr none ↦ absurd (omega (arith, none.1)) ]
 kept_or_new x (w ∷ vs) v c =
     by_tests (kept_or_new x vs v) (nat_lt w.position x.position) (eqb w.position x.position)

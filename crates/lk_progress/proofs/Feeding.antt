@@ -7,7 +7,7 @@ use Rattle.lk_messages.specs.Values.{PartValue}
 use Rattle.lk_messages.specs.declared.message.Content.TheVariants as content
 use Rattle.lk_messages.specs.declared.message.NodeMessage.{NodeMessage}
 use Rattle.lk_messages.specs.declared.message.NodeMessage.TheVariants as kinds
-use Rattle.lk_learner.specs.Learners.{LearnerValue, IsLearner, executed, IsRetained, decided_from, wanted}
+use Rattle.lk_learner.specs.Learners.{LearnerValue, executed, IsRetained, decided_from, wanted}
 use Rattle.lk_learner.specs.Parts.{AreParts, start_of}
 use Rattle.lk_state.specs.Meanings.{Meaning}
 use Rattle.lk_node_interface.specs.Letters.{LetterValue}
@@ -20,7 +20,7 @@ use Rattle.lk_node.specs.Saying.{to_node}
 use Rattle.lk_node.specs.Telling.{letter_to}
 use Rattle.lk_progress.proofs.Hearing.{Handled, handled, still_told}
 use Rattle.lk_progress.specs.Feeding.{SendsCommands, SendsSnapshot, Sends, WantIsAnswered, LaggingNodeIsFed, Asks}
-use Rattle.lk_progress.specs.Feeding.{LaggingNodeAsks, FollowerAsks}
+use Rattle.lk_progress.specs.Feeding.{LaggingNodeAsks, FollowerAsks, MayServe}
 
 -- ---- what is sent
 
@@ -30,7 +30,7 @@ said_alone node message other out k =
     subst (λ (o : OutboxValue). Contains o.letters (letter_to node message other)) (sym k.1)
     (Contains-push nothing.letters (letter_to node message other))
 
-how_many : (first : ℕ) (l : LearnerValue) → IsLearner l → IsRetained l first
+how_many : (first : ℕ) (l : LearnerValue) → MayServe l → IsRetained l first
     → (length (decided_from first l).commands ≡ 16) ⊎ (first + length (decided_from first l).commands ≡ executed l + 1)
 how_many first l f is =
     let k : ℕ = first - (l.snapshot_position + 1) in
@@ -38,7 +38,7 @@ how_many first l f is =
     let len = length-take 16 (drop k l.retained) in
     grind (arith, rest, len, f.reaches, is.0, is.1)
 
-sends_commands : (node : NodeValue) (other first : ℕ) (out : OutboxValue) → IsLearner node.learner
+sends_commands : (node : NodeValue) (other first : ℕ) (out : OutboxValue) → MayServe node.learner
     → IsRetained node.learner first
     → SaysAlone node (to_node node other) (kinds.Decided (decided_from first node.learner)) out
     → SendsCommands node other first out
@@ -60,7 +60,7 @@ some_parts position start text [] are below =
     elim are.all [ inl eight ↦ absurd (cc eight) | inr all ↦ omega (arith, all, below) ]
 some_parts position start text (p ∷ parts) are below = omega arith
 
-sends_snapshot : (node : NodeValue) (other first offset : ℕ) (out : OutboxValue) → IsLearner node.learner
+sends_snapshot : (node : NodeValue) (other first offset : ℕ) (out : OutboxValue) → MayServe node.learner
     → first ≤ node.learner.snapshot_position → FeedsParts node other offset out
     → SendsSnapshot node other first offset out
 sends_snapshot node other first offset out f is feeds = record {
@@ -74,7 +74,7 @@ sends_snapshot node other first offset out f is feeds = record {
       (map_has (λ (q : PartValue). letter_to node (kinds.Part q) other) feeds.parts p c));
 }
 
-feeds_sends : (node : NodeValue) (other first offset : ℕ) (out : OutboxValue) → IsLearner node.learner
+feeds_sends : (node : NodeValue) (other first offset : ℕ) (out : OutboxValue) → MayServe node.learner
     → first ≤ executed node.learner → Feeds node other first offset out → Sends node other first offset out
 feeds_sends node other first offset out f there (inl k) = inl (sends_commands node other first out f k.0 k.1)
 feeds_sends node other first offset out f there (inr (inl k)) =

@@ -51,7 +51,8 @@ module _ (m : Meaning) (IsText : List ℕ → Type 0) (behind ahead : NodeValue)
 
 pub lagging_gets_on : (m : Meaning) (IsText : List ℕ → Type 0) → LaggingNodeGetsOn m IsText
 lagging_gets_on m IsText behind ahead new out k hears = by_case
-    (want_answered m IsText ahead new behind.header.node (wanted behind.learner) out k.learner hears
+    (want_answered m IsText ahead new behind.header.node (wanted behind.learner) out
+    (record { reaches = k.learner.reaches; some = k.learner.some }) hears
     (omega (arith, k.less)))
   where
     by_case : Sends ahead behind.header.node (executed behind.learner + 1) (gathered_bytes behind.learner.gathered) out

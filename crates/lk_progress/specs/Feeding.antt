@@ -6,7 +6,7 @@ use Rattle.lk_types.specs.Limits.{max_commands}
 use Rattle.lk_messages.specs.Values.{DecidedValue, WantValue, PartValue}
 use Rattle.lk_messages.specs.declared.message.Nack.{Nack}
 use Rattle.lk_messages.specs.declared.message.NodeMessage.TheVariants as kinds
-use Rattle.lk_learner.specs.Learners.{IsLearner, executed, alpha, IsRetained, decided_from, wanted}
+use Rattle.lk_learner.specs.Learners.{LearnerValue, executed, alpha, IsRetained, decided_from, wanted}
 use Rattle.lk_learner.specs.Parts.{start_of, AreParts}
 use Rattle.lk_state.specs.Meanings.{Meaning}
 use Rattle.lk_node_interface.specs.Outboxes.{OutboxValue}
@@ -15,6 +15,12 @@ use Rattle.lk_node.specs.Telling.{letter_to}
 use Rattle.lk_progress.specs.Hearing.{Hears}
 
 -- ---- who is ahead sends
+
+-- the commands that it keeps are those that it has executed after its snapshot, which is not empty: this is part of a
+-- learner's invariant
+pub record MayServe (l : LearnerValue) : Type 0 where
+  pub reaches : executed l ≡ l.snapshot_position + length l.retained
+  pub some : 1 ≤ length l.snapshot
 
 -- from this position on the node keeps all commands that it has executed, and sends them: 16, or all if they are fewer
 pub record SendsCommands (node : NodeValue) (to first : ℕ) (out : OutboxValue) : Type 0 where
@@ -38,13 +44,13 @@ Sends node to first offset out = SendsCommands node to first out ⊎ SendsSnapsh
 -- A node that has executed the wanted position answers: with commands, or with its snapshot.
 abbrev pub WantIsAnswered : Meaning → (List ℕ → Type 0) → Type 0
 WantIsAnswered m IsText = (old new : NodeValue) (from : ℕ) (want : WantValue) (out : OutboxValue)
-    → IsLearner old.learner → Hears m IsText old from (kinds.Want want) new out → want.first ≤ executed old.learner
+    → MayServe old.learner → Hears m IsText old from (kinds.Want want) new out → want.first ≤ executed old.learner
     → Sends old from want.first want.offset out
 
 -- A node that hears, by a rejection, of one that has executed less, answers in the same way.
 abbrev pub LaggingNodeIsFed : Meaning → (List ℕ → Type 0) → Type 0
 LaggingNodeIsFed m IsText = (old new : NodeValue) (from : ℕ) (nack : Nack) (out : OutboxValue)
-    → IsLearner old.learner → Hears m IsText old from (kinds.Nack nack) new out → nack.executed < executed old.learner
+    → MayServe old.learner → Hears m IsText old from (kinds.Nack nack) new out → nack.executed < executed old.learner
     → Sends old from (nack.executed + 1) 0 out
 
 -- ---- who is behind asks

@@ -11,11 +11,12 @@ use Rattle.lk_node.specs.Telling.{letter_to}
 use Rattle.lk_progress.specs.Feeding.{Asks, FollowerAsks, LaggingNodeAsks}
 use Rattle.lk_replica.specs.ReplicaValue.{ReplicaValue}
 use Rattle.lk_sim.specs.Scenes.{Scene}
-use Rattle.lk_world_feeding.proofs.Knowing.{found_has, left_has}
 use Rattle.lk_world_feeding.proofs.Nudging.{nudged_node_asks, wanted_same}
 use Rattle.lk_world_feeding.proofs.Taking.{IsAboutProgress, TakesFrom, taken_learner, takes_from}
 use Rattle.lk_world_feeding.specs.Asking.{AsksIn, ComesToAsk, HearersKeepGathered, HearsOfMore, IsNotified}
 use Rattle.lk_world_feeding.specs.Asking.{IsRejected, NodesThatAreBehindAsk}
+use Rattle.lk_world_progress.proofs.Balloting.{found_has}
+use Rattle.lk_world_progress.proofs.Waiting.{left_has}
 use Rattle.lk_world_progress.specs.Stepping.{EventIsStep, IsUpAs}
 
 module _ (m : Meaning) (IsText : List ℕ → Type 0) (law : EventIsStep m IsText) (old new : Scene ReplicaValue)
@@ -33,17 +34,17 @@ module _ (m : Meaning) (IsText : List ℕ → Type 0) (law : EventIsStep m IsTex
       let same : s.last.learner ≡ s.start.learner =
       taken_learner m IsText s.start s.last other x s.out about k.takes in
       let whole : s.after.node.learner.whole ≡ s.start.learner.whole =
-      left_has (λ node. node.learner.whole ≡ s.start.learner.whole) s.out s.last s.after s.left (λ e. e)
+      left_has s.out s.last s.after (λ node. node.learner.whole ≡ s.start.learner.whole) (λ e. e) s.left
       (ap (λ (l : LearnerValue). l.whole) same) in
       let gathered : s.after.node.learner.gathered ≡ s.start.learner.gathered =
-      left_has (λ node. node.learner.gathered ≡ s.start.learner.gathered) s.out s.last s.after s.left (λ e. e)
+      left_has s.out s.last s.after (λ node. node.learner.gathered ≡ s.start.learner.gathered) (λ e. e) s.left
       (ap (λ (l : LearnerValue). l.gathered) same) in
       let kept : s.after.node.learner.gathered ≡ r.node.learner.gathered = gathered
-      ∙ found_has (λ node. node.learner.gathered ≡ r.node.learner.gathered) r s.start k.steps.found (λ e. e) refl in (
+      ∙ found_has r s.start k.steps.found (λ node. node.learner.gathered ≡ r.node.learner.gathered) (λ e. e) refl in (
         record {
           now = s.after;
           is = s.is;
-          whole = whole ∙ found_has (λ node. node.learner.whole ≡ r.node.learner.whole) r s.start k.steps.found
+          whole = whole ∙ found_has r s.start k.steps.found (λ node. node.learner.whole ≡ r.node.learner.whole)
               (λ e. e) refl;
           gathered = inl kept;
           asks = k.steps.says other (kinds.Want (wanted s.after.node.learner))
@@ -60,7 +61,7 @@ module _ (m : Meaning) (IsText : List ℕ → Type 0) (law : EventIsStep m IsTex
       takes_from m IsText law n (content.Node other (kinds.Nack k.0)) r old new up k.2 in
       heard_asks (kinds.Nack k.0) tt t
       (nack_asks t.steps.step.start t.steps.step.last other k.0 t.steps.step.out t.takes
-      (found_has (λ node. executed node.learner < k.0.executed) r t.steps.step.start t.steps.found (λ e. e) k.1))
+      (found_has r t.steps.step.start t.steps.found (λ node. executed node.learner < k.0.executed) (λ e. e) k.1))
 
   notified_asks : FollowerAsks m IsText → IsNotified m IsText n other r old new → Hearing
   notified_asks lead_asks k =
@@ -68,9 +69,9 @@ module _ (m : Meaning) (IsText : List ℕ → Type 0) (law : EventIsStep m IsTex
       takes_from m IsText law n (content.Node other (kinds.Lead k.0 k.1)) r old new up k.4 in
       heard_asks (kinds.Lead k.0 k.1) tt t
       (lead_asks t.steps.step.start t.steps.step.last other k.0 k.1 t.steps.step.out t.takes
-      (found_has (λ node. is_below k.0 node.acceptor.state.promised ≡ false) r t.steps.step.start t.steps.found (λ e. e)
+      (found_has r t.steps.step.start t.steps.found (λ node. is_below k.0 node.acceptor.state.promised ≡ false) (λ e. e)
       k.2)
-      (found_has (λ node. executed node.learner < k.1) r t.steps.step.start t.steps.found (λ e. e) k.3))
+      (found_has r t.steps.step.start t.steps.found (λ node. executed node.learner < k.1) (λ e. e) k.3))
 
   hearing_asks : LaggingNodeAsks m IsText → FollowerAsks m IsText → HearsOfMore m IsText n other r old new → Hearing
   hearing_asks nack_asks lead_asks (inl k) = rejected_asks nack_asks k

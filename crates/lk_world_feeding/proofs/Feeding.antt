@@ -8,11 +8,10 @@ use Rattle.lk_messages.specs.declared.message.Nack.{Nack}
 use Rattle.lk_messages.specs.declared.message.NodeMessage.TheVariants as kinds
 use Rattle.lk_state.specs.Meanings.{Meaning}
 use Rattle.lk_state.specs.States.{WholeValue}
-use Rattle.lk_learner.specs.Learners.{IsLearner, LearnerValue, decided_from, executed, wanted}
+use Rattle.lk_learner.specs.Learners.{LearnerValue, decided_from, executed, wanted}
 use Rattle.lk_replica.specs.ReplicaValue.{ReplicaValue}
 use Rattle.lk_sim.specs.Scenes.{Scene}
 use Rattle.lk_sim_nodes.specs.declared.seat.Life.TheVariants.{Up}
-use Rattle.lk_world_feeding.proofs.Knowing.{one_replica}
 use Rattle.lk_world_feeding.proofs.Taking.{delivery_only}
 use Rattle.lk_world_feeding.specs.Asking.{AreEnough, AskedNodesSend, AsksIn, ComesToAsk, Keeps}
 use Rattle.lk_world_feeding.specs.Asking.{NodesThatAreBehindAsk, ReachesIn, RejectedNodesSend, SendsIn}
@@ -21,6 +20,7 @@ use Rattle.lk_world_feeding.specs.Feeding.{CanBeFed, ExchangesCatchUp, Exchanges
 use Rattle.lk_world_feeding.specs.Feeding.{HasCaughtUp, IsFed, IsFedAgain, IsFedOnce, IsFedUnasked, KeepsLearner}
 use Rattle.lk_world_feeding.specs.Feeding.{Later, RejectionsFeed}
 use Rattle.lk_world_feeding.specs.Feeding.{commands_for}
+use Rattle.lk_world_progress.proofs.Stepping.{one_replica}
 use Rattle.lk_world_progress.specs.Balloting.{HasSentTo}
 use Rattle.lk_world_progress.specs.Delivering.{Delivers}
 use Rattle.lk_world_progress.specs.Stepping.{EventIsStep, Holds, IsUpAs}
@@ -102,7 +102,6 @@ module _ (m : Meaning) (IsText : List ℕ → Type 0) (law : EventIsStep m IsTex
     keeps : Keeps serving.0 (executed behind.node.learner + 1)
     keeps = subst (λ (l : LearnerValue). Keeps (record serving.0 { node = record serving.0.node { learner = l } })
         (executed behind.node.learner + 1)) (sym serving.2) (record {
-          learner = can.learner;
           above = omega (arith, can.kept);
           there = omega (arith, less);
         })
@@ -202,7 +201,6 @@ module _ (m : Meaning) (IsText : List ℕ → Type 0) (law : EventIsStep m IsTex
       apart = can.apart;
       up = exchange.up;
       other_up = exchange.other_up;
-      learner = subst IsLearner (sym same_ahead) can.learner;
       kept = let at : exchange.ahead.node.learner.snapshot_position ≡ ahead.node.learner.snapshot_position =
           ap (λ (l : LearnerValue). l.snapshot_position) same_ahead in
           omega (arith, at, same_executed exchange.behind.node.learner behind.node.learner same_behind, can.kept);
@@ -237,7 +235,6 @@ module _ (m : Meaning) (IsText : List ℕ → Type 0) (law : EventIsStep m IsTex
       apart = can.apart;
       up = gain.gains.1;
       other_up = gain.keeps.1;
-      learner = subst IsLearner (sym gain.keeps.2) can.learner;
       kept = let at : p.node.learner.snapshot_position ≡ ahead.node.learner.snapshot_position =
           ap (λ (l : LearnerValue). l.snapshot_position) gain.keeps.2 in omega (arith, at, can.kept, reaches);
     }
@@ -289,7 +286,7 @@ module _ (m : Meaning) (IsText : List ℕ → Type 0) (sending : RejectedNodesSe
     (k : IsFedUnasked m IsText n other nack ahead first last) where
   keeps_rest : Keeps ahead (nack.executed + 1)
   keeps_rest =
-      record { learner = can.learner; above = omega (arith, kept); there = omega (arith, less) }
+      record { above = omega (arith, kept); there = omega (arith, less) }
 
   sent_rest : SendsIn other n ahead (nack.executed + 1) first k.served
   sent_rest = sending first k.served other n ahead nack can.other_up keeps_rest k.serves

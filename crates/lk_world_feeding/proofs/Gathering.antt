@@ -3,7 +3,7 @@ use Rattle.std.proofs.Common.{◌≡◌, ◌∙◌, ◌⊎◌, inl, inr, ℕ, ze
 use Rattle.std.proofs.Common.{◌++◌, Bool, true, false, cond, eqb}
 use Rattle.std.proofs.Common.{ltb, List, [], ◌∷◌, length, take, drop, Some, Contains, refl, ap, sym, subst}
 use Rattle.std.proofs.Common.{arith, append-nil, get_or}
-use Rattle.std.proofs.lemmas.Bool.{eq-eqb, lt-ltb}
+use Rattle.std.proofs.lemmas.Bool.{cases_Bool, eq-eqb, eqb-true, lt-ltb}
 use Rattle.std.proofs.lemmas.List.{length-take-le}
 use Rattle.std.proofs.lemmas.Option.{slice_get-get_or}
 use Rattle.std.specs.Prelude.{slice_get}
@@ -24,13 +24,15 @@ use Rattle.lk_node.specs.NewBases.{with_snapshot}
 use Rattle.lk_node.specs.NodeValue.{NodeValue}
 use Rattle.lk_node_interface.specs.Letters.{LetterValue}
 use Rattle.lk_node_interface.specs.Outboxes.{OutboxValue}
+use Rattle.lk_progress.proofs.Hearing.{Handled, handled, same_learner}
 use Rattle.lk_progress.specs.Gathering.{GetsOn, HasFirst, HasSoFar, parts_from}
 use Rattle.lk_progress.specs.Hearing.{Takes, TakesEach}
 use Rattle.lk_replica.specs.ReplicaValue.{ReplicaValue}
 use Rattle.lk_sim.specs.Scenes.{Scene}
 use Rattle.lk_world_feeding.proofs.Knowing.{left_is}
-use Rattle.lk_world_feeding.proofs.Taking.{TakesFrom, proposed_learner, taken_handles, takes_from, then_only}
+use Rattle.lk_world_feeding.proofs.Taking.{TakesFrom, takes_from, then_only}
 use Rattle.lk_world_feeding.specs.Asking.{ChangesOnly}
+use Rattle.lk_world_feeding.specs.Gathering.{LeavesOlder, NewerPartsBeginAnew}
 use Rattle.lk_world_progress.specs.Delivering.{Delivers, DeliversInTurn}
 use Rattle.lk_world_progress.specs.Stepping.{EventIsStep, Holds, IsUpAs}
 
@@ -128,14 +130,15 @@ part_gathered m IsText old new from position count text out behind short has k =
     with_part position text old.learner behind count (omega (arith, short)) has in
     let long : length (take (count + 1024) text) ≡ count + 1024 =
     length-take-le (count + 1024) text (omega (arith, short)) in
+    let h : Handled m IsText old (content.Node from (kinds.Part (part_of position text count))) new out =
+    handled m IsText old (content.Node from (kinds.Part (part_of position text count))) new out k in
     let rests = not_yet m IsText old (part_of position text count) (first_of position text (count + 1024)) hears
-    (λ e. omega (arith, e, long, short)) k.step.mid k.step.first
-    (taken_handles m IsText old new (content.Node from (kinds.Part (part_of position text count))) out k) in
+    (λ e. omega (arith, e, long, short)) h.mid h.first h.handles in
     let learner : new.learner ≡ hearing (part_of position text count) old.learner =
-    proposed_learner k.step.proposes.0 k.step.mid new k.step.first out k.step.proposes.1 ∙ rests.0 in (
+    same_learner m IsText old (content.Node from (kinds.Part (part_of position text count))) new out h ∙ rests.0 in (
       ap (λ (l : LearnerValue). l.gathered) learner ∙ hears,
       ap (λ (l : LearnerValue). l.whole) learner,
-      proposed_rests k.step.proposes.0 k.step.mid new k.step.first out k.step.proposes.1 ∙ rests.1,
+      proposed_rests h.proposes.0 h.mid new h.first out h.proposes.1 ∙ rests.1,
     )
 
 -- ---- all parts of an exchange
@@ -307,3 +310,63 @@ pub gets_on_since : (old mid new : NodeValue) (position reached : ℕ) (text : L
     → GetsOn old new position text reached
 gets_on_since old mid new position reached text same (inl whole) = inl whole
 gets_on_since old mid new position reached text same (inr more) = inr (more.0, more.1, more.2 ∙ same)
+
+-- ---- a part of a newer snapshot
+
+module _ (m : Meaning) (IsText : List ℕ → Type 0) (law : EventIsStep m IsText) where
+  module _ (old new : Scene ReplicaValue) (n from : ℕ) (r : ReplicaValue) (g : GatheredValue) (p : PartValue)
+      (up : IsUpAs old n r) (is : r.node.learner.gathered ≡ Some g) (newer : g.position < p.position)
+      (behind : executed r.node.learner < p.position) (later : 1 ≤ p.offset) (some : 1 ≤ p.total)
+      (k : Delivers m IsText n (content.Node from (kinds.Part p)) old new) where
+    abbrev begun : GatheredValue
+    begun = record { position = p.position; total = p.total; bytes = [] }
+
+    abbrev heard_from : TakesFrom m IsText law n (content.Node from (kinds.Part p)) r old new
+    heard_from = takes_from m IsText law n (content.Node from (kinds.Part p)) r old new up k.hears
+
+    abbrev last : NodeValue
+    last = heard_from.steps.step.last
+
+    takes : Takes m IsText r.node (content.Node from (kinds.Part p)) last heard_from.steps.step.out
+    takes = subst
+        (λ (node : NodeValue). Takes m IsText node (content.Node from (kinds.Part p)) last heard_from.steps.step.out)
+        (heard_from.steps.found.rests (k.rested r up)) heard_from.takes
+
+    hears : heard (executed r.node.learner) r.node.learner.gathered p ≡ Some begun
+    hears =
+        let above : ltb (executed r.node.learner) p.position ≡ true =
+        lt-ltb (executed r.node.learner) p.position behind in
+        let starts : ltb g.position p.position ≡ true = lt-ltb g.position p.position newer in
+        let not_first : eqb p.offset 0 ≡ false = elim (cases_Bool (eqb p.offset 0)) [
+          | inl t ↦ (let none : p.offset ≡ 0 = eqb-true p.offset 0 t in absurd (omega (arith, none, later)))
+          | inr f ↦ f
+        ] in
+        rw (is, above, starts, not_first) refl
+
+    begins_anew : LeavesOlder n p r old new
+    begins_anew =
+        let h : Handled m IsText r.node (content.Node from (kinds.Part p)) last heard_from.steps.step.out =
+        handled m IsText r.node (content.Node from (kinds.Part p)) last heard_from.steps.step.out takes in
+        let rests = not_yet m IsText r.node p begun hears (λ e. omega (arith, e, some)) h.mid h.first h.handles in
+        let learner : last.learner ≡ hearing p r.node.learner =
+        same_learner m IsText r.node (content.Node from (kinds.Part p)) last heard_from.steps.step.out h ∙ rests.0 in
+        let after : heard_from.steps.step.after.node ≡ last = heard_from.steps.step.left.rests
+        (proposed_rests h.proposes.0 h.mid last h.first heard_from.steps.step.out h.proposes.1 ∙ rests.1) in
+        let gathered : heard_from.steps.step.after.node.learner.gathered ≡ Some begun =
+        ap (λ (node : NodeValue). node.learner.gathered) after ∙ ap (λ (l : LearnerValue). l.gathered) learner
+        ∙ hears in
+        record {
+          now = heard_from.steps.step.after;
+          is = heard_from.steps.step.is;
+          open_for = λ q at.
+              let same : begun ≡ q = cc (gathered, at) in (
+                ap (λ (x : GatheredValue). x.position) (sym same),
+                subst (λ (x : GatheredValue). length x.bytes < x.total) same (omega (arith, some)),
+              );
+          whole = ap (λ (node : NodeValue). node.learner.whole) after ∙ ap (λ (l : LearnerValue). l.whole) learner;
+          only = heard_from.steps.only;
+        }
+
+  pub newer_begins_anew : NewerPartsBeginAnew m IsText
+  newer_begins_anew old new n from r g p up is newer behind later some k =
+      begins_anew old new n from r g p up is newer behind later some k

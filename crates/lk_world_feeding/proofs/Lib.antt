@@ -1,4 +1,4 @@
-mod Knowing
+pub mod Knowing
 mod Taking
 mod Nudging
 mod Asking

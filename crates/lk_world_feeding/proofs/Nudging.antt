@@ -3,7 +3,7 @@ use Rattle.std.proofs.Common.{◌≡◌, ◌∙◌, ◌⊎◌, inl, inr, ℕ, �
 use Rattle.std.proofs.Common.{cond, not, eqb, eqb-true}
 use Rattle.std.proofs.Common.{List, [], ◌∷◌, None, Contains, refl, ap, sym, subst, arith}
 use Rattle.std.proofs.lemmas.Bool.{cases_Bool, cases_order, eq-eqb}
-use Rattle.std.proofs.lemmas.List.Elements.{Contains-append_left, Contains-append_right}
+use Rattle.std.proofs.lemmas.List.Elements.{Contains-append_right}
 use Rattle.lk_types.specs.BallotValue.{BallotValue}
 use Rattle.lk_types.specs.declared.vote.Vote.{Vote}
 use Rattle.lk_messages.specs.Values.{WantValue}
@@ -27,13 +27,15 @@ use Rattle.lk_node_interface.specs.Letters.{LetterValue}
 use Rattle.lk_node_interface.specs.Outboxes.{OutboxValue, nothing}
 use Rattle.lk_node_interface.specs.Ticks.{is_full}
 use Rattle.lk_node_interface.specs.declared.input.Input.TheVariants.{Nudge}
+use Rattle.lk_progress.proofs.Hearing.{proposed_learner, proposed_letters}
 use Rattle.lk_replica.specs.ReplicaValue.{ReplicaValue}
 use Rattle.lk_sim.specs.Scenes.{Scene}
 use Rattle.lk_sim.specs.declared.event.Event.TheVariants as event
-use Rattle.lk_world_feeding.proofs.Knowing.{found_has, left_has}
-use Rattle.lk_world_feeding.proofs.Taking.{StepsFrom, proposed_learner, steps_from, then_only}
+use Rattle.lk_world_feeding.proofs.Taking.{StepsFrom, steps_from, then_only}
 use Rattle.lk_world_feeding.specs.Asking.{AsksIn, IsNudged}
 use Rattle.lk_world_feeding.specs.Nudging.{IsSilent, NudgesThrowAway, SilentNodesTell, TellsIn}
+use Rattle.lk_world_progress.proofs.Balloting.{found_has}
+use Rattle.lk_world_progress.proofs.Waiting.{left_has}
 use Rattle.lk_world_progress.specs.Balloting.{HasSentTo}
 use Rattle.lk_world_progress.specs.Stepping.{EventIsStep, IsUpAs}
 
@@ -66,12 +68,6 @@ all_above is low (n ∷ ns) k all above passes =
       | inr (inl below) ↦ absurd (cc (sym passes ∙ all.0.least k above below))
       | inr (inr later) ↦ contains_more n ns k (all_above is n ns k all.1 later passes)
     ]
-
-proposed_letters : (xs : List Vote) (old new : NodeValue) (before out : OutboxValue) (l : LetterValue)
-    → ProposesAll xs old new before out → Contains before.letters l → Contains out.letters l
-proposed_letters [] old new before out l p c = subst (λ (o : OutboxValue). Contains o.letters l) (sym p.2) c
-proposed_letters (x ∷ xs) old new before out l p c =
-    proposed_letters xs (having_proposed old x p.0) new _ out l p.1 (Contains-append_left before.letters _ l c)
 
 proposed_before : (xs : List Vote) (old new : NodeValue) (before out : OutboxValue)
     → ProposesAll xs old new before out → new.gathered_before ≡ old.gathered_before
@@ -121,20 +117,20 @@ module _ (m : Meaning) (IsText : List ℕ → Type 0) (law : EventIsStep m IsTex
         at_start = ap (λ (h : HeaderValue). h.node) k.header
 
         named_start : is_named other start.learner.whole.roster.sets ≡ true
-        named_start = found_has (λ node. is_named other node.learner.whole.roster.sets ≡ true) r start k.found (λ e. e)
+        named_start = found_has r start k.found (λ node. is_named other node.learner.whole.roster.sets ≡ true) (λ e. e)
             named
 
     -- what is gathered stays or is thrown away
     gathered_now : (now.learner.gathered ≡ r.node.learner.gathered) ⊎ (now.learner.gathered ≡ None)
     gathered_now = refreshed_has
         (λ node. (node.learner.gathered ≡ r.node.learner.gathered) ⊎ (node.learner.gathered ≡ None)) start (inr refl)
-        (inl (found_has (λ node. node.learner.gathered ≡ r.node.learner.gathered) r start k.found (λ e. e) refl))
+        (inl (found_has r start k.found (λ node. node.learner.gathered ≡ r.node.learner.gathered) (λ e. e) refl))
 
     whole_now : now.learner.whole ≡ r.node.learner.whole
     whole_now = refreshed_has (λ node. node.learner.whole ≡ r.node.learner.whole) start at_start at_start
       where
         at_start : start.learner.whole ≡ r.node.learner.whole
-        at_start = found_has (λ node. node.learner.whole ≡ r.node.learner.whole) r start k.found (λ e. e) refl
+        at_start = found_has r start k.found (λ node. node.learner.whole ≡ r.node.learner.whole) (λ e. e) refl
 
     -- ---- what it leaves
 
@@ -155,20 +151,20 @@ module _ (m : Meaning) (IsText : List ℕ → Type 0) (law : EventIsStep m IsTex
         by_nudge (inr t) = ap (λ (node : NodeValue). node.gathered_before) t.1
 
     whole_after_nudge : k.step.after.node.learner.whole ≡ r.node.learner.whole
-    whole_after_nudge = left_has (λ node. node.learner.whole ≡ now.learner.whole) k.step.out k.step.last k.step.after
-        k.step.left (λ e. e) (ap (λ (l : LearnerValue). l.whole) learner_left) ∙ whole_now
+    whole_after_nudge = left_has k.step.out k.step.last k.step.after (λ node. node.learner.whole ≡ now.learner.whole)
+        (λ e. e) k.step.left (ap (λ (l : LearnerValue). l.whole) learner_left) ∙ whole_now
 
     -- it remembers how much is gathered
     remembers : Remembers k.step.after.node
-    remembers = left_has Remembers k.step.out k.step.last k.step.after k.step.left (λ e. e)
+    remembers = left_has k.step.out k.step.last k.step.after Remembers (λ e. e) k.step.left
         (before_left ∙ refreshed_has Remembers start refl refl
         ∙ ap (λ (l : LearnerValue). gathered_bytes l.gathered) (sym learner_left))
 
     -- and if it did so before, nothing is
     none_left : Remembers r.node → k.step.after.node.learner.gathered ≡ None
-    none_left before = left_has (λ node. node.learner.gathered ≡ None) k.step.out k.step.last k.step.after k.step.left
-        (λ e. e) (ap (λ (l : LearnerValue). l.gathered) learner_left
-        ∙ refreshed_none start (found_has Remembers r start k.found (λ e. e) before))
+    none_left before = left_has k.step.out k.step.last k.step.after (λ node. node.learner.gathered ≡ None) (λ e. e)
+        k.step.left (ap (λ (l : LearnerValue). l.gathered) learner_left
+        ∙ refreshed_none start (found_has r start k.found Remembers (λ e. e) before))
 
     -- ---- with a term
 
@@ -194,16 +190,16 @@ module _ (m : Meaning) (IsText : List ℕ → Type 0) (law : EventIsStep m IsTex
               absurd (omega (arith, none.0, few))
             where
               few_start : executed start.learner < 281474976710656
-              few_start = found_has (λ node. executed node.learner < 281474976710656) r start k.found (λ e. e) room
+              few_start = found_has r start k.found (λ node. executed node.learner < 281474976710656) (λ e. e) room
 
       asks_in_term : AsksInTerm now k.step.last k.step.out → AsksIn n other r old new
       asks_in_term a =
           let whole : k.step.after.node.learner.whole ≡ now.learner.whole =
-          left_has (λ node. node.learner.whole ≡ now.learner.whole) k.step.out k.step.last k.step.after k.step.left
-          (λ e. e) (ap (λ (l : LearnerValue). l.whole) learner_left) in
+          left_has k.step.out k.step.last k.step.after (λ node. node.learner.whole ≡ now.learner.whole) (λ e. e)
+          k.step.left (ap (λ (l : LearnerValue). l.whole) learner_left) in
           let gathered : k.step.after.node.learner.gathered ≡ now.learner.gathered =
-          left_has (λ node. node.learner.gathered ≡ now.learner.gathered) k.step.out k.step.last k.step.after
-          k.step.left (λ e. e) (ap (λ (l : LearnerValue). l.gathered) learner_left) in record {
+          left_has k.step.out k.step.last k.step.after (λ node. node.learner.gathered ≡ now.learner.gathered)
+          (λ e. e) k.step.left (ap (λ (l : LearnerValue). l.gathered) learner_left) in record {
             now = k.step.after;
             is = k.step.is;
             whole = whole ∙ whole_now;
@@ -221,7 +217,7 @@ module _ (m : Meaning) (IsText : List ℕ → Type 0) (law : EventIsStep m IsTex
           still_term = refreshed_has (λ node. IsTermOf b node.leader) start at_start at_start
             where
               at_start : IsTermOf b start.leader
-              at_start = found_has (λ node. IsTermOf b node.leader) r start k.found (λ e. e) term
+              at_start = found_has r start k.found (λ node. IsTermOf b node.leader) (λ e. e) term
 
           by_term : Nudges withheld start k.step.last k.step.out → AsksIn n other r old new
           by_term (inl a) = asks_in_term a.2
@@ -244,13 +240,13 @@ module _ (m : Meaning) (IsText : List ℕ → Type 0) (law : EventIsStep m IsTex
       waited_now = refreshed_has (λ node. (withheld || is_full node.ticks) ≡ true) start at_start at_start
         where
           at_start : (withheld || is_full start.ticks) ≡ true
-          at_start = found_has (λ node. (withheld || is_full node.ticks) ≡ true) r start k.found (λ e. e) silent.waited
+          at_start = found_has r start k.found (λ node. (withheld || is_full node.ticks) ≡ true) (λ e. e) silent.waited
 
       idle_now : now.leader.term ≡ None
       idle_now = refreshed_has (λ node. node.leader.term ≡ None) start at_start at_start
         where
           at_start : start.leader.term ≡ None
-          at_start = found_has (λ node. node.leader.term ≡ None) r start k.found (λ e. e) silent.idle
+          at_start = found_has r start k.found (λ node. node.leader.term ≡ None) (λ e. e) silent.idle
 
       told : Nudges withheld start k.step.last k.step.out
           → Contains k.step.out.letters (letter_to start (kinds.Nack (progress start)) other)
@@ -268,7 +264,7 @@ module _ (m : Meaning) (IsText : List ℕ → Type 0) (law : EventIsStep m IsTex
         is = k.step.is;
         whole = whole_after_nudge;
         tells = subst (λ (x : Nack). HasSentTo new n other (kinds.Nack x))
-            (found_has (λ node. progress node ≡ progress r.node) r start k.found (λ e. e) refl)
+            (found_has r start k.found (λ node. progress node ≡ progress r.node) (λ e. e) refl)
             (k.says other (kinds.Nack (progress start)) (told k.step.steps));
         only = k.only;
       }

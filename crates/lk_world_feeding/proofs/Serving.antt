@@ -16,10 +16,15 @@ use Rattle.lk_progress.specs.Feeding.{DecidedIsExecuted, LaggingNodeIsFed, Sends
 use Rattle.lk_progress.specs.Hearing.{Takes}
 use Rattle.lk_replica.specs.ReplicaValue.{ReplicaValue}
 use Rattle.lk_sim.specs.Scenes.{Scene}
-use Rattle.lk_world_feeding.proofs.Knowing.{found_has, has_header, has_window, left_has, sent_as}
-use Rattle.lk_world_feeding.proofs.Taking.{IsAboutProgress, TakesFrom, among, still, taken_learner, takes_from}
+use Rattle.lk_world_feeding.proofs.Knowing.{has_window, may_serve}
+use Rattle.lk_world_feeding.proofs.Taking.{IsAboutProgress, TakesFrom, taken_learner, takes_from}
 use Rattle.lk_world_feeding.specs.Asking.{AskedNodesSend, ChangesOnly, Keeps, RejectedNodesSend, SendsIn}
 use Rattle.lk_world_feeding.specs.Asking.{SentCommandsAreExecuted}
+use Rattle.lk_world_progress.proofs.Balloting.{found_has}
+use Rattle.lk_world_progress.proofs.Delivering.{among, still}
+use Rattle.lk_world_progress.proofs.Sending.{sent_as}
+use Rattle.lk_world_progress.proofs.Stepping.{has_header}
+use Rattle.lk_world_progress.proofs.Waiting.{left_has}
 use Rattle.lk_world_progress.specs.Balloting.{HasSentTo}
 use Rattle.lk_world_progress.specs.Delivering.{DeliveriesAreTaken, Delivers, InstallsNothing, IsOtherThanPart}
 use Rattle.lk_world_progress.specs.Delivering.{TakesContents}
@@ -89,14 +94,16 @@ module _ (m : Meaning) (IsText : List ℕ → Type 0) (law : DeliveriesAreTaken 
       let t : TakesOne m IsText law n other (kinds.Want want) tt tt r old new up k =
       takes_one m IsText law n other (kinds.Want want) tt tt r old new up k in
       sends_in n other want.first want.offset (kinds.Want want) tt tt r old new up keeps k t
-      (answers r.node t.now.node other want t.out keeps.learner t.takes keeps.there)
+      (answers r.node t.now.node other want t.out (may_serve m IsText old k.hears.goes.before n r up) t.takes
+      keeps.there)
 
   pub rejected_sends : LaggingNodeIsFed m IsText → RejectedNodesSend m IsText
   rejected_sends feeds old new n other r nack up keeps k =
       let t : TakesOne m IsText law n other (kinds.Nack nack) tt tt r old new up k =
       takes_one m IsText law n other (kinds.Nack nack) tt tt r old new up k in
       sends_in n other (nack.executed + 1) 0 (kinds.Nack nack) tt tt r old new up keeps k t
-      (feeds r.node t.now.node other nack t.out keeps.learner t.takes (omega (arith, keeps.there)))
+      (feeds r.node t.now.node other nack t.out (may_serve m IsText old k.hears.goes.before n r up) t.takes
+      (omega (arith, keeps.there)))
 
 -- ---- it executes them
 
@@ -106,13 +113,13 @@ sent_executed m IsText law executes old new n from r d up near hears =
     let t : TakesFrom m IsText law n (content.Node from (kinds.Decided d)) r old new =
     takes_from m IsText law n (content.Node from (kinds.Decided d)) r old new up hears in
     let s = t.steps.step in
-    let window : 1 ≤ alpha s.start.learner = found_has (λ node. 1 ≤ alpha node.learner) r s.start t.steps.found
+    let window : 1 ≤ alpha s.start.learner = found_has r s.start t.steps.found (λ node. 1 ≤ alpha node.learner)
     (λ e. e) (has_window m IsText old hears.goes.before n r up) in
     let here : d.first ≤ executed s.start.learner + 1 =
-    found_has (λ node. d.first ≤ executed node.learner + 1) r s.start t.steps.found (λ e. e) near in record {
+    found_has r s.start t.steps.found (λ node. d.first ≤ executed node.learner + 1) (λ e. e) near in record {
       now = s.after;
       is = s.is;
-      reaches = left_has (λ node. d.first + length d.commands ≤ executed node.learner + 1) s.out s.last s.after s.left
-          (λ e. e) (executes s.start s.last from d s.out window t.takes here);
+      reaches = left_has s.out s.last s.after (λ node. d.first + length d.commands ≤ executed node.learner + 1) (λ e. e)
+          s.left (executes s.start s.last from d s.out window t.takes here);
       only = t.steps.only;
     }

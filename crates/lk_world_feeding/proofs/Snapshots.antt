@@ -2,29 +2,29 @@
 use Rattle.std.proofs.Common.{◌≡◌, ◌∙◌, ◌⊎◌, inl, inr, ℕ, zero, suc, ◌+◌, ◌*◌, ◌<◌, ◌≤◌, List, length, None}
 use Rattle.std.proofs.Common.{take, Option, Contains, ap, sym, subst, arith}
 use Rattle.std.proofs.lemmas.List.{length-take-le}
-use Rattle.lk_types.specs.Geneses.{IsGenesis}
 use Rattle.lk_messages.specs.Values.{PartValue}
 use Rattle.lk_messages.specs.declared.message.NodeMessage.TheVariants as kinds
 use Rattle.lk_state.specs.Meanings.{Meaning}
 use Rattle.lk_state.specs.States.{WholeValue}
 use Rattle.lk_learner.specs.Gathering.{starts_text}
-use Rattle.lk_learner.specs.Learners.{GatheredValue, IsLearner, LearnerValue, alpha, executed, gathered_bytes, wanted}
+use Rattle.lk_learner.specs.Learners.{GatheredValue, LearnerValue, alpha, executed, gathered_bytes, wanted}
 use Rattle.lk_learner.specs.Parts.{AreParts, part_of}
 use Rattle.lk_learner.specs.Unpacking.{Unpacks}
-use Rattle.lk_progress.specs.Feeding.{Sends, WantIsAnswered}
+use Rattle.lk_progress.specs.Feeding.{MayServe, Sends, WantIsAnswered}
 use Rattle.lk_progress.specs.Gathering.{GetsOn, HasFirst, HasSoFar, PartsAreInstalled}
 use Rattle.lk_replica.specs.ReplicaValue.{ReplicaValue}
 use Rattle.lk_sim.specs.Scenes.{Scene}
 use Rattle.lk_sim_nodes.specs.declared.seat.Life.TheVariants.{Up}
 use Rattle.lk_world_feeding.proofs.Gathering.{TookParts, all_taken, gets_on_left, gets_on_since, parts_hold, same_parts}
 use Rattle.lk_world_feeding.proofs.Gathering.{start_here}
-use Rattle.lk_world_feeding.proofs.Knowing.{StatesFit, has_window, one_replica, snapshot_unpacks, window_alpha}
+use Rattle.lk_world_feeding.proofs.Knowing.{StatesFit, has_window, may_serve, snapshot_unpacks, window_alpha}
 use Rattle.lk_world_feeding.proofs.Serving.{TakesOne, takes_one}
 use Rattle.lk_world_feeding.specs.Asking.{AsksIn, HearersKeepGathered, HearsOfMore}
 use Rattle.lk_world_feeding.specs.Feeding.{KeepsLearner, Later}
 use Rattle.lk_world_feeding.specs.Gathering.{GainsParts, HasGathered, IsSentParts, IsSentPartsAgain}
 use Rattle.lk_world_feeding.specs.Gathering.{IsSentSome}
 use Rattle.lk_world_feeding.specs.Gathering.{NeedsSnapshot, PartsAreWhole, PartsFeed, count_of, position_of, text_of}
+use Rattle.lk_world_progress.proofs.Stepping.{one_replica}
 use Rattle.lk_world_progress.specs.Balloting.{HasSentTo}
 use Rattle.lk_world_progress.specs.Delivering.{DeliveriesAreTaken}
 use Rattle.lk_world_progress.specs.Stepping.{EventIsStep, Holds, IsUpAs}
@@ -73,8 +73,8 @@ module _ (m : Meaning) (IsText : List ℕ → Type 0) (law : EventIsStep m IsTex
     above : executed behind.node.learner < position_of serving.0
     above = subst (λ (l : LearnerValue). executed behind.node.learner < l.snapshot_position) (sym serving.2) needs.above
 
-    learner : IsLearner serving.0.node.learner
-    learner = subst IsLearner (sym serving.2) needs.learner
+    learner : MayServe serving.0.node.learner
+    learner = may_serve m IsText k.serves.mid k.serves.happens.hears.goes.before other serving.0 serving.1
 
     sends : (p : PartValue) → Contains k.parts p → HasSentTo k.served other n (kinds.Part p)
     sends p c = by_case (answers serving.0.node served.now.node n (wanted behind.node.learner) served.out learner
@@ -128,7 +128,7 @@ module _ (m : Meaning) (IsText : List ℕ → Type 0) (law : EventIsStep m IsTex
 
     unpacks : (w : WholeValue) × Unpacks IsText (alpha taking.0.node.learner) (position_of ahead) (text_of ahead) w
     unpacks =
-        let u = snapshot_unpacks m IsText first needs.holds other ahead needs.other_up fit needs.genesis in
+        let u = snapshot_unpacks m IsText first needs.holds other ahead needs.other_up fit in
         let window : alpha taking.0.node.learner ≡ first.genesis.alpha =
         window_then ∙ window_alpha m IsText first needs.holds n behind needs.up in
         (u.0, subst (λ (a : ℕ). Unpacks IsText a (position_of ahead) (text_of ahead) u.0) (sym window) u.1)
@@ -164,10 +164,6 @@ module _ (m : Meaning) (IsText : List ℕ → Type 0) (law : EventIsStep m IsTex
     }
 
     -- what the next exchange begins with
-    began : IsGenesis last.genesis
-    began = subst IsGenesis (sym (took.only.genesis ∙ k.takes.genesis ∙ served.only.genesis ∙ k.serves.genesis
-        ∙ asks.only.genesis)) needs.genesis
-
     holds_after : Holds m IsText last
     holds_after = parts_hold m IsText n other k.parts k.takes.mid last some k.takes.happens
 
@@ -241,11 +237,9 @@ module _ (m : Meaning) (IsText : List ℕ → Type 0) (law : EventIsStep m IsTex
             let count : count_of q ≡ count_of behind + 8192 = omega (arith, next.0, eight) in
             let r = further q p (record {
               holds = holds_after n other behind ahead first mid needs once;
-              genesis = began n other behind ahead first mid needs once;
               apart = needs.apart;
               up = gain.gains.1;
               other_up = gain.keeps.1;
-              learner = subst IsLearner (sym gain.keeps.2) needs.learner;
               above = omega (arith, as_much, at, needs.above);
               gathered = next.1;
             }) (omega (arith, count, long, more)) (omega (arith, count, long, rest)) in
@@ -297,11 +291,9 @@ module _ (m : Meaning) (IsText : List ℕ → Type 0) (law : EventIsStep m IsTex
     needs_then : NeedsSnapshot m IsText k.mid n other exchange.behind exchange.ahead
     needs_then = record {
       holds = holds_then;
-      genesis = subst IsGenesis (sym k.genesis) needs.genesis;
       apart = needs.apart;
       up = exchange.up;
       other_up = exchange.other_up;
-      learner = subst IsLearner (sym same_ahead) needs.learner;
       above = of_both (λ l a. executed l < a.snapshot_position) needs.above;
       gathered = of_both (λ l a. (gathered_bytes l.gathered < length a.snapshot)
           × ((l.gathered ≡ None) ⊎ HasFirst l a.snapshot_position a.snapshot (gathered_bytes l.gathered)))

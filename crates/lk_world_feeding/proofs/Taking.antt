@@ -1,54 +1,39 @@
 -- A node of a world takes a datagram or a nudge: its step, what that leaves of its learner, and what it has sent.
-use Rattle.std.proofs.Common.{◌≡◌, ◌∙◌, inl, inr, ℕ, ◌++◌, Bool, true, false, cond, List, [], ◌∷◌, Contains}
+use Rattle.std.proofs.Common.{◌≡◌, ◌∙◌, inl, inr, ℕ, Bool, true, false, cond, List, Contains}
 use Rattle.std.proofs.Common.{refl, ap, sym, subst}
-use Rattle.std.proofs.lemmas.List.Elements.{Contains-append_left, Contains-append_right}
 use Rattle.lk_types.specs.BallotValue.{BallotValue}
-use Rattle.lk_types.specs.declared.vote.Vote.{Vote}
-use Rattle.lk_messages.proofs.Spellings.{one_message}
 use Rattle.lk_messages.specs.Grammar.{Spells}
 use Rattle.lk_messages.specs.declared.message.Content.{Content}
 use Rattle.lk_messages.specs.declared.message.Content.TheVariants as content
-use Rattle.lk_messages.specs.declared.message.Message.{Message}
 use Rattle.lk_messages.specs.declared.message.NodeMessage.{NodeMessage}
 use Rattle.lk_messages.specs.declared.message.NodeMessage.TheVariants as kinds
-use Rattle.lk_agreement_laws.specs.Datagrams.{Datagram}
 use Rattle.lk_state.specs.Meanings.{Meaning}
 use Rattle.lk_store_format.specs.Values.{HeaderValue}
 use Rattle.lk_leader.specs.Terms.{is_term_below}
-use Rattle.lk_node.proofs.Nodes.{map_has}
 use Rattle.lk_node.specs.CatchingUp.{HandlesLead}
-use Rattle.lk_node.specs.Leading.{having_proposed, ProposesAll}
 use Rattle.lk_node.specs.Leavings.{header_of}
 use Rattle.lk_node.specs.NodeValue.{NodeValue}
-use Rattle.lk_node.specs.Steps.{Handles, HandlesBytes, HandlesNode}
+use Rattle.lk_node.specs.Steps.{HandlesNode}
 use Rattle.lk_node.specs.Telling.{letter_to}
 use Rattle.lk_node.specs.Yielding.{seeing, with_round, without_term}
-use Rattle.lk_node_interface.specs.Letters.{LetterValue, batch_of, datagram_of}
+use Rattle.lk_node_interface.specs.Letters.{batch_of}
 use Rattle.lk_node_interface.specs.Outboxes.{OutboxValue}
 use Rattle.lk_node_interface.specs.declared.input.Input.{Input}
 use Rattle.lk_node_interface.specs.declared.input.Input.TheVariants.{Datagram as Heard}
+use Rattle.lk_progress.proofs.Hearing.{Handled, handled, same_learner}
 use Rattle.lk_progress.specs.Hearing.{Takes}
 use Rattle.lk_replica.specs.ReplicaValue.{ReplicaValue}
 use Rattle.lk_sim.specs.Scenes.{Scene}
 use Rattle.lk_sim.specs.declared.event.Event.{Event}
 use Rattle.lk_sim.specs.declared.event.Event.TheVariants as event
-use Rattle.lk_world_feeding.proofs.Knowing.{found_has, has_header, one_replica, sent_as}
 use Rattle.lk_world_feeding.specs.Asking.{ChangesOnly}
+use Rattle.lk_world_progress.proofs.Balloting.{found_has}
+use Rattle.lk_world_progress.proofs.Delivering.{among, still}
+use Rattle.lk_world_progress.proofs.Sending.{sent_as}
+use Rattle.lk_world_progress.proofs.Stepping.{has_header, one_replica}
 use Rattle.lk_world_progress.specs.Balloting.{HasSentTo}
 use Rattle.lk_world_progress.specs.Delivering.{Hears}
 use Rattle.lk_world_progress.specs.Stepping.{EventIsStep, Gives, GoesWell, IsFound, IsUpAs, TakesStep}
-
--- what joined the datagrams is among them
-pub among : (n : ℕ) (letters : List LetterValue) (old new : Scene ReplicaValue)
-    → new.sent ≡ old.sent ++ batch_of n letters → (l : LetterValue) → Contains letters l
-    → Contains new.sent (datagram_of n l)
-among n letters old new e l c = subst (λ (ds : List Datagram). Contains ds (datagram_of n l)) (sym e)
-    (Contains-append_right old.sent (batch_of n letters) (datagram_of n l) (map_has (datagram_of n) letters l c))
-
-pub still : (old new : Scene ReplicaValue) (more : List Datagram) → new.sent ≡ old.sent ++ more → (d : Datagram)
-    → Contains old.sent d → Contains new.sent d
-still old new more e d c =
-    subst (λ (ds : List Datagram). Contains ds d) (sym e) (Contains-append_left old.sent more d c)
 
 pub then_only : (n : ℕ) (old mid new : Scene ReplicaValue) → ChangesOnly n old mid → ChangesOnly n mid new
     → ChangesOnly n old new
@@ -59,11 +44,6 @@ then_only n old mid new a b = record {
 }
 
 -- ---- messages that leave the learner
-
-pub proposed_learner : (xs : List Vote) (old new : NodeValue) (before out : OutboxValue)
-    → ProposesAll xs old new before out → new.learner ≡ old.learner
-proposed_learner [] old new before out p = ap (λ (node : NodeValue). node.learner) p.1
-proposed_learner (x ∷ xs) old new before out p = proposed_learner xs (having_proposed old x p.0) new _ out p.1
 
 seeing_learner : (b : BallotValue) (node : NodeValue) → (seeing b node).learner ≡ node.learner
 seeing_learner b node = by_test (is_term_below b node.leader.term)
@@ -103,28 +83,14 @@ handled_learner m IsText old new from (kinds.Answer k) out is h = absurd is
 handled_learner m IsText old new from (kinds.Elsewhere k) out is h = absurd is
 handled_learner m IsText old new from (kinds.Passed k) out is h = absurd is
 
--- a node that takes a message handles it
-pub taken_handles : (m : Meaning) (IsText : List ℕ → Type 0) (old new : NodeValue) (x : Content) (out : OutboxValue)
-    → (k : Takes m IsText old x new out) → Handles m IsText old x k.step.mid k.step.first
-taken_handles m IsText old new x out k = by_bytes k.step.handles
-  where
-    message : Message
-    message = record { cluster = old.header.cluster; content = x }
-
-    by_bytes : HandlesBytes m IsText old k.bytes k.step.mid k.step.first
-        → Handles m IsText old x k.step.mid k.step.first
-    by_bytes (inl heard) = subst (λ (y : Message). Handles m IsText old y.content k.step.mid k.step.first)
-        (one_message heard.0 message k.bytes heard.1 k.spells) heard.3
-    by_bytes (inr foreign) = absurd (foreign.0 message k.spells refl)
-
 -- a node that takes one of these keeps its learner
 pub taken_learner : (m : Meaning) (IsText : List ℕ → Type 0) (old new : NodeValue) (from : ℕ) (x : NodeMessage)
     (out : OutboxValue) → IsAboutProgress x → Takes m IsText old (content.Node from x) new out
     → new.learner ≡ old.learner
 taken_learner m IsText old new from x out is k =
-    proposed_learner k.step.proposes.0 k.step.mid new k.step.first out k.step.proposes.1
-    ∙ handled_learner m IsText old k.step.mid from x k.step.first is
-    (taken_handles m IsText old new (content.Node from x) out k)
+    let h : Handled m IsText old (content.Node from x) new out = handled m IsText old (content.Node from x) new out k in
+    same_learner m IsText old (content.Node from x) new out h
+    ∙ handled_learner m IsText old h.mid from x h.first is h.handles
 
 -- ---- a step of a node of a world
 
@@ -160,7 +126,7 @@ module _ (m : Meaning) (IsText : List ℕ → Type 0) (law : EventIsStep m IsTex
           let found : IsFound r s.start = subst (λ (q : ReplicaValue). IsFound q s.start)
           (one_replica m IsText old goes.before n s.before r s.was up) s.found in
           let header : s.start.header ≡ header_of old.genesis n =
-          found_has (λ node. node.header ≡ header_of old.genesis n) r s.start found (λ e. e)
+          found_has r s.start found (λ node. node.header ≡ header_of old.genesis n) (λ e. e)
           (has_header m IsText old goes.before n r up) in record {
             step = s;
             found = found;

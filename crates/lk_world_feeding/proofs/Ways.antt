@@ -2,25 +2,24 @@
 use Rattle.std.proofs.Common.{◌≡◌, ◌∙◌, ◌⊎◌, inl, inr, ℕ, ◌<◌, List, length, take, Option, Some, None, refl, ap, sym}
 use Rattle.std.proofs.Common.{subst, arith}
 use Rattle.std.proofs.lemmas.Bool.{cases_lt}
-use Rattle.lk_types.specs.Geneses.{IsGenesis}
 use Rattle.lk_agreement_laws.proofs.Histories.{same_length_same}
 use Rattle.lk_agreement_laws.specs.Chosen.{Command}
 use Rattle.lk_agreement_laws.specs.Snapshots.{IsSlice}
 use Rattle.lk_state.specs.Meanings.{Meaning}
-use Rattle.lk_learner.specs.Learners.{GatheredValue, IsLearner, executed, gathered_bytes}
+use Rattle.lk_learner.specs.Learners.{GatheredValue, executed, gathered_bytes}
 use Rattle.lk_node.specs.BorneOut.{text}
 use Rattle.lk_progress.specs.Gathering.{HasFirst}
 use Rattle.lk_replica.specs.ReplicaValue.{ReplicaValue}
 use Rattle.lk_sim.specs.Scenes.{Scene}
-use Rattle.lk_world_feeding.proofs.Knowing.{HasSnapshot, has_gathered, has_snapshot}
+use Rattle.lk_world_feeding.proofs.Knowing.{HasSnapshot, has_gathered, has_snapshot, may_serve}
 use Rattle.lk_world_feeding.specs.Feeding.{CanBeFed}
 use Rattle.lk_world_feeding.specs.Gathering.{AllCanBeFed, HasGathered, IsOpenAt, NeedsSnapshot, count_of, position_of}
 use Rattle.lk_world_feeding.specs.Gathering.{text_of}
 use Rattle.lk_world_progress.specs.Stepping.{Holds, IsUpAs}
 
 module _ (m : Meaning) (IsText : List ℕ → Type 0) (w : Scene ReplicaValue) (n other : ℕ)
-    (behind ahead : ReplicaValue) (holds : Holds m IsText w) (up : IsUpAs w n behind) (other_up : IsUpAs w other ahead)
-    (learner : IsLearner ahead.node.learner) where
+    (behind ahead : ReplicaValue) (holds : Holds m IsText w) (up : IsUpAs w n behind)
+    (other_up : IsUpAs w other ahead) where
   module _ (g : GatheredValue) (is : behind.node.learner.gathered ≡ Some g) (at : g.position ≡ position_of ahead)
       (short : length g.bytes < g.total) where
     snapshot : HasSnapshot m w ahead
@@ -58,23 +57,21 @@ module _ (m : Meaning) (IsText : List ℕ → Type 0) (w : Scene ReplicaValue) (
   gathered_none : behind.node.learner.gathered ≡ None → HasGathered behind ahead
   gathered_none none =
       let count : count_of behind ≡ 0 = ap gathered_bytes none in
-      (omega (arith, count, learner.some), inl none)
+      let serves = may_serve m IsText w holds other ahead other_up in (omega (arith, count, serves.some), inl none)
 
   gathered_of : (o : Option GatheredValue) → behind.node.learner.gathered ≡ o → IsOpenAt behind (position_of ahead)
       → HasGathered behind ahead
   gathered_of None is open' = gathered_none is
   gathered_of (Some g) is open' = gathered_some g is (open' g is).0 (open' g is).1
 
-  one_way : IsGenesis w.genesis → (n ≡ other → ⊥) → IsOpenAt behind (position_of ahead)
+  one_way : (n ≡ other → ⊥) → IsOpenAt behind (position_of ahead)
       → CanBeFed m IsText w n other behind ahead ⊎ NeedsSnapshot m IsText w n other behind ahead
-  one_way genesis apart open' = elim (cases_lt (executed behind.node.learner) (position_of ahead)) [
+  one_way apart open' = elim (cases_lt (executed behind.node.learner) (position_of ahead)) [
     | inl above ↦ inr (record {
       holds = holds;
-      genesis = genesis;
       apart = apart;
       up = up;
       other_up = other_up;
-      learner = learner;
       above = above;
       gathered = gathered_of behind.node.learner.gathered refl open';
     })
@@ -83,11 +80,10 @@ module _ (m : Meaning) (IsText : List ℕ → Type 0) (w : Scene ReplicaValue) (
       apart = apart;
       up = up;
       other_up = other_up;
-      learner = learner;
       kept = kept;
     })
   ]
 
 pub all_fed : (m : Meaning) (IsText : List ℕ → Type 0) → AllCanBeFed m IsText
-all_fed m IsText w n other behind ahead holds genesis apart up other_up learner open' =
-    one_way m IsText w n other behind ahead holds up other_up learner genesis apart open'
+all_fed m IsText w n other behind ahead holds apart up other_up open' =
+    one_way m IsText w n other behind ahead holds up other_up apart open'

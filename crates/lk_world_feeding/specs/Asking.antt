@@ -11,7 +11,7 @@ use Rattle.lk_messages.specs.declared.message.NodeMessage.TheVariants as kinds
 use Rattle.lk_members.specs.Ports.{is_named}
 use Rattle.lk_agreement_laws.specs.Datagrams.{Datagram}
 use Rattle.lk_state.specs.Meanings.{Meaning}
-use Rattle.lk_learner.specs.Learners.{IsLearner, decided_from, executed, wanted}
+use Rattle.lk_learner.specs.Learners.{decided_from, executed, wanted}
 use Rattle.lk_node.specs.Reminding.{IsTermOf}
 use Rattle.lk_replica.specs.ReplicaValue.{ReplicaValue}
 use Rattle.lk_sim.specs.Scenes.{Scene}
@@ -96,7 +96,6 @@ pub record SendsIn (n other : ℕ) (r : ReplicaValue) (first : ℕ) (old new : S
 
 -- a node has executed the position, and keeps its command and all after it
 pub record Keeps (r : ReplicaValue) (first : ℕ) : Type 0 where
-  pub learner : IsLearner r.node.learner
   pub above : r.node.learner.snapshot_position < first
   pub there : first ≤ executed r.node.learner
 

@@ -6,7 +6,7 @@ use Rattle.lk_messages.specs.declared.message.Content.TheVariants as content
 use Rattle.lk_messages.specs.declared.message.Nack.{Nack}
 use Rattle.lk_messages.specs.declared.message.NodeMessage.TheVariants as kinds
 use Rattle.lk_state.specs.Meanings.{Meaning}
-use Rattle.lk_learner.specs.Learners.{IsLearner, decided_from, executed, wanted}
+use Rattle.lk_learner.specs.Learners.{decided_from, executed, wanted}
 use Rattle.lk_replica.specs.ReplicaValue.{ReplicaValue}
 use Rattle.lk_sim.specs.Scenes.{Scene}
 use Rattle.lk_world_feeding.specs.Asking.{AreEnough, ComesToAsk}
@@ -23,7 +23,6 @@ pub record CanBeFed (m : Meaning) (IsText : List ℕ → Type 0) (w : Scene Repl
   pub apart : n ≡ other → ⊥
   pub up : IsUpAs w n behind
   pub other_up : IsUpAs w other ahead
-  pub learner : IsLearner ahead.node.learner
   pub kept : ahead.node.learner.snapshot_position ≤ executed behind.node.learner
 
 -- the commands that the second one then sends: those after what the first one has executed, up to 16

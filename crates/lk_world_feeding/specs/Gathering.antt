@@ -1,17 +1,16 @@
 -- Exchanges of two nodes of a world by which the one that has executed less is sent the other one's snapshot.
 use Rattle.std.specs.Prelude.{◌≡◌, ◌⊎◌, ℕ, zero, suc, ◌+◌, ◌*◌, ◌<◌, ◌≤◌, Some, None, List, length, Contains}
-use Rattle.lk_types.specs.Geneses.{IsGenesis}
 use Rattle.lk_types.specs.Limits.{max_part}
 use Rattle.lk_messages.specs.Values.{PartValue}
 use Rattle.lk_messages.specs.declared.message.Content.TheVariants as content
 use Rattle.lk_messages.specs.declared.message.NodeMessage.TheVariants as kinds
 use Rattle.lk_state.specs.Meanings.{Meaning}
-use Rattle.lk_learner.specs.Learners.{GatheredValue, IsLearner, executed, gathered_bytes, wanted}
+use Rattle.lk_learner.specs.Learners.{GatheredValue, executed, gathered_bytes, wanted}
 use Rattle.lk_learner.specs.Parts.{AreParts, max_parts}
 use Rattle.lk_progress.specs.Gathering.{GetsOn, HasFirst, parts_from}
 use Rattle.lk_replica.specs.ReplicaValue.{ReplicaValue}
 use Rattle.lk_sim.specs.Scenes.{Scene}
-use Rattle.lk_world_feeding.specs.Asking.{HearsOfMore}
+use Rattle.lk_world_feeding.specs.Asking.{ChangesOnly, HearsOfMore}
 use Rattle.lk_world_feeding.specs.Feeding.{CanBeFed, KeepsLearner, Later}
 use Rattle.lk_world_progress.specs.Balloting.{HasSentTo}
 use Rattle.lk_world_progress.specs.Delivering.{Delivers, DeliversInTurn}
@@ -36,15 +35,13 @@ HasGathered behind ahead = (count_of behind < length (text_of ahead))
     × ((behind.node.learner.gathered ≡ None)
     ⊎ HasFirst behind.node.learner (position_of ahead) (text_of ahead) (count_of behind))
 
--- two nodes are up, and the second one's snapshot is above what the first one has executed. The genesis is in its range
+-- two nodes are up, and the second one's snapshot is above what the first one has executed
 pub record NeedsSnapshot (m : Meaning) (IsText : List ℕ → Type 0) (w : Scene ReplicaValue) (n other : ℕ)
     (behind ahead : ReplicaValue) : Type 0 where
   pub holds : Holds m IsText w
-  pub genesis : IsGenesis w.genesis
   pub apart : n ≡ other → ⊥
   pub up : IsUpAs w n behind
   pub other_up : IsUpAs w other ahead
-  pub learner : IsLearner ahead.node.learner
   pub above : executed behind.node.learner < position_of ahead
   pub gathered : HasGathered behind ahead
 
@@ -119,10 +116,24 @@ abbrev pub IsOpenAt : ReplicaValue → ℕ → Type 0
 IsOpenAt r i =
     (g : GatheredValue) → r.node.learner.gathered ≡ Some g → (g.position ≡ i) × (length g.bytes < g.total)
 
+-- The node is open for the snapshot of the part, and has executed the same as before.
+pub record LeavesOlder (n : ℕ) (p : PartValue) (r : ReplicaValue) (old new : Scene ReplicaValue) : Type 0 where
+  pub now : ReplicaValue
+  pub is : IsUpAs new n now
+  pub open_for : IsOpenAt now p.position
+  pub whole : now.node.learner.whole ≡ r.node.learner.whole
+  pub only : ChangesOnly n old new
+
+-- A node that has gathered part of an older snapshot, and takes a later part of a newer one, throws the older away.
+abbrev pub NewerPartsBeginAnew : Meaning → (List ℕ → Type 0) → Type 0
+NewerPartsBeginAnew m IsText = (old new : Scene ReplicaValue) (n from : ℕ) (r : ReplicaValue) (g : GatheredValue)
+    (p : PartValue) → IsUpAs old n r → r.node.learner.gathered ≡ Some g → g.position < p.position
+    → executed r.node.learner < p.position → 1 ≤ p.offset → 1 ≤ p.total
+    → Delivers m IsText n (content.Node from (kinds.Part p)) old new → LeavesOlder n p r old new
+
 -- So each node can be fed by any other: by commands, or by its snapshot. What was gathered at the position of that
 -- snapshot is the beginning of its text, whoever sent it.
 abbrev pub AllCanBeFed : Meaning → (List ℕ → Type 0) → Type 0
 AllCanBeFed m IsText = (w : Scene ReplicaValue) (n other : ℕ) (behind ahead : ReplicaValue) → Holds m IsText w
-    → IsGenesis w.genesis → (n ≡ other → ⊥) → IsUpAs w n behind → IsUpAs w other ahead → IsLearner ahead.node.learner
-    → IsOpenAt behind (position_of ahead)
+    → (n ≡ other → ⊥) → IsUpAs w n behind → IsUpAs w other ahead → IsOpenAt behind (position_of ahead)
     → CanBeFed m IsText w n other behind ahead ⊎ NeedsSnapshot m IsText w n other behind ahead

@@ -3,7 +3,8 @@
 ghost use Rattle.lk_world_feeding.specs.Asking.{AskedNodesSend, HearersKeepGathered, NodesThatAreBehindAsk};
 ghost use Rattle.lk_world_feeding.specs.Asking.{RejectedNodesSend, SentCommandsAreExecuted};
 ghost use Rattle.lk_world_feeding.specs.Feeding.{ExchangesCatchUp, ExchangesFeed, RejectionsFeed};
-ghost use Rattle.lk_world_feeding.specs.Gathering.{AllCanBeFed, PartsAreWhole, PartsFeed};
+ghost use Rattle.lk_world_feeding.specs.Gathering.{AllCanBeFed, NewerPartsBeginAnew, PartsAreWhole};
+ghost use Rattle.lk_world_feeding.specs.Gathering.{PartsFeed};
 ghost use Rattle.lk_world_feeding.specs.Nudging.{NudgesThrowAway, SilentNodesTell};
 
 use lk_progress::laws::{
@@ -116,6 +117,13 @@ pub fn exchanges_send_a_snapshot<M: Machine>()
     a_node_that_is_ahead_sends::<M>();
     heard_parts_are_installed::<M>();
     states_fit::<M>();
+}
+
+/// A node that has gathered part of an older snapshot throws it away once it takes a later part of a newer one.
+pub fn a_newer_snapshot_begins_anew<M: Machine>()
+    ensures { NewerPartsBeginAnew M.meaning M.IsText }
+{
+    an_event_is_a_step::<M>();
 }
 
 /// A node that has gathered nothing, or a part of another one's snapshot, can be fed by that one: by commands or by

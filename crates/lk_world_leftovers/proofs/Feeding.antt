@@ -116,8 +116,8 @@ module _ (a : AcceptorValue) (e width last : ℕ) (some : 1 ≤ width) where
       }
 
 -- without a term nothing is proposed
-idle_proposes : (xs : List Vote) (old new : NodeValue) (before out : OutboxValue) → ProposesAll xs old new before out
-    → old.leader.term ≡ None → new ≡ old
+pub idle_proposes : (xs : List Vote) (old new : NodeValue) (before out : OutboxValue)
+    → ProposesAll xs old new before out → old.leader.term ≡ None → new ≡ old
 idle_proposes [] old new before out p idle = p.1
 idle_proposes (x ∷ xs) old new before out p idle = absurd (cc (sym idle ∙ p.0.current))
 

@@ -6,11 +6,11 @@ use Rattle.lk_types.specs.declared.vote.Vote.{Vote}
 use Rattle.lk_messages.specs.declared.message.Content.TheVariants as content
 use Rattle.lk_messages.specs.declared.message.Nack.{Nack}
 use Rattle.lk_messages.specs.declared.message.NodeMessage.TheVariants as kinds
-use Rattle.lk_agreement_laws.proofs.Histories.{contains_more, filter_from}
+use Rattle.lk_agreement_laws.proofs.Histories.{filter_from}
 use Rattle.lk_state.specs.Meanings.{Meaning}
 use Rattle.lk_state.specs.States.{WholeValue}
 use Rattle.lk_acceptor.specs.AcceptorValue.{AcceptorValue}
-use Rattle.lk_leader.specs.Terms.{LeaderValue, is_term_below}
+use Rattle.lk_leader.specs.Terms.{is_term_below}
 use Rattle.lk_learner.specs.Learners.{LearnerValue, Pair, alpha, executed}
 use Rattle.lk_node_interface.specs.Outboxes.{OutboxValue}
 use Rattle.lk_node.specs.Beginning.{next_ballot}
@@ -31,17 +31,10 @@ use Rattle.lk_world_progress.proofs.Overtaking.{new_acceptor, responds}
 use Rattle.lk_world_progress.specs.Beginning.{IsNewWorld}
 use Rattle.lk_world_progress.specs.Exchanging.{number_of}
 use Rattle.lk_world_progress.specs.Stepping.{Holds, IsFound, IsUpAs}
-use Rattle.lk_world_leftovers.specs.Persisting.{Contends, MayFollow, MayLead, NewWorldsContend, RestartedNodesContend}
-use Rattle.lk_world_leftovers.specs.Persisting.{MayVote, VotesUpTo}
+pub use Rattle.lk_world_leftovers.specs.Lagging.{Lasts}
+use Rattle.lk_world_leftovers.specs.Persisting.{Contends, MayVote, NewWorldsContend, VotesUpTo}
 
 -- ---- what lasts
-
--- what the second node has executed and knows is the first one's, and its votes are among the first one's
-pub record Lasts (old new : NodeValue) : Type 0 where
-  pub whole : new.learner.whole ≡ old.learner.whole
-  pub pairs : new.learner.pairs ≡ old.learner.pairs
-  pub votes : (v : Vote) → Contains new.acceptor.state.votes v → Contains old.acceptor.state.votes v
-  pub near : AreNear old.acceptor old.learner → AreNear new.acceptor new.learner
 
 pub lasts_trans : (a b c : NodeValue) → Lasts a b → Lasts b c → Lasts a c
 lasts_trans a b c p q = record {
@@ -54,7 +47,7 @@ lasts_trans a b c p q = record {
 pub lasts_itself : (node : NodeValue) → Lasts node node
 lasts_itself node = record { whole = refl; pairs = refl; votes = λ v d. d; near = λ n. n }
 
-lasts_snapshot : (node : NodeValue) → Lasts node (with_snapshot node)
+pub lasts_snapshot : (node : NodeValue) → Lasts node (with_snapshot node)
 lasts_snapshot node = record {
   whole = refl;
   pairs = refl;
@@ -182,35 +175,6 @@ still_contends m IsText old new x e top others last k q holds up l idle waiting 
   others_may = may;
   distinct = k.distinct;
 }
-
-pub restarted_contend : (m : Meaning) (IsText : List ℕ → Type 0) → RestartedNodesContend m IsText
-restarted_contend m IsText x e others last old new has holds distinct tell =
-    let own = has.each x (0, omega arith, refl) in
-    let may : MayLead own.0.node e last = tell.candidate own.0 own.1 in
-    record {
-      holds = holds;
-      candidate = own.0;
-      up = own.1;
-      reach = may.reach;
-      idle = ap (λ (l : LeaderValue). l.term) own.2.leader;
-      waiting = ap (λ (l : LeaderValue). l.waiting) own.2.leader;
-      known = may.known;
-      near = own.2.near;
-      pairs = may.pairs;
-      votes = may.votes;
-      others_may = λ n c.
-          let one = has.each n (contains_more x others n c) in
-          let follows : MayFollow one.0.node e last = tell.others_follow n c one.0 one.1 in
-          record {
-            replica = one.0;
-            up = one.1;
-            near = one.2.near;
-            behind = follows.behind;
-            reaches = follows.reaches;
-            votes = follows.votes;
-          };
-      distinct = distinct;
-    }
 
 -- ---- a new cluster
 

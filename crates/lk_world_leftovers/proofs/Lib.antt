@@ -7,5 +7,8 @@ mod Exchanging
 mod Fixed
 mod Lasting
 mod Feeding
+mod Lagging
 mod Retrying
 mod Persisting
+mod Restarted
+mod Interrupted

@@ -18,13 +18,12 @@ use Rattle.lk_sim.specs.Scenes.{Scene}
 use Rattle.lk_world_progress.proofs.Stepping.{has_header, one_replica}
 use Rattle.lk_world_progress.specs.Delivering.{AreDistinct}
 use Rattle.lk_world_progress.specs.Exchanging.{number_of}
-use Rattle.lk_world_progress.specs.Restarting.{NodesRestart}
 use Rattle.lk_world_progress.specs.Stepping.{IsUpAs}
 use Rattle.lk_world_leftovers.proofs.Retrying.{waited}
 use Rattle.lk_world_leftovers.specs.Exchanging.{WorldWithLeftoversAnswers}
 use Rattle.lk_world_leftovers.specs.Fixed.{FixedWorldHasLeftovers, FreshRequestsAreNew, IsFresh, NobodyIsAhead}
 use Rattle.lk_world_leftovers.specs.Persisting.{AreFixed, Contends, HasAnsweredInTime, HasPersisted}
-use Rattle.lk_world_leftovers.specs.Persisting.{RestartedMajorityAnswers, RestartedNodesContend, MayVote, Persists}
+use Rattle.lk_world_leftovers.specs.Persisting.{MayVote, Persists}
 use Rattle.lk_world_leftovers.specs.Persisting.{PersistingCandidateAnswers, RejectionsAreFew, VotesUpTo}
 
 -- ---- the answer
@@ -126,11 +125,3 @@ persisting_answers m IsText few_law fixed_law new_law answers_law x e top others
     room run fixed fresh =
     answered m IsText few_law fixed_law new_law answers_law x e top others highest r first last k ahead_of low room run
     fixed fresh
-
-pub restarted_majority_answers : (m : Meaning) (IsText : List ℕ → Type 0) → NodesRestart m IsText
-    → RestartedNodesContend m IsText → PersistingCandidateAnswers m IsText → RestartedMajorityAnswers m IsText
-restarted_majority_answers m IsText restarts contend answers x e others highest r old first last distinct turns holds
-    tell low room run fixed fresh =
-    answers x e e others highest r first last
-    (contend x e others highest old first (restarts old first (x ∷ others) distinct turns) holds distinct tell)
-    (omega arith) low room run fixed fresh

@@ -4,3 +4,6 @@ pub mod Collecting
 pub mod Exchanging
 pub mod Fixed
 pub mod Persisting
+pub mod Lagging
+pub mod Restarted
+pub mod Interrupted

@@ -23,7 +23,6 @@ use Rattle.lk_world_progress.specs.Beginning.{IsNewWorld}
 use Rattle.lk_world_progress.specs.Delivering.{AreDistinct, Hears}
 use Rattle.lk_world_progress.specs.Exchanging.{number_of}
 use Rattle.lk_world_progress.specs.Overtaking.{IsRejected, IsRival}
-use Rattle.lk_world_progress.specs.Restarting.{HaveRestarted, RestartInTurn}
 use Rattle.lk_world_progress.specs.Stepping.{GoesWell, Holds, IsUpAs}
 use Rattle.lk_world_leftovers.specs.Exchanging.{Exchanges, LeftoversAnswer}
 use Rattle.lk_world_leftovers.specs.Fixed.{IsFresh, NobodyChanges}
@@ -62,34 +61,7 @@ pub record Contends (m : Meaning) (IsText : List ℕ → Type 0) (w : Scene Repl
   pub others_may : (n : ℕ) → Contains others n → MayVote w d last n
   pub distinct : AreDistinct (x ∷ others)
 
--- ---- after a restart
-
--- what the disks of the candidate must tell: it has executed e positions and all that it can, and it keeps no vote, and
--- knows no pair, above the last position
-pub record MayLead (node : NodeValue) (e last : ℕ) : Type 0 where
-  pub reach : executed node.learner ≡ e
-  pub known : NothingToRun node
-  pub pairs : (p : Pair) → Contains node.learner.pairs p → p.0 ≤ last
-  pub votes : VotesUpTo node last
-
--- what those of another node must tell
-pub record MayFollow (node : NodeValue) (e last : ℕ) : Type 0 where
-  pub behind : executed node.learner ≤ e
-  pub reaches : last < executed node.learner + 2 * alpha node.learner
-  pub votes : VotesUpTo node last
-
--- the disks of the candidate and of the others tell that
-pub record DisksTellEnough (w : Scene ReplicaValue) (x e : ℕ) (others : List ℕ) (last : ℕ) : Type 0 where
-  pub candidate : (r : ReplicaValue) → IsUpAs w x r → MayLead r.node e last
-  pub others_follow : (n : ℕ) → Contains others n → (r : ReplicaValue) → IsUpAs w n r → MayFollow r.node e last
-
--- nodes that have restarted contend for answering, whatever they did before
-abbrev pub RestartedNodesContend : Meaning → (List ℕ → Type 0) → Type 0
-RestartedNodesContend m IsText = (x e : ℕ) (others : List ℕ) (last : ℕ) (old new : Scene ReplicaValue)
-    → HaveRestarted (x ∷ others) old new → Holds m IsText new → AreDistinct (x ∷ others)
-    → DisksTellEnough new x e others last → Contends m IsText new x e e others last
-
--- so do the nodes of a new cluster, which have executed nothing
+-- The nodes of a new cluster, which have executed nothing, contend for answering.
 abbrev pub NewWorldsContend : Meaning → (List ℕ → Type 0) → Type 0
 NewWorldsContend m IsText = (w : Scene ReplicaValue) (candidate : ReplicaValue) (index ticks : ℕ) (others : List ℕ)
     → IsNewWorld m IsText w candidate index ticks others
@@ -195,12 +167,3 @@ PersistingCandidateAnswers m IsText = (x e d : ℕ) (others : List ℕ) (highest
     (first last : Scene ReplicaValue) → Contends m IsText first x e d others highest → d ≤ e → e ≤ highest
     → highest < max_count → (k : Persists m IsText x others r first last) → AreFixed k.ready x others
     → IsFresh k.exchanges.filled r → HasAnsweredInTime m IsText x e others highest r first last k
-
--- The same after the candidate and the others have restarted, one after another, if their disks tell enough: whatever
--- they did before, and whatever they have promised, the request is answered.
-abbrev pub RestartedMajorityAnswers : Meaning → (List ℕ → Type 0) → Type 0
-RestartedMajorityAnswers m IsText = (x e : ℕ) (others : List ℕ) (highest : ℕ) (r : RequestValue)
-    (old first last : Scene ReplicaValue) → AreDistinct (x ∷ others) → RestartInTurn m IsText (x ∷ others) old first
-    → Holds m IsText first → DisksTellEnough first x e others highest → e ≤ highest → highest < max_count
-    → (k : Persists m IsText x others r first last) → AreFixed k.ready x others → IsFresh k.exchanges.filled r
-    → HasAnsweredInTime m IsText x e others highest r first last k

@@ -6,10 +6,11 @@ ghost use Rattle.lk_world_leftovers.specs.Exchanging.{LeftoversAreFilled, WorldW
 ghost use Rattle.lk_world_leftovers.specs.Fixed.{FixedWorldHasLeftovers, FreshRequestsAreNew, NodesKnowMembers};
 ghost use Rattle.lk_world_leftovers.specs.Fixed.{VotesAreOlder};
 ghost use Rattle.lk_world_leftovers.specs.Filling.{FillingLeaderOffers, PositionIsFilled};
-ghost use Rattle.lk_world_leftovers.specs.Persisting.{FedCandidateContends, PersistingCandidateAnswers};
-ghost use Rattle.lk_world_leftovers.specs.Persisting.{RejectionsAreFew};
-ghost use Rattle.lk_world_leftovers.specs.Persisting.{NewWorldsContend, RestartedMajorityAnswers};
-ghost use Rattle.lk_world_leftovers.specs.Persisting.{RestartedNodesContend};
+ghost use Rattle.lk_world_leftovers.specs.Interrupted.{InterruptedWorldsContend};
+ghost use Rattle.lk_world_leftovers.specs.Lagging.{FedVotersContend, LaggingVoterIsFed, NudgedVoterLasts};
+ghost use Rattle.lk_world_leftovers.specs.Persisting.{FedCandidateContends, NewWorldsContend};
+ghost use Rattle.lk_world_leftovers.specs.Persisting.{PersistingCandidateAnswers, RejectionsAreFew};
+ghost use Rattle.lk_world_leftovers.specs.Restarted.{RestartedMajorityAnswers, RestartedNodesMayContend};
 
 use lk_leftovers::laws::{
     a_filled_leader_is_ready, a_leader_accepts_its_own, a_leader_fills_on,
@@ -21,6 +22,7 @@ use lk_progress::laws::{
     new_clusters_are_quiet,
 };
 use lk_state::Machine;
+use lk_world_feeding::laws::a_rejection_feeds_its_sender;
 use lk_world_progress::laws::{
     a_delivered_rejection_raises, a_rejected_candidate_has_fewer_rivals, restarts_are_fresh,
 };
@@ -132,12 +134,6 @@ pub fn a_persisting_candidate_answers<M: Machine>()
     a_world_with_leftovers_answers::<M>();
 }
 
-/// Nodes that have restarted, whatever they did before, meet the premises of these laws if nobody of them has executed
-/// more than the candidate, and their votes and pairs are near.
-pub fn restarted_nodes_contend<M: Machine>()
-    ensures { RestartedNodesContend M.meaning M.IsText }
-{}
-
 /// A candidate that is behind, and takes decided commands, meets them still, and has executed no less.
 pub fn a_fed_candidate_contends<M: Machine>()
     ensures { FedCandidateContends M.meaning M.IsText }
@@ -150,12 +146,50 @@ pub fn new_worlds_contend<M: Machine>()
     new_clusters_are_quiet();
 }
 
+/// So do nodes of a new cluster whose first leader is interrupted, which keep a vote of its ballot, with another one.
+pub fn interrupted_worlds_contend<M: Machine>()
+    ensures { InterruptedWorldsContend M.meaning M.IsText }
+{
+    new_clusters_are_quiet();
+    a_prepare_is_promised_or_rejected_for_a_cause::<M>();
+    a_voter_accepts_and_stays::<M>();
+}
+
+// ---- voters that lag, and restarts
+
+/// A voter that has executed too little, and whose rejection the candidate takes, executes 16 commands more, or as much
+/// as the candidate, and may contend with it as before.
+pub fn a_lagging_voter_is_fed<M: Machine>()
+    ensures { LaggingVoterIsFed M.meaning M.IsText }
+{
+    a_rejection_feeds_its_sender::<M>();
+}
+
+/// A nudge of one of the others, which tells the rest what it has executed, leaves all of them as they were.
+pub fn a_nudged_voter_lasts<M: Machine>()
+    ensures { NudgedVoterLasts M.meaning M.IsText }
+{}
+
+/// Once each of the others is fed, as often as it needs, the candidate and the others meet the premises above.
+pub fn fed_voters_contend<M: Machine>()
+    ensures { FedVotersContend M.meaning M.IsText }
+{
+    a_lagging_voter_is_fed::<M>();
+}
+
+/// Nodes that have restarted, whatever they did before, may contend if nobody of them has executed more than the
+/// candidate, and no vote is above the last position.
+pub fn restarted_nodes_may_contend<M: Machine>()
+    ensures { RestartedNodesMayContend M.meaning M.IsText }
+{}
+
 /// A majority that restarts answers: whatever its nodes did before and have promised, if nobody of them has executed
-/// more than the candidate, and their votes and pairs are near.
+/// more than the candidate, and those that lag are fed.
 pub fn a_restarted_majority_answers<M: Machine>()
     ensures { RestartedMajorityAnswers M.meaning M.IsText }
 {
     restarts_are_fresh::<M>();
-    restarted_nodes_contend::<M>();
+    restarted_nodes_may_contend::<M>();
+    fed_voters_contend::<M>();
     a_persisting_candidate_answers::<M>();
 }

@@ -1,12 +1,13 @@
 -- A restart leaves a node as its disks tell.
-use Rattle.std.proofs.Common.{◌≡◌, ◌∙◌, ◌⊎◌, inl, inr, ℕ, zero, suc, ◌+◌, ◌*◌, ◌≤◌, ◌++◌}
-use Rattle.std.proofs.Common.{List, [], ◌∷◌, Contains, length}
+use Rattle.std.proofs.Common.{◌≡◌, ◌∙◌, ◌⊎◌, inl, inr, ℕ, zero, suc, ◌+◌, ◌*◌, ◌<◌, ◌≤◌, ◌++◌, Bool, true, false}
+use Rattle.std.proofs.Common.{List, [], ◌∷◌, Contains, length, drop, cond, eqb, nat_lt}
 use Rattle.std.proofs.Common.{refl, ap, sym, subst, arith, append-nil}
+use Rattle.std.proofs.lemmas.Bool.{and_parts, ltb-true, eqb-true, eqb-false}
 use Rattle.std.specs.List.{AllByRecursion}
 use Rattle.lk_types.specs.declared.genesis.Genesis.{Genesis}
 use Rattle.lk_types.specs.declared.vote.Vote.{Vote}
 use Rattle.lk_memory_disk.specs.Memory.{disk_of}
-use Rattle.lk_store_format.specs.Entries.{IsStored}
+use Rattle.lk_store_format.specs.Entries.{IsStored, are_pairs_above}
 use Rattle.lk_store_format.specs.Formats.{format}
 use Rattle.lk_store_format.specs.Standings.{HasHeader}
 use Rattle.lk_store_format.specs.Values.{HeaderValue, StandingValue}
@@ -17,7 +18,8 @@ use Rattle.lk_state.specs.Meanings.{Meaning}
 use Rattle.lk_state.specs.Runs.{ran}
 use Rattle.lk_state.specs.States.{WholeValue}
 use Rattle.lk_learner.proofs.Learnerships.{ran_moves}
-use Rattle.lk_learner.specs.Learners.{Command}
+use Rattle.lk_learner.specs.Learners.{Command, Pair}
+use Rattle.lk_node.specs.Executing.{NothingToRun}
 use Rattle.lk_node.specs.Leavings.{header_of}
 use Rattle.lk_node.specs.Nearness.{AreNear}
 use Rattle.lk_node.specs.NewBases.{with_snapshot}
@@ -67,6 +69,63 @@ near_revived m IsText whose s node k some sets position votes =
 
     length_is : length (run_from k.0.roster.executed s.pairs) ≡ length (run_from s.position s.pairs)
     length_is = ap (λ (e : ℕ). length (run_from e s.pairs)) position
+
+-- ---- the pairs that a standing leaves
+
+pairs_parts : (low : ℕ) (p : Pair) (ps : List Pair) → are_pairs_above low (p ∷ ps) ≡ true
+    → (low < p.0) × (are_pairs_above p.0 ps ≡ true)
+pairs_parts low p ps e = let b = and_parts (nat_lt low p.0) (are_pairs_above p.0 ps) e in (ltb-true low p.0 b.0, b.1)
+
+all_above : (low : ℕ) (ps : List Pair) → are_pairs_above low ps ≡ true → (p : Pair) → Contains ps p → low < p.0
+all_above low [] rise p c = absurd (omega (arith, c.1))
+all_above low (q ∷ qs) rise p c =
+    let b = pairs_parts low q qs rise in
+    elim (cons_cases q qs p c) [
+      | inl same ↦ subst (λ (x : Pair). low < x.0) same b.0
+      | inr later ↦ (let k = all_above q.0 qs b.1 p later in omega (arith, b.0, k))
+    ]
+
+-- what a run has not taken does not begin with the next position
+none_next : (e : ℕ) (ps : List Pair) → are_pairs_above e ps ≡ true → (v : Command)
+    → Contains (drop (length (run_from e ps)) ps) (e + length (run_from e ps) + 1, v) → ⊥
+none_next e [] rise v c = absurd (omega (arith, c.1))
+none_next e (p ∷ ps) rise v c = by_test (λ r. none_next (e + 1) ps r v) (eqb p.0 (e + 1)) refl c
+  where
+    parts : (e < p.0) × (are_pairs_above p.0 ps ≡ true)
+    parts = pairs_parts e p ps rise
+
+    by_test : (are_pairs_above (e + 1) ps ≡ true
+        → Contains (drop (length (run_from (e + 1) ps)) ps) (e + 1 + length (run_from (e + 1) ps) + 1, v) → ⊥)
+        → (t : Bool) → eqb p.0 (e + 1) ≡ t
+        → Contains (drop (length (cond t (p.1 ∷ run_from (e + 1) ps) [])) (p ∷ ps))
+        (e + length (cond t (p.1 ∷ run_from (e + 1) ps) []) + 1, v) → ⊥
+    by_test rest true is d =
+        let next : p.0 ≡ e + 1 = eqb-true p.0 (e + 1) is in
+        rest (subst (λ (j : ℕ). are_pairs_above j ps ≡ true) next parts.1)
+        (subst (λ (j : ℕ). Contains (drop (length (run_from (e + 1) ps)) ps) (j, v)) (omega arith) d)
+    by_test rest false is d =
+        let other : p.0 ≡ e + 1 → ⊥ = eqb-false p.0 (e + 1) is in
+        elim (cons_cases p ps (e + 0 + 1, v) d) [
+          | inl same ↦ other (ap (λ (x : Pair). x.0) same ∙ omega arith)
+          | inr later ↦ (let k = all_above p.0 ps parts.1 (e + 0 + 1, v) later in omega (arith, parts.0, k))
+        ]
+
+-- nothing is left to execute
+runs_revived : (m : Meaning) (IsText : List ℕ → Type 0) (whose : HeaderValue) (s : StandingValue) (node : NodeValue)
+    (k : (w : WholeValue) × (node ≡ revived m whose s w)) → 1 ≤ length k.0.roster.sets
+    → k.0.roster.executed ≡ s.position → are_pairs_above s.position s.pairs ≡ true → NothingToRun node
+runs_revived m IsText whose s node k some position rise = subst NothingToRun (sym k.1) nothing_left
+  where
+    e : ℕ
+    e = k.0.roster.executed
+
+    moves : ((all_ran m (run_from e s.pairs) k.0).roster.executed ≡ e + length (run_from e s.pairs))
+        × (length (all_ran m (run_from e s.pairs) k.0).roster.sets ≡ length k.0.roster.sets)
+    moves = all_moves m (run_from e s.pairs) k.0 some
+
+    nothing_left : NothingToRun (revived m whose s k.0)
+    nothing_left v c = none_next e s.pairs (subst (λ (j : ℕ). are_pairs_above j s.pairs ≡ true) (sym position) rise) v
+        (subst (λ (j : ℕ). Contains (drop (length (run_from e s.pairs)) s.pairs) (j + 1, v)) moves.0 c)
 
 two_formats : (es : List Stored) (h : HeaderValue) → HasHeader es h → AllByRecursion IsStored (es ++ [])
     → (format es ≡ 1) ⊎ (format es ≡ 2)
@@ -119,6 +178,8 @@ module _ (m : Meaning) (IsText : List ℕ → Type 0) where
       gathered = ap (λ (node : NodeValue). node.learner.gathered) s.node_is;
       near = near_revived m IsText whose restores.standing v.node (s.whole, s.node_is) some s.may.unpacks.sets
           s.may.unpacks.executed s.may.votes;
+      runs = runs_revived m IsText whose restores.standing v.node (s.whole, s.node_is)
+          (omega (arith, s.may.unpacks.sets, some)) s.may.unpacks.executed restores.opens.stands.pairs_rise;
     }
 
     snapshot_restarted : IsRestarted v.node → IsRestarted (with_snapshot v.node)
@@ -129,6 +190,7 @@ module _ (m : Meaning) (IsText : List ℕ → Type 0) where
       known = i.known;
       gathered = i.gathered;
       near = near_snapshot v.node i.near;
+      runs = i.runs;
     }
 
     one_restarts : RestartsIn m IsText n old new

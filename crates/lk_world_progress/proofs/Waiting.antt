@@ -26,7 +26,7 @@ use Rattle.lk_world_progress.specs.Stepping.{GoesWell, Holds, IsFound, IsLeft, I
 use Rattle.lk_world_progress.specs.Waiting.{TicksInTurn, WorldTicksBegin}
 
 -- whatever a snapshot keeps holds of the node as the event leaves it
-left_has : (out : OutboxValue) (node : NodeValue) (r : ReplicaValue) (P : NodeValue → Type 0)
+pub left_has : (out : OutboxValue) (node : NodeValue) (r : ReplicaValue) (P : NodeValue → Type 0)
     → (P node → P (with_snapshot node)) → IsLeft out node r → P node → P r.node
 left_has out node r P keeps left p = by_test out.rebase refl
   where

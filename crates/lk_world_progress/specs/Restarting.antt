@@ -6,6 +6,7 @@ use Rattle.lk_state.specs.Meanings.{Meaning}
 use Rattle.lk_leader.specs.Terms.{new_leader}
 use Rattle.lk_node_interface.specs.declared.note.Note.{Note}
 use Rattle.lk_node.specs.Leavings.{header_of}
+use Rattle.lk_node.specs.Executing.{NothingToRun}
 use Rattle.lk_node.specs.Nearness.{AreNear}
 use Rattle.lk_node.specs.NewBases.{with_snapshot}
 use Rattle.lk_node.specs.NodeValue.{NodeValue}
@@ -21,7 +22,7 @@ use Rattle.lk_world_progress.specs.Stepping.{GoesWell, IsUpAs, Lives}
 -- ---- one node
 
 -- It has no term, nothing waits, no tick has passed, it gathers no snapshot, and it knows no leader and no round of
--- others. Its acceptor and its learner are near.
+-- others. Its acceptor and its learner are near, and nothing is left to execute.
 pub record IsRestarted (node : NodeValue) : Type 0 where
   pub leader : node.leader ≡ new_leader
   pub ticks : node.ticks ≡ 0
@@ -29,6 +30,7 @@ pub record IsRestarted (node : NodeValue) : Type 0 where
   pub known : node.known ≡ None
   pub gathered : node.learner.gathered ≡ None
   pub near : AreNear node.acceptor node.learner
+  pub runs : NothingToRun node
 
 -- The node was down, and is up as a restart from its disks leaves it: what it has promised, the votes that it keeps and
 -- what it has executed are those of its disks. If they were of format 1, a snapshot has replaced the executed commands
