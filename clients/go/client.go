@@ -61,11 +61,10 @@ type Config struct {
 	// Grace is how long a release or the withdrawal of a lock is tried after its context has ended. 0 stands for 2
 	// seconds.
 	Grace time.Duration
-	// Notices lets nodes say when a lock is free that Lock, LockShared or LockAll waits for. The client sends them
-	// watches meanwhile, and goes behind others that wait if it released the lock within the last second. Nodes of this
-	// version do not answer watches yet, and count each one as an unread datagram. Without Notices a client asks at
-	// intervals.
-	Notices bool
+	// NoNotices makes Lock, LockShared and LockAll ask at intervals for a lock that is held. Without it the client sends
+	// watches meanwhile: nodes say when the lock is free, and the client goes behind others that wait if it released the
+	// lock within the last second. Older nodes drop watches, and count each one as an unread datagram.
+	NoNotices bool
 	// Log is called for each event, possibly by several goroutines at a time. It may call the client: no request is held
 	// up meanwhile.
 	Log func(Event)
@@ -77,7 +76,7 @@ type Client struct {
 	id       uint16
 	patience time.Duration
 	grace    time.Duration
-	notices  bool
+	polls    bool // sends no watches
 	log      func(Event)
 	hosts    map[uint32]netip.Addr
 
@@ -127,7 +126,7 @@ func Open(config Config) (*Client, error) {
 		id:       config.Client,
 		patience: orElse(config.Patience, defaultPatience),
 		grace:    orElse(config.Grace, defaultGrace),
-		notices:  config.Notices,
+		polls:    config.NoNotices,
 		log:      config.Log,
 		hosts:    config.Hosts,
 		closing:  make(chan struct{}),

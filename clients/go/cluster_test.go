@@ -47,6 +47,22 @@ func TestALockGoesFromHandToHand(t *testing.T) {
 	}
 }
 
+func TestWhoWaitsHasAPlaceInTheQueueOfTheLeader(t *testing.T) {
+	nodes := startCluster(t)
+	one, two := nodes.client(1), nodes.client(2)
+	guard := mustLock(t, one, "db")
+	_, ended := locking(t, two, "db")
+	for begun := time.Now(); !two.isQueued("db"); time.Sleep(10 * time.Millisecond) {
+		if time.Since(begun) > time.Minute {
+			t.Fatal("no place")
+		}
+	}
+	mustRelease(t, guard)
+	if err := <-ended; err != nil {
+		t.Error(err)
+	}
+}
+
 func TestARaisedTableIsSharedAndBroken(t *testing.T) {
 	nodes := startCluster(t)
 	one, two, ctx := nodes.client(1), nodes.client(2), within(t)

@@ -12,8 +12,8 @@ type EventKind int
 const (
 	// EventUnreachable: no node has answered a request for Wait. It comes every five seconds.
 	EventUnreachable EventKind = iota + 1
-	// EventWaiting: the lock is held by Holder at Fence. It is asked for again after Wait. With Notices that is sooner if
-	// a node says that it is free, and later, after 4 seconds at most, if a node has put the client in its queue.
+	// EventWaiting: the lock is held by Holder at Fence. It is asked for again after Wait: sooner if a node says that it
+	// is free, and later, after 4 seconds at most, if a node has put the client in its queue.
 	EventWaiting
 	// EventSettled: a request that an earlier call left without an answer has one, or was passed: Err says so.
 	EventSettled

@@ -9,7 +9,7 @@ import (
 )
 
 // Lock takes the lock. It waits until the lock is granted or the context ends, also while no node answers. While
-// another client holds the lock it asks again and again. With Notices, nodes that know watches say when it is free.
+// another client holds the lock, nodes that know watches say when it is free; other nodes are asked again and again.
 //
 // It returns *Busy if the client itself holds the lock, and if the context ends while another client does. If the
 // context ends while a request has no answer, Lock withdraws that for the Grace of the Config, and returns *NoAnswer:

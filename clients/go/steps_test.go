@@ -52,6 +52,9 @@ func (h *honest) serve() {
 		if err != nil {
 			return
 		}
+		if _, isOne := readWatch(buffer[:length], from); isOne {
+			continue
+		}
 		it := read(buffer[:length])
 		word := strings.Fields(it.op)[0]
 		h.lock.Lock()

@@ -67,9 +67,7 @@ func startQueue(t *testing.T, loss float64) *queueNode {
 func (q *queueNode) client(number uint16) *Client {
 	q.t.Helper()
 	port := uint16(q.connection.LocalAddr().(*net.UDPAddr).Port)
-	client, err := Open(Config{
-		Cluster: 5, Client: number, First: 1, Nodes: Loopback(port), Patience: time.Minute, Notices: true,
-	})
+	client, err := Open(Config{Cluster: 5, Client: number, First: 1, Nodes: Loopback(port), Patience: time.Minute})
 	if err != nil {
 		q.t.Fatal(err)
 	}
@@ -165,7 +163,7 @@ func (q *queueNode) hear(watch heardWatch) {
 		q.remove(watch.client)
 	case place > 0:
 		q.queue[place-1].watch, q.queue[place-1].at = watch, time.Now()
-	case q.holder != 0 && q.holder != watch.client:
+	case q.holder != 0 && q.holder != watch.client, q.holder == 0 && len(q.queue) > 0:
 		q.queue = append(q.queue, &queued{watch: watch, at: time.Now()})
 	}
 	says := byte(saysFree)

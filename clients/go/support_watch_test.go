@@ -30,8 +30,8 @@ const (
 	saysNotHere = 3
 )
 
-// watching makes a client send watches while it waits.
-func watching(c *Config) { c.Notices = true }
+// polling makes a client send no watches while it waits.
+func polling(c *Config) { c.NoNotices = true }
 
 // readWatch reads a watch without a seal.
 func readWatch(data []byte, from netip.AddrPort) (heardWatch, bool) {

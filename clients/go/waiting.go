@@ -24,15 +24,15 @@ type waiting struct {
 	once   sync.Once     // begins to renew the watch
 }
 
-// waitFor begins to wait for the lock that op asks for, and decides whether that wait sends watches. It does so with
-// Notices only. Of several goroutines of a client that wait for one name, the first alone sends watches, since a node
-// keeps one for each client and name. A wait that sends none asks at intervals.
+// waitFor begins to wait for the lock that op asks for, and decides whether that wait sends watches. Of several
+// goroutines of a client that wait for one name, the first alone does, since a node keeps one for each client and name;
+// with NoNotices none does. A wait that sends none asks at intervals.
 func (c *Client) waitFor(op wire.Op) *waiting {
 	c.lock.Lock()
 	defer c.lock.Unlock()
 	made := &waiting{client: c, name: op.Name, woken: make(chan struct{}, 1), ended: make(chan struct{})}
 	made.waiter = core.NewWaiter(c.seals, op, c.nextWatch, rand.Float64)
-	if c.notices && c.waits[op.Name] == nil {
+	if !c.polls && c.waits[op.Name] == nil {
 		c.waits[op.Name] = made
 		made.waiter.SetNodes(c.known())
 	}

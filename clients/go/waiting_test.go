@@ -38,7 +38,7 @@ func wantNoRequest(t *testing.T, n *node) {
 
 func TestALockIsTakenAtOnceWhenANoticeComes(t *testing.T) {
 	n := fakeNode(t)
-	watch, ended := n.inQueue(clientOf(t, watching, n))
+	watch, ended := n.inQueue(clientOf(t, nil, n))
 	n.free(watch)
 	wantSoon(t, ended)
 	n.wantNoWithdrawal(t) // the grant ends the watch
@@ -46,7 +46,7 @@ func TestALockIsTakenAtOnceWhenANoticeComes(t *testing.T) {
 
 func TestAWatchHasTheFenceOfTheBusyAndRises(t *testing.T) {
 	n := fakeNode(t, free, busy, "02 0008 0000000000000004", granted).queued()
-	client := clientOf(t, watching, n)
+	client := clientOf(t, nil, n)
 	go client.Lock(within(t), "db")
 	first := n.awaitWatch(false)
 	if first.client != 7 || first.fence != 3 || first.name != "db" || first.periods != 20 || first.isShared {
@@ -65,7 +65,7 @@ func TestAWatchHasTheFenceOfTheBusyAndRises(t *testing.T) {
 
 func TestEachNodeIsWatched(t *testing.T) {
 	one, two := fakeNode(t, free, busy), fakeNode(t)
-	client := clientOf(t, watching, one, two)
+	client := clientOf(t, nil, one, two)
 	go client.Lock(within(t), "db")
 	first, second := one.awaitWatch(false), two.awaitWatch(false)
 	if !bytes.Equal(first.data, second.data) {
@@ -76,7 +76,7 @@ func TestEachNodeIsWatched(t *testing.T) {
 func TestARequestGoesToTheNodeThatToldTheClient(t *testing.T) {
 	one, two := fakeNode(t, free, busy), fakeNode(t, granted)
 	// One after the other they would be asked for more than three seconds.
-	client := clientOf(t, watching, one, fakeNode(t), fakeNode(t), fakeNode(t), two)
+	client := clientOf(t, nil, one, fakeNode(t), fakeNode(t), fakeNode(t), two)
 	two.queued()
 	_, ended := locking(t, client, "db")
 	two.tell(two.awaitWatch(false), saysFree, 1)
@@ -86,7 +86,7 @@ func TestARequestGoesToTheNodeThatToldTheClient(t *testing.T) {
 
 func TestAWatchIsRenewedWhileARequestHasNoAnswer(t *testing.T) {
 	n := fakeNode(t, free, busy, silent).queued()
-	client := clientOf(t, watching, n)
+	client := clientOf(t, nil, n)
 	go client.Lock(within(t), "db")
 	first := n.awaitWatch(false)
 	n.tell(first, saysFree, 1)
@@ -103,14 +103,14 @@ func TestAWatchIsRenewedWhileARequestHasNoAnswer(t *testing.T) {
 
 func TestAnOldNodeThatAnswersNoWatchIsPolled(t *testing.T) {
 	n := fakeNode(t, free, busy, busy, busy, granted)
-	mustLock(t, clientOf(t, watching, n), "db")
+	mustLock(t, clientOf(t, nil, n), "db")
 	wantOps(t, n, "ask db", "acquire db", "acquire db", "acquire db", "acquire db")
 }
 
 func TestANodeWithAFullQueueIsPolled(t *testing.T) {
 	n, begun := fakeNode(t, free, busy, busy, busy, granted), time.Now()
 	n.whenWatched(func(watch heardWatch) { n.tell(watch, saysHeld, 0) })
-	mustLock(t, clientOf(t, watching, n), "db")
+	mustLock(t, clientOf(t, nil, n), "db")
 	if took := time.Since(begun); took > 3*soon {
 		t.Errorf("took %v", took)
 	}
@@ -119,7 +119,7 @@ func TestANodeWithAFullQueueIsPolled(t *testing.T) {
 
 func TestALostNoticeCostsOnePoll(t *testing.T) {
 	n := fakeNode(t)
-	_, ended := n.inQueue(clientOf(t, watching, n))
+	_, ended := n.inQueue(clientOf(t, nil, n))
 	n.only(granted)
 	select {
 	case err := <-ended:
@@ -133,7 +133,7 @@ func TestALostNoticeCostsOnePoll(t *testing.T) {
 
 func TestADoubledNoticeIsFollowedOnce(t *testing.T) {
 	n := fakeNode(t, free, busy, busy, granted).queued()
-	client := clientOf(t, watching, n)
+	client := clientOf(t, nil, n)
 	waited := make(chan error)
 	go func() {
 		_, err := client.Lock(within(t), "db")
@@ -160,7 +160,7 @@ func TestADoubledNoticeIsFollowedOnce(t *testing.T) {
 
 func TestAForgedNoticeIsNotFollowed(t *testing.T) {
 	n := fakeNode(t)
-	watch, _ := n.inQueue(clientOf(t, watching, n))
+	watch, _ := n.inQueue(clientOf(t, nil, n))
 	forger, err := net.ListenUDP("udp4", &net.UDPAddr{IP: net.IPv4(127, 0, 0, 1)})
 	if err != nil {
 		t.Fatal(err)
@@ -179,7 +179,7 @@ func TestSealedNoticesAreFollowedAndBareOnesNot(t *testing.T) {
 		t.Fatal(err)
 	}
 	n := sealedNode(t, unhex(text))
-	watch, ended := n.inQueue(clientOf(t, func(c *Config) { c.Keys, c.Notices = keys, true }, n))
+	watch, ended := n.inQueue(clientOf(t, func(c *Config) { c.Keys = keys }, n))
 	n.connection.WriteToUDPAddrPort(noticeTo(watch, saysFree, 1), watch.from)
 	wantNoRequest(t, n)
 	n.free(watch)
@@ -188,7 +188,7 @@ func TestSealedNoticesAreFollowedAndBareOnesNot(t *testing.T) {
 
 func TestAWaitThatIsCancelledIsWithdrawn(t *testing.T) {
 	n := fakeNode(t, free, busy).queued()
-	client := clientOf(t, watching, n)
+	client := clientOf(t, nil, n)
 	cancel, ended := locking(t, client, "db")
 	watch := n.awaitWatch(false)
 	cancel()
@@ -206,7 +206,7 @@ func TestAWaitThatIsCancelledIsWithdrawn(t *testing.T) {
 
 func TestCloseWithdrawsAWait(t *testing.T) {
 	n := fakeNode(t, free, busy).queued()
-	client := clientOf(t, watching, n)
+	client := clientOf(t, nil, n)
 	_, ended := locking(t, client, "db")
 	n.awaitWatch(false)
 	if err := client.Close(); err != nil {
@@ -220,7 +220,7 @@ func TestCloseWithdrawsAWait(t *testing.T) {
 
 func TestOneGoroutineOfAClientWatchesAName(t *testing.T) {
 	n := fakeNode(t)
-	client := clientOf(t, watching, n)
+	client := clientOf(t, nil, n)
 	n.inQueue(client)
 	count := uint64(len(n.ops()))
 	cancelSecond, second := locking(t, client, "db")
@@ -237,7 +237,7 @@ func TestWhoReleasedALockLetsOthersHaveIt(t *testing.T) {
 		asked <- len(n.ops())
 		n.tell(watch, saysFree, 0)
 	})
-	client := clientOf(t, watching, n)
+	client := clientOf(t, nil, n)
 	mustRelease(t, mustLock(t, client, "db"))
 	mustLock(t, client, "db")
 	if watch := n.awaitWatch(false); watch.fence != 1 {
@@ -251,7 +251,7 @@ func TestWhoReleasedALockLetsOthersHaveIt(t *testing.T) {
 
 func TestOldNodesAreWatchedBeforeARequestOnce(t *testing.T) {
 	n := fakeNode(t, free, granted, released, granted, released, granted)
-	client := clientOf(t, watching, n)
+	client := clientOf(t, nil, n)
 	mustRelease(t, mustLock(t, client, "db"))
 	mustRelease(t, mustLock(t, client, "db"))
 	n.awaitWatch(false)
@@ -259,9 +259,9 @@ func TestOldNodesAreWatchedBeforeARequestOnce(t *testing.T) {
 	n.wantNoWatch(t)
 }
 
-func TestByDefaultAClientSendsRequestsAlone(t *testing.T) {
+func TestAClientWithoutNoticesSendsRequestsAlone(t *testing.T) {
 	n := fakeNode(t, free, granted, released, busy, busy, busy, "01 0000000000000004").queued()
-	client := clientOf(t, nil, n)
+	client := clientOf(t, polling, n)
 	mustRelease(t, mustLock(t, client, "db"))
 	mustLock(t, client, "db") // waits, and its release was a moment ago
 	n.wantNoWatch(t)
@@ -273,9 +273,9 @@ func TestByDefaultAClientSendsRequestsAlone(t *testing.T) {
 	wantOps(t, n, "ask db", "acquire db", "release db 1", "acquire db", "acquire db", "acquire db", "acquire db")
 }
 
-func TestByDefaultAWaitIsNotWithdrawn(t *testing.T) {
+func TestAWaitWithoutNoticesIsNotWithdrawn(t *testing.T) {
 	n := fakeNode(t, free, busy, busy, busy, busy, busy).queued()
-	client := clientOf(t, nil, n)
+	client := clientOf(t, polling, n)
 	cancel, ended := locking(t, client, "db")
 	n.await(3)
 	cancel()
@@ -289,7 +289,7 @@ func TestByDefaultAWaitIsNotWithdrawn(t *testing.T) {
 
 func TestAWaitGoesOnAtOtherNodes(t *testing.T) {
 	one, two := fakeNode(t, free, busy).queued(), fakeNode(t)
-	client := clientOf(t, watching, one)
+	client := clientOf(t, nil, one)
 	cancel, ended := locking(t, client, "db")
 	first := one.awaitWatch(false)
 	for range make([]bool, 100) {

@@ -47,7 +47,7 @@ from .numbers import milliseconds
 from .results import Free, Held, HeldShared
 from .wire import Answer
 
-__version__ = "0.4.0"
+__version__ = "0.5.0"
 
 __all__ = [
     "Answer",

@@ -28,8 +28,7 @@ class Base:
     on 127.0.0.1, or (address, port) of each, one at least. first: the number of the first request. state: a file that
     keeps the numbers over restarts; one of the two has to be given. patience: seconds until NoAnswer. hosts: a file of
     lines NODE ADDRESS, where a node named by another one lives. key: the file of this client's key. notices: whether
-    it watches a lock that it waits for; the nodes of this version do not answer watches yet, and count them as unread
-    datagrams.
+    it watches a lock that it waits for, so that nodes tell it when the lock is free; without, it asks at intervals.
     """
 
     def __init__(
@@ -42,7 +41,7 @@ class Base:
         patience: float = 10.0,
         hosts: str | os.PathLike[str] | None = None,
         key: str | os.PathLike[str] | None = None,
-        notices: bool = False,
+        notices: bool = True,
     ) -> None:
         known = read_hosts(hosts) if hosts else None
         keys = read_keys(key) if key else ()

@@ -50,7 +50,7 @@ class Calls(Core):
         self.released: dict[str, tuple[int, float]] = {}
 
     def poll(self, word: str, name: str, wait: float) -> Plan[int]:
-        """Asks for a lock until it is granted, or until the seconds are over. With `notices` it watches meanwhile."""
+        """Asks for a lock until it is granted, or until the seconds are over. Watches it, unless told not to."""
         op, start = table_op(word, name), self.clock()
         deadline = start + max(seconds_of(wait, "wait"), self.patience)
         end = min(start + wait, deadline - ANSWER_TIME)

@@ -33,8 +33,8 @@ class Client(Base):
     on 127.0.0.1, or (address, port) of each, one at least. first: the number of the first request. state: a file that
     keeps the numbers over restarts; one of the two has to be given. patience: seconds until NoAnswer. hosts: a file of
     lines NODE ADDRESS, where a node named by another one lives. key: the file of this client's key. notices: whether
-    it watches a lock that it waits for; the nodes of this version do not answer watches yet, and count them as unread
-    datagrams. Use it in a `with`, or call `close`.
+    it watches a lock that it waits for, so that nodes tell it when the lock is free; without, it asks at intervals. Use
+    it in a `with`, or call `close`.
     """
 
     def close(self) -> None:

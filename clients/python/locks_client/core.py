@@ -39,7 +39,7 @@ class Core:
         clock: Callable[[], float] = time.monotonic,
         hosts: Mapping[int, str] | None = None,
         keys: Sequence[bytes] = (),
-        notices: bool = False,
+        notices: bool = True,
     ) -> None:
         self.cluster = ranged(cluster, 0, (1 << 64) - 1, "cluster")
         self.client = ranged(client, 1, MAX_CLIENT, "client")

@@ -48,7 +48,7 @@ def arguments() -> argparse.ArgumentParser:
     add("--first", "--request", type=int, help="the first number, above all that this client used, as $(date +%%s%%3N)")
     add("--state", help="a file that keeps the numbers; a new one wants --first too; one of the two is needed")
     add("--patience", type=seconds, default=10.0, metavar="S", help="seconds until there is no answer, 10 if not given")
-    add("--notices", action="store_true", help="hold watches the lock it waits for; nodes do not answer that yet")
+    add("--no-notices", action="store_true", help="hold asks at intervals for a held lock, and sends no watches")
     add("--fail", action="store_true", help="status 1 where a single request is refused")
     add("--wait", type=seconds, default=math.inf, metavar="S", help="seconds that hold waits; for ever if not given")
     add("--release-wait", type=seconds, default=60.0, metavar="S", help="seconds that hold tries to release; 60")
@@ -102,7 +102,7 @@ def main() -> int:
     try:
         op = op_in(args.op)
         endpoints = endpoints_of(args.port, args.address or [LOOPBACK])
-        more = {"hosts": args.hosts, "key": args.key, "notices": args.notices}
+        more = {"hosts": args.hosts, "key": args.key, "notices": not args.no_notices}
         client = Client(args.cluster, args.client, endpoints, args.first, args.state, args.patience, **more)
     except (OSError, ValueError) as error:
         parser.error(str(error))

@@ -1,9 +1,9 @@
-"""How a client waits for a lock, without a socket: at intervals, or without polling where its caller wants notices.
+"""How a client waits for a lock, without a socket: without polling, or only at intervals where its caller says so.
 
-With notices it sends a *watch* to every node that it knows. Each node keeps it in a queue, and the one that leads
-answers with a *notice*: the name is held, and this is the client's place; later, that it is free. Then the client asks
-at once. All this is a hint beside the protocol: a lost one, or a node that knows no watches, costs no more than time,
-since the client also asks at intervals, as ever. Without notices it sends no watch.
+It sends a *watch* to every node that it knows. Each node keeps it in a queue, and the one that leads answers with a
+*notice*: the name is held, and this is the client's place; later, that it is free. Then the client asks at once. All
+this is a hint beside the protocol: a lost one, or a node that knows no watches, costs no more than time, since the
+client also asks at intervals. Where its caller wants no notices it sends no watch.
 """
 import math
 from typing import TYPE_CHECKING
@@ -35,6 +35,7 @@ class Waiter:
         self.polls = waits.Polls()
         self.watch, self.sent_to, self.renew_at = b"", set[Endpoint](), math.inf
         self.used = b""  # the watch whose notices tell no more who leads
+        self.answered = set[int]()  # the nodes that have answered the last watch
         self.is_granted = False
         self.kept_by, self.kept_until = 0, -math.inf
         self.fence, self.was_told, self.misled = 0, False, 0
@@ -83,7 +84,7 @@ class Waiter:
         ticket = Ticket(core.client, core.watch_number, self.fence, self.word, self.name)
         self.watch = watch_bytes(core.cluster, ticket, periods)
         self.renew_at = core.clock() + RENEW if periods else math.inf
-        self.sent_to = {port for port in self.known() if self.is_due(port)}
+        self.sent_to, self.answered = {port for port in self.known() if self.is_due(port)}, set()
         data = core.seals.sealed(self.watch)
         for port in self.sent_to:
             yield Send(data, port)
@@ -112,7 +113,17 @@ class Waiter:
         if notice:
             # With a key a node may answer from another address, and then any of them may be the one.
             core.unanswered.update(dict.fromkeys(self.sent_to & {came.port} or self.sent_to, 0))
+            notice = self.meant_by(notice)
             self.note(notice, came.port)
+        return notice
+
+    def meant_by(self, notice: Notice) -> Notice:
+        """What a notice means to this client. To it a name is held that is free for those who came before it: a node
+        answers a watch so with a place above 1, and tells it later that its turn has come."""
+        is_answer = notice.node not in self.answered
+        self.answered.add(notice.node)
+        if notice.news is News.FREE and notice.place > 1 and is_answer:
+            return notice._replace(news=News.HELD)
         return notice
 
     def note(self, notice: Notice, port: Endpoint) -> None:

@@ -38,7 +38,7 @@ OTHERS = [
 
 
 class Node:
-    """A node that takes datagrams in turn and replies to each what its row says."""
+    """A node that takes datagrams in turn and replies to each what its row says. It is an old one: it drops watches."""
 
     def __init__(self, *rows):
         self.socket = socket.socket(socket.AF_INET, socket.SOCK_DGRAM)
@@ -55,10 +55,17 @@ class Node:
     def serve(self):
         with self.socket:
             for row in self.rows:
-                data, sender = self.socket.recvfrom(100)
+                data, sender = self.request()
                 self.heard.append(data.hex())
                 for reply in row:
                     self.socket.sendto(bytes.fromhex(reply), sender)
+
+    def request(self):
+        """The next datagram that is no watch."""
+        while True:
+            data, sender = self.socket.recvfrom(128)
+            if data[:2] != b"LW":
+                return data, sender
 
 
 def elsewhere(port):
@@ -153,7 +160,7 @@ class WatchQueue:
         places = self.places(came.mode, who)
         if kept and kept.waits:
             kept.renew(watch)
-        elif came.waits and places == 0:
+        elif came.waits and places <= sum(self.load(it, came.name) for it in self.entries):
             kept = self.enter(came, kept)
         news = FREE_NEWS if places else HELD_NEWS
         answers = kept if kept and kept.ticket == came.ticket else came

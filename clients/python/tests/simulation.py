@@ -30,8 +30,12 @@ class SimulatedNode:
             self.queue.speaks = self.leads()
             return self.post(self.queue.hear(data, client))
         if self.leads():
-            self.simulation.reply(self, self.simulation.table.reply(data), client)
-            self.simulation.executed()  # notices go after replies
+            self.simulation.at(self.simulation.now + self.simulation.commit, lambda: self.execute(data, client))
+
+    def execute(self, data, client):
+        """Executes a request. Notices go after its reply."""
+        self.simulation.reply(self, self.simulation.table.reply(data), client)
+        self.simulation.executed()
 
     def post(self, letters):
         """Sends notices."""
@@ -94,14 +98,15 @@ class Simulation:
     """Nodes at the ports 1, 2 .. that share one table, of which `leader` answers; and clients.
 
     is_lost: whether a datagram is lost, given its bytes and whether a client sends it. latencies: seconds from a node
-    to a client, where they are others. held: each hold of a client, as
-    its number, and when it began and ended. notices: each notice that was sent, with its time, node and client.
+    to a client, where they are others. commit: seconds from the arrival of a request until it is executed. held: each
+    hold of a client, as its number, and when it began and ended. notices: each notice that was sent, with its time,
+    node and client.
     """
 
     def __init__(self, nodes=3, old=()):
         self.now, self.events, self.order = 0.0, [], itertools.count()
         self.table, self.leader, self.held, self.notices = Table(), 1, [], []
-        self.is_lost, self.latencies = lambda data, is_request: False, {}
+        self.is_lost, self.latencies, self.commit = lambda data, is_request: False, {}, 0.0
         self.nodes = {port: SimulatedNode(self, port, port not in old) for port in range(1, nodes + 1)}
         self.clients = {}
         self.at(PERIOD, self.pass_period)

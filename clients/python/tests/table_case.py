@@ -93,7 +93,7 @@ class TableClient(Client):
 
 
 class TableNode(threading.Thread):
-    """A node that answers for a table in memory.
+    """A node that answers for a table in memory, an old one: it drops watches.
 
     takes: whether a request arrives. replies: whether the reply to it does. Both are given the first byte of the body.
     heard: that byte of each request. done: the same, once the node is done with it.
@@ -110,9 +110,11 @@ class TableNode(threading.Thread):
 
     def run(self):
         while True:
-            data, sender = self.socket.recvfrom(100)
+            data, sender = self.socket.recvfrom(128)
             if not data:
                 return self.socket.close()
+            if data[:2] != b"LK":
+                continue
             body = data[HEADER.size + 2]
             self.heard.append(body)
             if self.takes(body):

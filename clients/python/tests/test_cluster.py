@@ -1,5 +1,7 @@
 """The clients against nodes that the tests start."""
 import asyncio
+import threading
+import time
 import unittest
 
 from cluster_case import PROGRAM, ClusterCase
@@ -92,6 +94,19 @@ class ClusterTest(ClusterCase):
             self.cluster.kill(node)
         with self.assertRaises(NoAnswer):
             self.client(1, patience=1.0).acquire("db")
+
+    def test_who_waits_has_a_place_in_the_queue_of_the_leader(self):
+        holder, waiter, fences = self.client(1), self.client(2), []
+        holder.acquire("db")
+        waiting = threading.Thread(target=lambda: fences.append(waiter.acquire("db", wait=120.0)), daemon=True)
+        waiting.start()
+        end = time.monotonic() + 60.0
+        while not (waiter.core.waiter and waiter.core.waiter.kept_by):
+            self.assertLess(time.monotonic(), end)
+            time.sleep(0.01)
+        holder.release("db", 1)
+        waiting.join(120.0)
+        self.assertEqual((waiting.is_alive(), fences), (False, [2]))
 
     def test_tasks_take_a_lock_in_turn(self):
         fences = asyncio.run(self.fences_of_tasks(3))

@@ -43,13 +43,18 @@ class CoreTest(unittest.TestCase):
     def step(self, effect, replies):
         """Notes what a plan yields, and gives what it hears."""
         if isinstance(effect, Send):
-            self.done.append((self.clock.now, effect.port, effect.data.hex()))
+            if effect.data[:2] != b"LW":
+                self.done.append((self.clock.now, effect.port, effect.data.hex()))
             return None
         text = next(replies, None) if isinstance(effect, Listen) else None
         if text:
             return Datagram(bytes.fromhex(text), self.source or self.done[-1][1])
         self.clock.now = effect.until if isinstance(effect, Listen) else self.clock.now + effect.seconds
         return None
+
+    def busy_each_time(self):
+        """Each request is answered, and in the pause after it nothing comes."""
+        return [it for number in range(1, 9) for it in (numbered(BUSY, number), None)]
 
     def test_an_acquire_is_sent_and_answered(self):
         self.assertEqual(self.carry_out(self.core.poll("acquire", "db", 0.0), GRANTED), 1)
@@ -105,7 +110,7 @@ class CoreTest(unittest.TestCase):
 
     def test_a_lock_is_asked_for_until_a_deadline(self):
         self.core.patience = 9.0
-        heard = [numbered(BUSY, number) for number in range(1, 9)]
+        heard = self.busy_each_time()
         with self.assertRaises(Busy):
             self.carry_out(self.core.poll("acquire", "db", 1.2), *heard)
         self.assertEqual([it[0] for it in self.done], [0.0, 0.5, 1.0, 1.2])
@@ -116,7 +121,7 @@ class CoreTest(unittest.TestCase):
         self.assertEqual((self.done[1][2], self.core.grants), (plain(RELEASE), {}))
 
     def test_no_request_is_begun_too_late_to_be_answered(self):
-        heard = [numbered(BUSY, number) for number in range(1, 9)]
+        heard = self.busy_each_time()
         with self.assertRaises(Exception) as raised:
             self.carry_out(self.core.poll("acquire", "db", 3.0), *heard)
         self.assertEqual((raised.exception.brief, self.clock.now, self.done[-1][0]), ("busy 8 3", 2.5, 2.5))

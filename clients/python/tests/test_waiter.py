@@ -1,5 +1,6 @@
 """Waiting without polling, under a simulated clock: who is told, what is sent, and what if no notice comes."""
 import math
+import random
 import unittest
 from unittest import mock
 
@@ -42,7 +43,7 @@ class WaiterCase(unittest.TestCase):
 
 
 class WaiterTest(WaiterCase):
-    """Clients with notices."""
+    """Clients that watch."""
 
     def test_who_waits_is_told_at_once(self):
         self.waits(1, 0.0, hold=5.0)
@@ -160,8 +161,8 @@ class WaiterTest(WaiterCase):
         self.assertLess(self.sim.free()[0], 2 * PERIOD + 3 * ROUND_TRIP)
 
     def test_losses_cost_time_and_nothing_else(self):
-        drawn = iter(range(1_000_000))
-        self.sim.is_lost = lambda data, is_request: next(drawn) * 2654435761 % 2**32 < 0.1 * 2**32
+        draw = random.Random(1)
+        self.sim.is_lost = lambda data, is_request: draw.random() < 0.1
         for number in range(1, 11):
             self.waits(number, number * 0.01, times=3)
         self.sim.run(300.0)
@@ -174,6 +175,15 @@ class WaiterTest(WaiterCase):
         self.sim.run(60.0)
         order = self.order()
         self.assertEqual(order[:40], [*[1, 2, 3] * 14][:40])
+
+    def test_a_client_that_reacquires_asks_when_its_turn_has_come(self):
+        """Its watch comes while the lock is free for another one, which has asked and is not yet granted it."""
+        self.sim.commit = 4 * ROUND_TRIP
+        clients = [self.waits(number, 0.01 * number, hold=0.05, times=20) for number in (1, 2, 3)]
+        self.sim.run(60.0)
+        self.assertEqual(self.order(), [1, 2, 3] * 20)
+        busy = 2  # the first requests of two clients
+        self.assertEqual(sum(len(self.requests(it)) for it in clients), 2 * 60 + busy)
 
     def test_a_client_that_is_alone_is_answered_at_once_when_it_reacquires(self):
         client = self.waits(1, 0.0, hold=0.01, times=5)
@@ -296,8 +306,8 @@ class WaiterTest(WaiterCase):
         self.assertEqual(self.watches(waiter, 2)[-1][1], 0)
 
 
-class DefaultTest(WaiterCase):
-    """A client without notices, while nodes that know watches have others in their queues."""
+class PollingTest(WaiterCase):
+    """A client that wants no notices, while nodes that know watches have others in their queues."""
 
     def test_only_requests_are_sent_and_a_held_lock_is_asked_for_at_intervals(self):
         self.waits(1, 0.0, hold=1.0)
@@ -336,7 +346,7 @@ class NoticeTest(unittest.TestCase):
     """Which notices are taken."""
 
     def setUp(self):
-        self.core = Calls(5, 7, [7001, 7002], notices=True)
+        self.core = Calls(5, 7, [7001, 7002])
         self.waiter = Waiter(self.core, "acquire", "db")
 
     def notice(self):
@@ -386,6 +396,12 @@ class NoticeTest(unittest.TestCase):
         ):
             self.taken(self.saying(news, place, node), 7001)
             self.assertEqual(self.waiter.kept_until > self.core.clock(), is_kept)
+
+    def test_a_lock_that_is_free_for_others_counts_as_held_until_a_second_notice(self):
+        for place, first in ((1, News.FREE), (2, News.HELD)):
+            self.notice()
+            news = [self.taken(self.saying(News.FREE, place), 7001).news for _ in range(2)]
+            self.assertEqual(news, [first, News.FREE])
 
     def test_a_leader_that_was_not_given_is_watched_too(self):
         self.core.leader = 7003

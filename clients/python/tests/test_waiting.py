@@ -36,8 +36,8 @@ class WaitingCase(unittest.TestCase):
         self.addCleanup(node.stop)
         return node
 
-    def client(self, number=7, kind=Client, first=1, node=None, notices=True, **how):
-        client = kind(5, number, [(node or self.node).port], first=first, patience=30.0, notices=notices, **how)
+    def client(self, number=7, kind=Client, first=1, node=None, **how):
+        client = kind(5, number, [(node or self.node).port], first=first, patience=30.0, **how)
         self.addCleanup(client.close)
         self.addCleanup(client.core.forget)
         return client
@@ -105,13 +105,13 @@ class WaitingTest(WaitingCase):
 
     def test_the_program_waits(self):
         self.hold(2.0)
-        process = self.run_hold("--notices")
+        process = self.run_hold()
         self.assertEqual((process.communicate(timeout=60)[0], process.returncode), ("2\n", 0))
         self.assertLessEqual(self.asked(), 3)
 
     def test_a_program_that_a_signal_ends_withdraws(self):
         self.hold(60.0)
-        process = self.run_hold("--notices")
+        process = self.run_hold()
         self.wait_for(lambda: self.last_periods() == 20)
         process.send_signal(signal.SIGTERM)
         self.assertEqual(process.wait(timeout=60), 128 + signal.SIGTERM)
@@ -218,7 +218,7 @@ class WaitingTest(WaitingCase):
         table = Table()
         old, new = self.queue_node(table=table), self.queue_node(table=table, number=2, leads=False)
         table.holders["db"], table.fences["db"] = (9,), 1
-        with Client(5, 7, [old.port, new.port], first=1, patience=30.0, notices=True) as client:
+        with Client(5, 7, [old.port, new.port], first=1, patience=30.0) as client:
             waiting = threading.Thread(target=client.acquire, args=("db", 30.0))
             waiting.start()
             self.wait_for(lambda: old.watched and new.watched)
@@ -232,8 +232,8 @@ class WaitingTest(WaitingCase):
             client.core.forget()
 
 
-class DefaultTest(WaitingCase):
-    """Without notices a node that knows watches hears none: not while a client waits, and not after a release."""
+class PollingTest(WaitingCase):
+    """A client that wants no notices sends no watch to a node that knows them: neither waiting nor after a release."""
 
     def client(self, number=7, **how):
         return super().client(number, notices=False, **how)
@@ -278,7 +278,7 @@ class DefaultTest(WaitingCase):
 
     def test_the_program_sends_requests_only(self):
         self.hold()
-        process = self.run_hold()
+        process = self.run_hold("--no-notices")
         self.assertEqual((process.communicate(timeout=60)[0], process.returncode), ("2\n", 0))
         self.check_no_watch()
 

@@ -166,9 +166,9 @@ impl Client {
     }
 
     /// Sets whether nodes say when a lock is free that [`Client::acquire_within`], [`Client::lock`] or
-    /// another call waits for, at first false. Then the client sends them watches meanwhile, and goes
-    /// behind others that wait if it released the lock within the last second. Nodes of this version do
-    /// not answer watches yet, and count each one as an unread datagram.
+    /// another call waits for, at first true. Then the client sends them watches meanwhile, and goes
+    /// behind others that wait if it released the lock within the last second. Older nodes drop watches,
+    /// and count each one as an unread datagram. With false it asks at intervals.
     pub fn set_notices(&mut self, notices: bool) {
         self.session.set_notices(notices);
     }
@@ -250,11 +250,11 @@ impl Client {
     /// If a release of this client has no answer yet, it is resumed first. If the same acquire has
     /// none, this resumes it. Any other open request is [`Error::Unanswered`].
     ///
-    /// Between two requests it waits 50 ms at first, and then longer, at most a second. It begins
-    /// anew where the fence has changed, and waits up to four seconds where it stays for longer than
-    /// half a minute. With [`Client::set_notices`] nodes that know watches say when the lock is free, in
-    /// the order in which clients came, and it asks then. While a node has put it in its queue it waits
-    /// up to four seconds between two requests.
+    /// Nodes that know watches say when the lock is free, in the order in which clients came, and it
+    /// asks then. Between two requests it waits up to four seconds while a node has put it in its
+    /// queue. Otherwise it waits 50 ms at first, and then longer, at most a second. It begins anew where
+    /// the fence has changed, and waits up to four seconds where it stays for longer than half a minute.
+    /// [`Client::set_notices`] makes it send no watches.
     ///
     #[doc = asks_a_node!()]
     /// # mod support { include!(concat!(env!("CARGO_MANIFEST_DIR"), "/tests/support/cluster.rs")); }

@@ -68,8 +68,7 @@ pub enum Event<'a> {
         /// For how long.
         since: Duration,
     },
-    /// A lock is held. It is asked for again after a pause, or with notices when a node says that it is
-    /// free.
+    /// A lock is held. It is asked for again after a pause, or when a node says that it is free.
     Waiting {
         /// The lock's name.
         name: &'a str,

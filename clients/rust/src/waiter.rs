@@ -196,11 +196,15 @@ impl Waiter {
         }
         let notice = self.ticket.notice(datagram)?;
         let leads = notice.news != News::NotHere;
+        // To this client a name is held that is free for those who came before it: a node answers a
+        // watch so with a place above 1, and tells it later that its turn has come.
+        let is_early = notice.place > 1 && post.as_ref().is_some_and(|post| post.is_open);
         if let Some(post) = post {
             (post.silent, post.is_open) = (0, false);
             post.is_queued = leads && notice.place > 0;
         }
-        self.is_free |= notice.news == News::Free && !self.is_told && !is_misled;
+        let is_free = notice.news == News::Free && !is_early;
+        self.is_free |= is_free && !self.is_told && !is_misled;
         Some(leads && is_known)
     }
 

@@ -55,7 +55,7 @@ impl Waiting {
     /// knows a greater one ignores those of this run until that watch expires, for two seconds.
     pub(crate) fn new() -> Waiting {
         Waiting {
-            notices: false,
+            notices: true,
             wait: None,
             to_send: VecDeque::new(),
             done: None,
@@ -81,10 +81,10 @@ impl Session {
     /// Begins to wait for a lock: asks for it, and asks again while another client holds it, until
     /// `wait` is over. The op is an acquire or a share. [`Session::step`] yields the last answer.
     ///
-    /// Between two requests are the waits of [`BusyWaits`](crate::BusyWaits). With
-    /// [`Session::set_notices`] the nodes are watched meanwhile: one that leads sends a notice when the
-    /// lock is free, and the lock is asked for at once. A client that released the lock within the last
-    /// second then watches first, so that those who wait have it before.
+    /// Meanwhile the nodes are watched, unless [`Session::set_notices`] has said otherwise: one that
+    /// leads sends a notice when the lock is free, and the lock is asked for at once. Where no notice
+    /// comes, it is asked for after the waits of [`BusyWaits`](crate::BusyWaits). A client that released
+    /// the lock within the last second watches first, so that those who wait have it before.
     ///
     /// The last answer comes half a second after `wait` at the latest, or within `patience` where that
     /// is longer. If the same request is open, it is resumed. Other errors are those of

@@ -3,9 +3,13 @@
 #[path = "support/cluster.rs"]
 mod support;
 
-use locks_client::{Client, ClientId, ClusterId, Error, LockState, Numbers, milliseconds};
+use locks_client::{
+    Answer, Client, ClientId, ClusterId, Error, LockState, Numbers, Op, Session, Step, milliseconds,
+};
+use std::collections::BTreeSet;
+use std::net::{SocketAddr, UdpSocket};
 use std::sync::atomic::{AtomicU32, Ordering};
-use std::time::Duration;
+use std::time::{Duration, Instant};
 use std::{env, fs, process};
 use support::{Cluster, free_ports};
 
@@ -34,6 +38,58 @@ fn a_lock_goes_from_hand_to_hand() {
     assert!(!one.check("db", 1).unwrap());
     lock.release().unwrap();
     assert_eq!(one.ask("db").unwrap(), LockState::Free { fence: 2 });
+}
+
+/// Carries a session's steps out until it has an answer. `sees` sees each datagram that it sends.
+fn run(session: &mut Session, socket: &UdpSocket, mut sees: impl FnMut(&[u8])) -> Answer {
+    let mut buffer = [0; Session::LONGEST];
+    loop {
+        match session.step(Instant::now()) {
+            Step::Send { bytes, to } => {
+                sees(&bytes);
+                socket.send_to(&bytes, to).unwrap();
+            }
+            Step::Wait { until } => {
+                let left = until.saturating_duration_since(Instant::now());
+                let left = left.max(Duration::from_millis(1));
+                socket.set_read_timeout(Some(left)).unwrap();
+                if let Ok((length, from)) = socket.recv_from(&mut buffer) {
+                    session.take(&buffer[..length], from, Instant::now());
+                }
+            }
+            Step::Done(answer) => return answer.unwrap(),
+        }
+    }
+}
+
+/// With a place in the queue of the leader a client asks 2.4 seconds after a Busy at the earliest, and
+/// so sends three watches before; without, it asks within a second, after two.
+#[test]
+#[cfg_attr(not(locks_program), ignore = "LOCKS_PROGRAM names no program")]
+fn who_waits_has_a_place_in_the_queue_of_the_leader() {
+    let cluster = Cluster::start(3);
+    let mut holder = cluster.client(1);
+    assert_eq!(holder.acquire("db").unwrap(), 1);
+    let socket = UdpSocket::bind(("127.0.0.1", 0)).unwrap();
+    let nodes: Vec<_> = (cluster.ports().iter())
+        .map(|port| SocketAddr::from(([127, 0, 0, 1], *port)))
+        .collect();
+    let (id, numbers) = (ClientId::new(2).unwrap(), Numbers::from_first(1).unwrap());
+    let mut session = Session::new(ClusterId::new(5), id, &nodes, numbers).unwrap();
+    session.open(Instant::now(), Duration::MAX).unwrap();
+    run(&mut session, &socket, |_| {});
+    let op = Op::Acquire("db".to_owned());
+    let wait = Duration::from_secs(120);
+    session.begin_wait(op, Instant::now(), wait, wait).unwrap();
+    let mut watches = BTreeSet::new();
+    let answer = run(&mut session, &socket, |bytes| {
+        if !bytes.starts_with(b"LW") {
+            watches.clear();
+        } else if watches.insert(bytes[18..26].to_vec()) && watches.len() == 3 {
+            drop(holder.release("db", 1));
+        }
+    });
+    assert_eq!(answer, Answer::Granted(2));
 }
 
 #[test]

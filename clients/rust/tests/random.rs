@@ -60,7 +60,6 @@ fn session(first: u64, told: &Arc<Mutex<BTreeSet<String>>>) -> Session {
     let numbers = Numbers::from_first(first.max(1)).unwrap();
     let id = ClientId::new(OWN).unwrap();
     let mut session = Session::new(ClusterId::new(5), id, &[node()], numbers).unwrap();
-    session.set_notices(true);
     let told = Arc::clone(told);
     session.set_log(move |event| {
         if let Event::GivenUp {

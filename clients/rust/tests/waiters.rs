@@ -143,6 +143,12 @@ impl Node {
             .position(|it| client_of(&it.watch) == client)
     }
 
+    /// Whether another client has the lock, or comes first.
+    fn waits_for_others(&self, client: u16) -> bool {
+        self.holder
+            .map_or(!self.queue.is_empty(), |holder| holder != client)
+    }
+
     /// Keeps or renews a watch, and answers it.
     fn hear(&mut self, watch: &[u8], from: SocketAddr) {
         let (client, at) = (client_of(watch), Instant::now());
@@ -153,7 +159,7 @@ impl Node {
         match place {
             Some(place) if watch[68] == 0 => drop(self.queue.remove(place)),
             Some(place) => (self.queue[place].watch, self.queue[place].at) = (watch.to_vec(), at),
-            None if watch[68] > 0 && self.holder.is_some_and(|holder| holder != client) => {
+            None if watch[68] > 0 && self.waits_for_others(client) => {
                 let (watch, told) = (watch.to_vec(), None);
                 self.queue.push(Queued {
                     watch,
@@ -207,7 +213,6 @@ fn waited(clients: u16, times: u32, loss: u64) -> Node {
                 let id = ClientId::new(id).unwrap();
                 let mut client = Client::new(ClusterId::new(5), id, &[port], numbers).unwrap();
                 client.set_patience(Duration::from_secs(60));
-                client.set_notices(true);
                 for _ in 0..times {
                     let lock = client.lock("db", Duration::MAX).unwrap();
                     assert_eq!(inside.fetch_add(1, Ordering::SeqCst), 0);

@@ -9,7 +9,7 @@ use std::net::SocketAddr;
 use std::sync::mpsc::{Receiver, channel};
 use std::thread;
 use std::time::{Duration, Instant};
-use support::{BUSY, FREE, GRANTED, Node, OWN_BUSY, RELEASED, answer, bound, client, op};
+use support::{BUSY, FREE, GRANTED, OWN_BUSY, RELEASED, answer, bound, client};
 
 const PORTS: [u16; 2] = [7001, 7002];
 const PATIENCE: Duration = Duration::from_secs(10);
@@ -55,13 +55,6 @@ struct Timed {
 impl Timed {
     /// A session whose run has begun, so that the next request has number 2.
     fn new() -> Timed {
-        let mut timed = Timed::without_notices();
-        timed.session.set_notices(true);
-        timed
-    }
-
-    /// The same session as it is by default.
-    fn without_notices() -> Timed {
         let numbers = Numbers::from_first(1).unwrap();
         let (cluster, id) = (ClusterId::new(5), ClientId::new(7).unwrap());
         let session = Session::new(cluster, id, &PORTS.map(at), numbers).unwrap();
@@ -70,6 +63,13 @@ impl Timed {
         timed.session.open(now, Duration::MAX).unwrap();
         timed.answer(answer(1, FREE));
         assert!(timed.done().is_ok());
+        timed
+    }
+
+    /// The same session, which sends no watches.
+    fn without_notices() -> Timed {
+        let mut timed = Timed::new();
+        timed.session.set_notices(false);
         timed
     }
 
@@ -236,14 +236,14 @@ fn who_came_too_late_watches_again_at_the_new_fence() {
     let (mut timed, first) = Timed::waiting();
     timed
         .session
-        .take(&notice(&first, FREE_NOW, 2), at(PORTS[0]), timed.now);
+        .take(&notice(&first, FREE_NOW, 1), at(PORTS[0]), timed.now);
     timed.answer(answer(3, "02 0009 0000000000000004"));
     let second = timed.watches();
     assert_eq!(watch(&second), (watch(&first).0 + 1, 4, 20));
     // a notice that was late or doubled
     timed
         .session
-        .take(&notice(&first, FREE_NOW, 2), at(PORTS[0]), timed.now);
+        .take(&notice(&first, FREE_NOW, 1), at(PORTS[0]), timed.now);
     assert!(timed.until() > timed.now);
 }
 
@@ -428,14 +428,14 @@ fn other_nodes_are_watched_from_the_next_watch_on() {
 }
 
 #[test]
-fn by_default_a_session_sends_requests_alone_and_waits_at_intervals() {
+fn a_session_without_notices_sends_requests_alone_and_waits_at_intervals() {
     let mut timed = released(Timed::without_notices());
     timed.begin(ms(20_000));
     let waits = [50, 100, 200, 400, 800, 800, 800];
     for (number, wait) in (4..).zip(waits) {
         timed.answer(answer(number, BUSY));
         let until = timed.until();
-        let scattered = ms(wait * 3 / 4)..=ms(wait * 5 / 4);
+        let scattered = ms(wait) * 3 / 4..=ms(wait) * 5 / 4;
         assert!(scattered.contains(&(until - timed.now)));
         timed.now = until;
     }
@@ -451,7 +451,7 @@ fn by_default_a_session_sends_requests_alone_and_waits_at_intervals() {
 }
 
 #[test]
-fn by_default_a_wait_that_is_over_is_not_withdrawn() {
+fn a_wait_without_notices_is_not_withdrawn() {
     let mut timed = Timed::without_notices();
     timed.begin(ms(30));
     timed.answer(answer(2, BUSY));
@@ -459,21 +459,6 @@ fn by_default_a_wait_that_is_over_is_not_withdrawn() {
     timed.now += ms(30);
     timed.answer(answer(3, BUSY));
     assert!(matches!(timed.done(), Err(Error::Busy { fence: 3, .. })));
-}
-
-#[test]
-fn by_default_a_client_sends_requests_alone() {
-    let rows = [GRANTED, RELEASED, BUSY, BUSY, GRANTED, RELEASED];
-    let rows = (2..).zip(rows).map(|(at, row)| vec![answer(at, row)]);
-    let node = Node::new(rows.collect());
-    let mut client = client(&[node.port]);
-    for _ in 0..2 {
-        let lock = client.lock("db", Duration::MAX).unwrap();
-        lock.release().unwrap();
-    }
-    let (acquired, freed) = (op(1, None), op(2, Some(1)));
-    let ops = [&acquired, &freed, &acquired, &acquired, &acquired, &freed];
-    assert_eq!(node.ops().iter().collect::<Vec<_>>(), ops);
 }
 
 #[test]
@@ -530,7 +515,6 @@ fn watched(is_freed: bool) -> (u16, Receiver<Vec<u8>>) {
 fn a_client_takes_a_lock_at_once_when_a_notice_comes() {
     let (port, watches) = watched(true);
     let mut client = client(&[port]);
-    client.set_notices(true);
     let start = Instant::now();
     let lock = client.lock("db", Duration::MAX).unwrap();
     let took = start.elapsed();
@@ -542,10 +526,18 @@ fn a_client_takes_a_lock_at_once_when_a_notice_comes() {
 #[test]
 fn a_client_withdraws_a_wait_that_ends() {
     let (port, watches) = watched(false);
-    let mut client = client(&[port]);
-    client.set_notices(true);
-    let refused = client.lock("db", ms(300)).map(drop).unwrap_err();
+    let refused = client(&[port]).lock("db", ms(300)).map(drop).unwrap_err();
     assert!(matches!(refused, Error::Busy { fence: 3, .. }));
     let next = || watches.recv_timeout(Duration::from_secs(20)).ok();
     assert!(std::iter::from_fn(next).any(|watch| watch[68] == 0));
+}
+
+#[test]
+fn a_client_without_notices_sends_no_watch() {
+    let (port, watches) = watched(false);
+    let mut client = client(&[port]);
+    client.set_notices(false);
+    let refused = client.lock("db", ms(300)).map(drop).unwrap_err();
+    assert!(matches!(refused, Error::Busy { fence: 3, .. }));
+    assert!(watches.recv_timeout(ms(200)).is_err());
 }

@@ -165,10 +165,13 @@ func (w *Waiter) Hear(came Datagram) (isOne, leads bool) {
 		return false, false
 	}
 	leads = notice.News != wire.NewsNotHere
+	// To this client a name is held that is free for those who came before it: a node answers a watch so with a place
+	// above 1, and tells it later that its turn has come.
+	isEarly := it != nil && it.isOpen && notice.Place > 1
 	if it != nil {
 		it.silent, it.isOpen, it.isQueued = 0, false, leads && notice.Place > 0
 	}
-	if notice.News == wire.NewsFree && !w.isTold && !w.isMisled() {
+	if notice.News == wire.NewsFree && !isEarly && !w.isTold && !w.isMisled() {
 		w.isFree = true
 	}
 	return true, leads && it != nil

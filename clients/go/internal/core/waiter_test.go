@@ -112,11 +112,23 @@ func TestOneNoticeOfEachWatchIsFollowed(t *testing.T) {
 func TestAWaiterThatComesTooLateWatchesAgainAtOnce(t *testing.T) {
 	w := waiter()
 	w.Busy(start, 3)
-	w.Hear(notice(ticket(1, 3), wire.NewsFree, 2, two))
+	w.Hear(notice(ticket(1, 3), wire.NewsFree, 1, two))
 	w.Ask(after(10))
 	wantWatches(t, w.Busy(after(11), 4), ticket(2, 4), 20, one, two, three)
-	w.Hear(notice(ticket(2, 4), wire.NewsFree, 2, two))
+	w.Hear(notice(ticket(2, 4), wire.NewsFree, 1, two))
 	if !w.Ask(after(12)) {
+		t.Error("does not ask")
+	}
+}
+
+func TestALockThatIsFreeForOthersIsAskedForWhenItsTurnHasCome(t *testing.T) {
+	w := waiter()
+	w.Busy(start, 3)
+	free := notice(ticket(1, 3), wire.NewsFree, 2, two)
+	if !hear(w, free) || !w.IsQueued() || w.Ask(after(2000)) {
+		t.Error("asks at the answer to its watch")
+	}
+	if !hear(w, free) || !w.Ask(after(2000)) {
 		t.Error("does not ask")
 	}
 }

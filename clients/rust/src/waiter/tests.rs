@@ -110,12 +110,23 @@ fn one_notice_of_each_watch_is_followed() {
 fn a_waiter_that_comes_too_late_watches_again_at_once() {
     let (mut waiter, start) = waiter();
     waiter.busy(start, 3);
-    waiter.hear(&notice(&ticket(1, 3), FREE, 2), at(7002), false);
+    waiter.hear(&notice(&ticket(1, 3), FREE, 1), at(7002), false);
     waiter.ask();
     let again = waiter.busy(start + ms(11), 4);
     assert_eq!(again, watches(&ticket(2, 4), PERIODS, &ALL));
-    waiter.hear(&notice(&ticket(2, 4), FREE, 2), at(7002), false);
+    waiter.hear(&notice(&ticket(2, 4), FREE, 1), at(7002), false);
     assert_eq!(waiter.asks_at(), start + ms(11));
+}
+
+#[test]
+fn a_lock_that_is_free_for_others_is_asked_for_when_its_turn_has_come() {
+    let (mut waiter, start) = waiter();
+    waiter.busy(start, 3);
+    let free = notice(&ticket(1, 3), FREE, 2);
+    waiter.hear(&free, at(7002), false); // answers the watch
+    assert!(waiter.asks_at() > start + ms(2000));
+    waiter.hear(&free, at(7002), false);
+    assert_eq!(waiter.asks_at(), start);
 }
 
 #[test]

@@ -49,7 +49,6 @@ fn waiting() -> (Sealed, Vec<u8>) {
     let numbers = Numbers::from_first(1).unwrap();
     let (cluster, id) = (ClusterId::new(5), ClientId::new(7).unwrap());
     let mut session = Session::new(cluster, id, &[NODE], numbers).unwrap();
-    session.set_notices(true);
     session.set_key(Keys::read(&"11".repeat(32)).unwrap());
     let now = Instant::now();
     let op = Op::Acquire("db".to_owned());

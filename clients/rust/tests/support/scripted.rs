@@ -100,12 +100,12 @@ fn serve(socket: &UdpSocket, rows: Vec<Vec<Vec<u8>>>) -> Vec<Vec<u8>> {
     heard
 }
 
-/// The next datagram that is another one than that.
+/// The next datagram that is another one than that, and no watch: an old node knows none.
 fn received(socket: &UdpSocket, answered: &[u8]) -> Option<(Vec<u8>, SocketAddr)> {
     let mut buffer = [0; 100];
     loop {
         let (length, from) = socket.recv_from(&mut buffer).ok()?;
-        if buffer[..length] != *answered {
+        if buffer[..length] != *answered && !buffer.starts_with(b"LW") {
             return Some((buffer[..length].to_vec(), from));
         }
     }
