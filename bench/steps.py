@@ -1,7 +1,11 @@
 #!/usr/bin/env python3
 """Counts the instructions of a step of a node, by the kind of datagram that it takes.
 
-Usage: bench/steps.py [--times N] [PROGRAM ..]
+Usage: bench/steps.py [--times N] [--node [--waiters W]] [PROGRAM ..]
+
+With --node it counts those of a pair of an acquire and a release at a node that runs, with its turns, its socket and
+its disk, and is a cluster by itself: the difference between 2 N pairs and N pairs. Meanwhile W clients wait for another
+name, which is held. Their watches are sent once, and live for some 80 pairs.
 
 It needs valgrind, whose callgrind counts instructions, the same number for the same program and script, whatever else
 the machine does. A script of world mode brings three nodes to where a datagram of the kind was sent. Then it is
@@ -13,10 +17,17 @@ measured on the same scripts; the built one if none is named.
 import argparse
 import re
 import shutil
+import socket
 import subprocess
+import tempfile
 
 from cluster import built
+from locks_client import Client, milliseconds, notices
+from systems import Locks
 
+COUNTING = ["valgrind", "--tool=callgrind", "--callgrind-out-file=/dev/null"]
+LONGEST = 128  # bytes that are read of a notice
+COUNTED = re.compile(r"Collected : (\d+)")
 SENT = re.compile(r"sent (\d+) (?:c\d+|n(\d)) n(\d) (\w+)")
 
 
@@ -75,10 +86,9 @@ def cases(program):
 
 def instructions(program, lines):
     """How many instructions the program takes for a script."""
-    words = ["valgrind", "--tool=callgrind", "--callgrind-out-file=/dev/null", program, "sim"]
     script = "".join(f"{line}\n" for line in lines)
-    done = subprocess.run(words, input=script, capture_output=True, text=True, check=True)
-    return int(re.search(r"Collected : (\d+)", done.stderr)[1])
+    done = subprocess.run([*COUNTING, program, "sim"], input=script, capture_output=True, text=True, check=True)
+    return int(COUNTED.search(done.stderr)[1])
 
 
 def step(program, lines, line, before, times):
@@ -93,14 +103,50 @@ def step(program, lines, line, before, times):
     return (of([*before, line]) - of(before)) / times
 
 
+class Alone(Locks):
+    """A node that is a cluster by itself."""
+
+    size = 1
+
+
+def wait_in_line(client, port, waiters):
+    """Has so many other clients wait for a name that the client holds."""
+    fence = client.acquire("held") if waiters else 0
+    with socket.socket(socket.AF_INET, socket.SOCK_DGRAM) as it:
+        it.connect(("127.0.0.1", port))
+        for number in range(2, 2 + waiters):
+            it.send(notices.watch_bytes(client.cluster, notices.Ticket(number, 1, fence, "acquire", "held")))
+            it.recv(LONGEST)
+
+
+def of_node(program, pairs, waiters):
+    """How many instructions a node takes from its start until a client has done so many pairs."""
+    with tempfile.TemporaryDirectory() as folder, Alone(folder, COUNTING, program=program, alpha=8) as node:
+        with Client(node.cluster, 1, node.ports.values(), first=milliseconds(), patience=60) as client:
+            wait_in_line(client, node.ports[1], waiters)
+            for _ in range(pairs):
+                client.release("db", client.acquire("db"))
+        process = node.processes[1]
+        process.terminate()
+        process.wait()
+        return int(COUNTED.search((node.folder / "1.log").read_text())[1])
+
+
 def main():
     parser = argparse.ArgumentParser(description="Counts the instructions of a step, by the kind of datagram.")
     parser.add_argument("--times", type=int, default=1000, help="how often each is delivered, 1000 if not given")
+    parser.add_argument("--node", action="store_true", help="those of a pair, at a node that runs")
+    parser.add_argument("--waiters", type=int, default=0, help="how many clients wait meanwhile, 0 if not given")
     parser.add_argument("program", nargs="*", help="the programs; the wrapper builds one if none is given")
     args = parser.parse_args()
     if not shutil.which("valgrind"):
         parser.error("valgrind is not on the path; Debian: apt-get install valgrind")
     programs = args.program or [built()]
+    if args.node:
+        counts = [[of_node(it, times * args.times, args.waiters) for times in (1, 2)] for it in programs]
+        each = [(twice - once) / args.times for once, twice in counts]
+        print(f"A pair: {', '.join(f'{it:,.0f}' for it in each)} instructions")
+        return
     for kind, *case in cases(programs[0]):
         print(f"{kind}: {', '.join(f'{step(it, *case, args.times):,.0f}' for it in programs)} instructions", flush=True)
 
