@@ -6,11 +6,12 @@ from harness.by_bytes import bytes_of
 
 # A probe of cluster 5 by nobody's key, but for its form, its token and the zeros behind.
 PROBE = "4c50{:02x}09 0000000000000005 00000000 0000 {:016x}"
-LENGTH, LONG = 174, 178
+LENGTH, LONG = 174, 182
 
-# The last bytes of a report of form 2: how many members are heard, plus 1, and whether bundles are read and sent.
-UNKNOWN = "0000 01 00"
-SENDS = "0000 01 01"
+# The last bytes of a report of form 2: how many members are heard, plus 1, whether bundles are read and sent, and how
+# many watches and names the node keeps.
+UNKNOWN = "0000 01 00 0000 0000"
+SENDS = "0000 01 01 0000 0000"
 
 GENESIS = "11" * 32
 OTHER_GENESIS = "22" * 32
@@ -48,9 +49,9 @@ def report(
     return bytes_of(head, leadership, progress, traffic, members).ljust(LENGTH, b"\0") + bytes_of(reach or "")
 
 
-def heard(count):
-    """The reach of a node that hears so many members, and reads bundles."""
-    return f"{count + 1:04x} 01 00"
+def heard(count, watches=0, names=0):
+    """The reach of a node that hears so many members, reads bundles, and keeps so many watches and names."""
+    return f"{count + 1:04x} 01 00 {watches:04x} {names:04x}"
 
 
 def probe(form, token=0):

@@ -1,4 +1,5 @@
-"""Relays on loopback: one between nodes cuts, loses, delays, repeats and reorders; one carries a port to another."""
+"""Relays on loopback: one between nodes cuts, loses, delays, repeats and reorders; one carries a port to another; one
+stands between clients and nodes."""
 import contextlib
 import heapq
 import itertools
@@ -90,3 +91,64 @@ class Forward:
                 data = self.socket.recv(9000)
                 self.carried.append(data)
                 self.socket.sendto(data, self.to)
+
+
+class Between:
+    """Carries datagrams between clients and the nodes of these ports, each by a port of `ports`, both ways. A client
+    that is told where the leader listens is told the port here.
+
+    carries: the datagrams that are carried in place of one, given the node, the bytes, and whether a client sent it."""
+
+    ELSEWHERE = b"LK\x01\x0b"
+
+    def __init__(self, nodes):
+        self.carries = lambda node, data, is_asked: [data]
+        self.nodes, self.fronts, self.backs = dict(nodes), {}, {}
+        self.selector, self.is_over = selectors.DefaultSelector(), False
+        for node in self.nodes:
+            self.fronts[node] = self.bound((node, None))
+        self.ports = {node: it.getsockname()[1] for node, it in self.fronts.items()}
+        self.thread = threading.Thread(target=self.run, daemon=True)
+        self.thread.start()
+
+    def __enter__(self):
+        return self
+
+    def __exit__(self, *_):
+        self.is_over = True
+        self.thread.join()
+        for key in list(self.selector.get_map().values()):
+            key.fileobj.close()
+
+    def bound(self, pair):
+        """A socket for a node, and for a client if it is one that speaks to the node."""
+        made = socket.socket(socket.AF_INET, socket.SOCK_DGRAM)
+        made.bind(("127.0.0.1", 0))
+        self.selector.register(made, selectors.EVENT_READ, pair)
+        return made
+
+    def run(self):
+        while not self.is_over:
+            for key, _ in self.selector.select(0.02):
+                with contextlib.suppress(OSError):
+                    self.take(key.fileobj, *key.data)
+
+    def take(self, it, node, client):
+        """Takes a datagram of a client, or of a node for that client."""
+        data, sender = it.recvfrom(9000)
+        if client is None:
+            if (node, sender) not in self.backs:
+                self.backs[node, sender] = self.bound((node, sender))
+            it, to = self.backs[node, sender], ("127.0.0.1", self.nodes[node])
+        else:
+            it, to, data = self.fronts[node], client, self.told(data)
+        for carried in self.carries(node, data, client is None):
+            it.sendto(carried, to)
+
+    def told(self, data):
+        """The datagram of a node as a client gets it."""
+        if data[:4] != self.ELSEWHERE:
+            return data
+        port = int.from_bytes(data[-2:], "big")
+        here = next((self.ports[node] for node, its in self.nodes.items() if its == port), port)
+        return data[:-2] + here.to_bytes(2, "big")

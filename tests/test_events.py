@@ -29,6 +29,13 @@ JOINS = (
 )
 
 
+def acquires(first, count):
+    """Client 7 acquires so many names, at the positions from this one on: that many new names of the table."""
+    names = {at: f"n{at:03}".encode().hex() for at in range(first, first + count)}
+    requests = "".join(f" 01 0007 {at:016x} 00 06 01 04 {name}" for at, name in names.items())
+    return f"4c4b0106 0000000000000005 00000001 {first:016x} {count:02x}{requests}"
+
+
 class Told(Cluster):
     """A cluster whose nodes tell their events into a file each, beside their folders."""
 
@@ -246,6 +253,19 @@ class LagTest(unittest.TestCase):
         told = re.findall(r"node 2 (heard \d+ datagrams? of another cluster)", self.node.process.stderr.read())
         counts = ("1 datagram", "2 datagrams", "4 datagrams")
         self.assertEqual(told, [f"heard {count} of another cluster" for count in counts])
+
+    def test_a_table_that_fills_up_is_told(self):
+        self.node.start()
+        self.leads(0.5)
+        for first in range(1, 461, 10):
+            self.node.send(self.node.bytes_of(acquires(first, 10)))
+            self.leads(0.05)
+        self.leads(0.5)
+        self.node.send(self.node.bytes_of(acquires(461, 1)))
+        self.leads(0.5)
+        self.node.process.kill()
+        told = re.findall(r"WARN .* node 2 (fills up.*)", self.node.process.stderr.read())
+        self.assertEqual(told, ["fills up: names 461 of 512"])
 
 
 if __name__ == "__main__":

@@ -161,6 +161,7 @@ class HearingTest(unittest.TestCase):
         self.comes(lambda: self.status()[0] == 0)
         why = r"why: node 3 hears no majority, and could not read \d+ of what came: compare its key with the others'\n"
         self.comes(lambda: re.search(why, self.status()[1]))
+        self.comes(lambda: "hears 1 of 3 members, no majority" in self.log(3))
         status, text = self.status("--until", "ready", "3")
         self.assertEqual(status, 1, text)
         self.end(self.processes[2])

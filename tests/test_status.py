@@ -60,6 +60,10 @@ class StatusTest(unittest.TestCase):
         self.assertIn("node 2, port b: follows 1, heard 1 tick ago, executed 10", lines[1])
         self.assertIn(", hears 0 of 3 members, no majority, executed 10", lines[2])
         self.assertEqual(self.asks(answers, "--until", "ready", "1")[0], 1)
+        former = node(1, leads=1, promised=2, reach=heard(1))
+        others = [node(2, leads=1, reach=heard(2)), node(3, leader=2, reach=heard(2))]
+        lines = self.tells([former, *others], 0, "why: node 1, which leads, hears no majority: check what keeps")
+        self.assertEqual("\n".join(lines).count("why:"), 1, lines)
         why = "why: node 3 hears no majority, and could not read 5 of what came: compare its key with the others'"
         self.tells([node(1, leads=1, reach=heard(2)), *answers[1:]], 0, why)
         self.tells([node(1, leads=1), *answers[1:]], 0)
@@ -68,7 +72,7 @@ class StatusTest(unittest.TestCase):
         why = "why: node 2 may not read the bundles of others: start it with this program, or them without --bundle"
         lines = self.tells([node(1, leads=1, reach=SENDS), older(2), node(3)], 0, why)
         self.assertEqual("\n".join(lines).count("why:"), 1, lines)
-        self.tells([node(1, leads=1, reach=SENDS), node(2, reach="0000 00 00"), node(3)], 0, why)
+        self.tells([node(1, leads=1, reach=SENDS), node(2, reach="0000 00 00 0000 0000"), node(3)], 0, why)
         lines = self.tells([node(1, leads=1), older(2), node(3)], 0)
         self.assertNotIn("why:", "\n".join(lines))
 
@@ -82,14 +86,21 @@ class StatusTest(unittest.TestCase):
             f"node 1, port a: leads, executed 12, {tail}",
             f"node 2, port b: follows 1, heard 1 tick ago, executed 10 (2 behind), {tail}",
             f"node 3, port c: follows 1, heard 1 tick ago, executed 12, {tail}",
-            "majority: 3 of 3 up",
+            "majority: 3 of 3 up; names 0 of 512",
         ])
 
     def test_one_of_a_kind_is_told_in_the_singular(self):
         self.tells([node(1, leads=1, waiting=1, unsent=1), node(2), node(3)], 0, ", 1 request waits, 1 send failed\n")
 
     def test_a_raised_table_is_told(self):
-        self.tells([node(1, leads=1, build=RAISED), node(2), node(3)], 0, "majority: 3 of 3 up; raised")
+        self.tells([node(1, leads=1, build=RAISED), node(2), node(3)], 0, "majority: 3 of 3 up; names 0 of 512; raised")
+
+    def test_watches_and_names_are_told(self):
+        leader = node(1, leads=1, reach=heard(2, watches=3, names=511))
+        lines = self.tells([leader, node(2, reach=heard(2, names=512)), older(3)], 0)
+        self.assertEqual([line.endswith(", 6 sends failed, watches 3") for line in lines], [True, False, False, False])
+        self.assertEqual(["watches" in line for line in lines], [True, False, False, False])
+        self.assertEqual(lines[-1], "majority: 3 of 3 up; names 512 of 512")
 
     def test_a_majority_is_enough(self):
         lines = self.tells([node(1, leads=1), silent, node(3)], 0, "port b: no answer", "majority: 2 of 3 up")
@@ -112,7 +123,7 @@ class StatusTest(unittest.TestCase):
         answers = [node(1, leader=3), node(2, leader=3), node(3, leader=0, silence=0)]
         why = "why: nobody leads: an election takes seconds; if it lasts, node 3 sends and hears nobody"
         self.tells(answers, 1, why)
-        self.tells([*answers[:2], silent], 1, "if it lasts, node 3 sends and hears nobody")
+        self.tells([*answers[:2], silent], 1, "if it lasts, node 3, which others follow, does not answer: stop it, and")
 
     def test_who_hears_a_majority_and_is_not_elected_lacks_long_datagrams(self):
         """Reports of nodes whose probes pass and whose promises do not."""
@@ -123,6 +134,14 @@ class StatusTest(unittest.TestCase):
         seeks = node(1, leader=3, silence=0, reach=heard(3))
         why = "why: node 1 seeks votes, and hears a majority: if that lasts, let long datagrams pass (fragments)"
         self.tells([seeks, node(2, leads=1), node(3, leader=2)], 0, why)
+
+    def test_a_leader_that_has_just_died_shows_nothing_of_long_datagrams(self):
+        first, second = (node(number, leader=3, silence=9, reach=heard(2)) for number in (1, 2))
+        why = "why: nobody leads: an election takes seconds; if it lasts, node 3, which others follow, does not answer"
+        seeks = node(1, leader=3, silence=0, reach=heard(2))
+        for answers in ([first, second, silent], [seeks, second, silent]):
+            lines = self.tells(answers, 1, why)
+            self.assertEqual("\n".join(lines).count("why:"), 1, lines)
 
     def test_a_node_that_is_cut_off_is_named(self):
         answers = [node(1, leads=1), node(2), node(3, reach=heard(1), unread=0)]
@@ -168,10 +187,11 @@ class StatusTest(unittest.TestCase):
 
     def test_the_genesis_that_most_nodes_tell_is_the_measure(self):
         alone = node(4, genesis=OTHER_GENESIS, leads=1, promised=9, executed=90, members="01 00000004 1b5c")
-        lines = self.tells([alone, node(1, leads=1), node(2), node(3)], 1, "majority: 3 of 3 up; genesis differs: 4")
+        told = "majority: 3 of 3 up; names 0 of 512; genesis differs: 4"
+        lines = self.tells([alone, node(1, leads=1), node(2), node(3)], 1, told)
         self.assertNotIn("behind", "\n".join(lines))
         answers = [alone, node(1, leader=0), node(2, leader=0)]
-        self.tells(answers, 1, "2 of 3 up; genesis differs: 4", "why: nobody leads")
+        self.tells(answers, 1, "2 of 3 up; names 0 of 512; genesis differs: 4", "why: nobody leads")
 
     def test_of_two_geneses_that_as_many_tell_that_of_the_leader_is_the_measure(self):
         other = lambda number, **parts: node(number, genesis=OTHER_GENESIS, **parts)
@@ -208,17 +228,17 @@ class StatusTest(unittest.TestCase):
                     good = bytearray(report(1, token_of(probe), leads=1))
                     good[place] = byte
                     return [bytes(good)]
-                self.assertEqual(self.asks([spoiled], "--wait", "100")[1][0], "port a: no answer")
+                self.assertEqual(self.asks([spoiled], "--wait", "100")[1][0], "port a: no answer from 127.0.0.1")
         for place, byte in ((2, 1), (3, 9), (173, 1), (174, 2), (176, 2), (177, 2)):
             with self.subTest(place=place, form=2):
                 def spoiled(probe):
-                    good = bytearray(report(1, token_of(probe), leads=1, reach="0100 01 01"))
+                    good = bytearray(report(1, token_of(probe), leads=1, reach="0100 01 01 ffff ffff"))
                     self.assertEqual(len(good), LONG)
                     good[place] = byte
                     return [bytes(good), bytes(good[:-1]), bytes(good + b"\0")]
-                self.assertEqual(self.asks([spoiled], "--wait", "100")[1][0], "port a: no answer")
+                self.assertEqual(self.asks([spoiled], "--wait", "100")[1][0], "port a: no answer from 127.0.0.1")
         cut = lambda probe: [report(1, token_of(probe))[:-1], report(1, token_of(probe)) + b"\0", b"", b"x"]
-        self.assertEqual(self.asks([cut], "--wait", "100")[1][0], "port a: no answer")
+        self.assertEqual(self.asks([cut], "--wait", "100")[1][0], "port a: no answer from 127.0.0.1")
 
     def test_whoever_is_silent_is_asked_again(self):
         seen = []
@@ -236,7 +256,7 @@ class StatusTest(unittest.TestCase):
         self.assertLess(time.monotonic() - began, 1.0)
 
     def test_json_is_one_object(self):
-        status, lines = self.asks([node(1, leads=1, reach=heard(2)), silent, older(3)], "--json")
+        status, lines = self.asks([node(1, leads=1, reach=heard(2, names=7)), silent, older(3)], "--json")
         self.assertEqual((status, len(lines)), (0, 1))
         told = json.loads(re.sub(r'"port":([a-z])', r'"port":"\1"', lines[0]))
         self.assertEqual(
@@ -247,8 +267,9 @@ class StatusTest(unittest.TestCase):
         self.assertEqual(second, {"port": "b", "up": False})
         self.assertEqual((first["leads"], third["leads"], third["leader"]), (1, 0, 1))
         self.assertEqual((first["members_heard"], first["reads_bundles"], first["sends_bundles"]), (2, 1, 0))
-        self.assertNotIn("members_heard", third)
-        self.assertNotIn("reads_bundles", third)
+        self.assertEqual((first["watches"], first["names"]), (0, 7))
+        for name in ("members_heard", "reads_bundles", "watches", "names"):
+            self.assertNotIn(name, third)
         self.assertEqual((first["genesis"], first["program"], first["member_nodes"]), (GENESIS, "0.1.0", [1, 2, 3]))
         self.assertEqual(
             (first["executed_positions"], first["unread_datagrams_total"], first["promised_round"]), (10, 5, 3)
@@ -256,7 +277,7 @@ class StatusTest(unittest.TestCase):
         self.assertEqual(first["change_pending_positions"], 1)
 
     def test_metrics_have_a_type_and_one_value_each(self):
-        leader = node(1, leads=1, leader=0, reach=heard(2))
+        leader = node(1, leads=1, leader=0, reach=heard(2, watches=4, names=461))
         status, lines = self.asks([leader, silent, node(3, reach=SENDS)], "--prometheus")
         self.assertEqual(status, 0)
         metrics = [line for line in lines if not line.startswith("#")]
@@ -273,22 +294,33 @@ class StatusTest(unittest.TestCase):
             'locks_members_heard{cluster="5",node="1",address="127.0.0.1",port="a"} 2',
             'locks_reads_bundles{cluster="5",node="3",address="127.0.0.1",port="c"} 1',
             'locks_sends_bundles{cluster="5",node="3",address="127.0.0.1",port="c"} 1',
+            'locks_watches{cluster="5",node="1",address="127.0.0.1",port="a"} 4',
+            'locks_names{cluster="5",node="1",address="127.0.0.1",port="a"} 461',
         ]
         for line in expected:
             self.assertIn(line, metrics)
         self.assertNotIn('locks_members_heard{cluster="5",node="3"', "\n".join(metrics))
 
-    def test_nodes_at_one_port_of_several_machines_have_labels_of_their_own(self):
+    def asks_machines(self, *words):
+        """The port and the lines of the program where three nodes have one port, and only the first answers."""
         hosts = os.path.join(self.enterContext(tempfile.TemporaryDirectory()), "hosts")
         with open(hosts, "w", encoding="ascii") as file:
             file.write("2 127.0.0.2\n3 127.0.0.3\n")
         with Peers([node(1, leads=1)]) as peers:
             [port] = peers.ports
             targets = [f"{number}:{port}" for number in (1, 2, 3)]
-            command = [PROGRAM, "status", "--cluster", "5", "--port", *targets, "--hosts", hosts, "--prometheus"]
+            command = [PROGRAM, "status", "--cluster", "5", "--port", *targets, "--hosts", hosts, *words]
             process = subprocess.Popen(command, stdout=subprocess.PIPE, stderr=subprocess.PIPE, text=True)
-            _, out, _ = peers.serve(process)
-        ups = [line for line in out.splitlines() if line.startswith("locks_up{")]
+            return port, peers.serve(process)[1].splitlines()
+
+    def test_who_does_not_answer_is_named_with_its_address(self):
+        port, lines = self.asks_machines()
+        silent = [f"node {node}, port {port}: no answer from 127.0.0.{node}" for node in (2, 3)]
+        self.assertEqual(lines[1:3], silent, lines)
+
+    def test_nodes_at_one_port_of_several_machines_have_labels_of_their_own(self):
+        port, lines = self.asks_machines("--prometheus")
+        ups = [line for line in lines if line.startswith("locks_up{")]
         place = 'locks_up{{cluster="5",node="{}",address="{}",port="{}"}} {}'
         told = [(1, "127.0.0.1", port, 1), (2, "127.0.0.2", port, 0), (3, "127.0.0.3", port, 0)]
         self.assertEqual(ups, [place.format(*it) for it in told])

@@ -1,7 +1,9 @@
 #!/usr/bin/env python3
-"""Draws what a script of world mode does, as SVG on standard output.
+"""Draws what a script of world mode does, as SVG on standard output; or, given a file NAME.out, what clients and a node
+say to each other: its lines are `FROM to TO: WORDS`, or tell what happens next.
 
-With --check it draws each picture docs/pictures/tour_NAME.svg again from examples/tour_NAME.txt, and says which differ.
+With --check it draws each picture docs/pictures/tour_NAME.svg again from examples/tour_NAME.txt, or else from
+examples/tour_NAME/run.out, and says which differ.
 
 Each client and node has a lane, time goes downwards, and each line that the program prints and each input of a group
 has a line of the picture to itself, so no text lies upon another. It runs each prefix of the script to find what
@@ -298,7 +300,56 @@ class Picture:
         return svg.document(STYLE, WIDTH, self.y, parts)
 
 
+class Talk(Picture):
+    """A picture of datagrams between clients and nodes. What a client says and hears stands beside its lane, which is
+    thick while the client holds the lock."""
+
+    def __init__(self, lines):
+        told = [("genesis", [], 0)]
+        for line in lines:
+            said = re.fullmatch(r"(\w+) to (\w+): (.*)", line)
+            if said:
+                told[-1][1].append(f"sent {len(told)} {said[1]} {said[2]} {said[3]}")
+            else:
+                told.append((line, [], 0))
+        super().__init__(told)
+        self.up = {name: HEAD - 12 for name in self.names if name[0] == "n"}
+
+    def event(self, line, output, calls):
+        """Draws the datagrams of an event, a line each."""
+        self.ground = "paper" if self.ground == "band" else "band"
+        high = PITCH * len(output)
+        self.under.append(f'<rect class="{self.ground}" y="{self.y - 10}" width="{WIDTH}" height="{high}"/>')
+        self.text(8, self.y, line)
+        for said in output:
+            self.datagram(*said.split(" ", 4)[2:])
+            self.y += PITCH
+
+    def datagram(self, frm, to, words):
+        """Draws a datagram, and begins or ends the hold of a client."""
+        client = frm if frm[0] == "c" else to
+        if words == "release":
+            self.path(f"M{self.x[client]} {self.up.pop(client)}V{self.y}", "lane")
+        if words.startswith("granted "):
+            self.up[client] = self.y
+        self.arrow(self.x[frm], self.y, self.x[to], self.y, "line")
+        self.text(self.x[client] + 16, self.y, words, "name" if words.startswith(("granted ", "free,")) else "label")
+
+    def legend(self):
+        """A row under the picture: each kind of line, with what it means."""
+        self.ground, y = "paper", self.y + 24
+        self.under.append(f'<path class="down" d="M0 {y - 20}H{WIDTH}"/>')
+        self.arrow(12, y, 50, y, "line")
+        self.text(60, y, "datagram")
+        for x, kind, words in ((240, "lane", "node, or client that holds the lock"), (566, "down", "client")):
+            self.path(f"M{x} {y}h36", kind)
+            self.text(x + 48, y, words)
+        self.y = y + 20
+
+
 def draw(program, script):
+    if script.suffix == ".out":
+        return Talk(script.read_text().splitlines()).svg()
     told = events(program, script.read_text())
     if not told or not told[0][0].startswith("genesis "):
         sys.exit(f"{script}: a script of world mode begins with the line genesis CLUSTER ALPHA NODE:PORT ..")
@@ -308,7 +359,8 @@ def draw(program, script):
 def check(program):
     differ = 0
     for picture in sorted((TOP / "docs" / "pictures").glob("tour_*.svg")):
-        same = picture.read_text() == draw(program, TOP / "examples" / f"{picture.stem}.txt")
+        script = TOP / "examples" / f"{picture.stem}.txt"
+        same = picture.read_text() == draw(program, script if script.exists() else script.with_suffix("") / "run.out")
         differ += not same
         print(f"{picture.name}: {'as drawn' if same else 'DIFFERS'}", flush=True)
     return int(differ > 0)

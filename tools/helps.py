@@ -14,7 +14,7 @@ import tempfile
 
 from scripting import TOP, Tally, parser
 
-FOLDERS = ("", "tools", "tools/systemd", "bench", "clients", "examples/one_writer")
+FOLDERS = ("", "tools", "tools/systemd", "bench", "clients", "examples/one_writer", "examples/tour_11_waiters")
 SECONDS = 30
 
 

@@ -1,7 +1,10 @@
 //! What a UDP socket does with bundles: it keeps back what is sent within a group, and hands out what has come together
 //! one datagram after another.
 
-ghost use Rattle.std.specs.Prelude.{◌≡◌, ◌≤◌, ◌<◌, length, vec_len, IfSome};
+ghost use Rattle.std.specs.Prelude.{◌≡◌, ◌≤◌, ◌<◌, ◌⊎◌, ℕ, List, [], Some, length, take, vec_len, IfSome, IsSome};
+ghost use Rattle.std.specs.Prelude.{IsNone};
+ghost use Rattle.lk_bundle.specs.Bundles.{Bundles};
+ghost use Rattle.lk_bundle.specs.Opened.{HandsOutFirst, LeavesPayload, OpensBundle};
 
 use crate::bundle::{Bundle, is_piece};
 use crate::pieces::Pieces;
@@ -9,6 +12,7 @@ use lk_types::NodeNo;
 use lk_types::limits::MAX_DATAGRAM;
 use std::alloc::Global;
 use std::io;
+use std::marker::Model;
 use std::net::{SocketAddr, UdpSocket};
 
 // The most addresses to which bundles are kept back: more than a cluster has members.
@@ -188,18 +192,32 @@ pub struct OpenedBundle {
     from: SocketAddr,
 }
 
+impl Model for OpenedBundle {
+    ghost use Rattle.lk_bundle.specs.Opened.{OpenedValue};
+
+    ghost Value = { OpenedValue };
+
+    ghost view = { λ o. record { left = o.pieces; from = o.from } };
+}
+
 impl OpenedBundle {
     /// Nothing. It takes memory at the first bundle.
-    pub fn new(alloc: Global, address: SocketAddr) -> OpenedBundle {
+    pub fn new(alloc: Global, address: SocketAddr) -> OpenedBundle
+        ensures { result ≡ record { left = []; from = address } }
+    {
         OpenedBundle {
             pieces: Pieces::new(alloc),
             from: address,
         }
     }
 
-    /// Puts the next datagram into the buffer, and returns its length and its source; `None` if none is left.
+    /// Puts the next datagram into the buffer, and returns its length and its source; `None` if none is left. What does
+    /// not fit is lost.
     pub fn next(&mut self, buffer: &mut [u8]) -> Option<(usize, SocketAddr)>
+        ensures some { IfSome result
+            (λ r. HandsOutFirst (length buffer.old) self.old (take r.0 buffer.new) r.1 self.new) }
         ensures within { IfSome result (λ r. r.0 ≤ length buffer.new) }
+        ensures none { IsNone result → (self.old.left ≡ []) × (self.new ≡ self.old) }
     {
         let length = self.pieces.take_next(buffer)?;
         Some((length, self.from))
@@ -215,7 +233,15 @@ impl OpenedBundle {
         from: SocketAddr,
     ) -> Option<(usize, SocketAddr)>
         requires { end ≤ length buffer.old }
+        // It hands out the first datagram of a bundle, and keeps the others; or what came stays, and nothing is left.
+        ensures some { IfSome result (λ r.
+            OpensBundle (length buffer.old) (take end buffer.old) from (take r.0 buffer.new) r.1 self.new
+            ⊎ LeavesPayload end from buffer.old buffer.new r self.new) }
+        // A payload that is no bundle stays.
+        ensures bare { ((datagrams : List (List ℕ)) → Bundles datagrams (take end buffer.old) → ⊥)
+            → (result ≡ Some (end, from)) × (buffer.new ≡ buffer.old) × (self.new.left ≡ []) }
         ensures within { IfSome result (λ r. r.0 ≤ length buffer.new) }
+        ensures always { IsSome result }
     {
         match self.pieces.fill(&buffer[..end]) {
             Ok(true) => {

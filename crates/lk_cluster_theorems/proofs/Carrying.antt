@@ -36,10 +36,17 @@ use Rattle.lk_transport.specs.Inquiring.{SendsProbe, question_by}
 use Rattle.lk_transport.specs.Listening.{HearsIf, HearsKept, ProbesAt, ProbesOther, ProbesMembers, ProbesIf}
 use Rattle.lk_transport.specs.Listening.{SendsSealedProbe, member_probe}
 use Rattle.lk_transport.specs.Posts.{SendState, Becomes, Loses, frame_of, keys_for, carried, all_filtered}
-use Rattle.lk_transport.specs.Posts.{is_filtered_out, is_probe_or_report}
+use Rattle.lk_transport.specs.Posts.{is_filtered_out, is_beside_protocol}
 use Rattle.lk_transport.specs.declared.received_probe.ReceivedProbe.{ReceivedProbe}
 use Rattle.lk_server.specs.Premises.{IsNoNodeMessage}
 use Rattle.lk_server.specs.ProbeHandling.{HandlesProbes, ListensFor}
+use Rattle.lk_server.specs.WatchHandling.{HandlesWatches}
+use Rattle.lk_server_replica.specs.Tables.{table_of}
+use Rattle.lk_transport.specs.Watches.{SendsNotice, SendsNotices, notice_by}
+use Rattle.lk_transport.specs.declared.received_watch.ReceivedWatch.{ReceivedWatch}
+use Rattle.lk_watch.specs.Grammar.{SpellsNotice}
+use Rattle.lk_watch.specs.declared.notice.Notice.{Notice}
+use Rattle.lk_watch.specs.declared.waiter.Letter.{Letter}
 use Rattle.lk_server.specs.Probes.{RepliesToKept}
 use Rattle.lk_server.specs.Servers.{ServerValue, Turn, LastTurn, IsIdle, periods, send_state_at}
 use Rattle.lk_server_replica.specs.Showing.{IsShown}
@@ -49,7 +56,7 @@ use Rattle.lk_cluster_theorems.specs.Carrying.{HasNoKey, WasPosted, sent_since, 
 use Rattle.lk_cluster_theorems.specs.Clusters.{WasGiven, OnlyDelivers}
 use Rattle.lk_cluster_theorems.specs.Processes.{SaysIfHonest, IsMove, Move, letters_by, MayArrive, MayAllArrive}
 use Rattle.lk_cluster_theorems.specs.Processes.{TurnsNode, EndsNode}
-use Rattle.lk_cluster_theorems.proofs.Keeping.{in_map}
+use Rattle.lk_cluster_theorems.proofs.Keeping.{in_map, watches_change}
 use Rattle.lk_cluster_theorems.proofs.Sealing.{no_message}
 
 abbrev Frame : Type 0
@@ -149,16 +156,16 @@ module _ (observable : Type 0) (shown : observable) where
 
   -- ---- probes and reports
 
-  is_no_message : (bytes : List ℕ) → is_probe_or_report bytes ≡ true → IsNoNodeMessage bytes
+  is_no_message : (bytes : List ℕ) → is_beside_protocol bytes ≡ true → IsNoNodeMessage bytes
   is_no_message bytes beside m spelled = absurd (no_message bytes m spelled beside)
 
   probe_is_none : (p : Probe) (bytes : List ℕ) → SpellsProbe p bytes → IsNoNodeMessage bytes
   unfolding padded
-  probe_is_none p bytes spelled = is_no_message bytes (ap is_probe_or_report spelled.1)
+  probe_is_none p bytes spelled = is_no_message bytes (ap is_beside_protocol spelled.1)
 
   report_is_none : (r : Report) (bytes : List ℕ) → SpellsReport r bytes → IsNoNodeMessage bytes
   unfolding padded
-  report_is_none r bytes spelled = is_no_message bytes (ap is_probe_or_report spelled.1)
+  report_is_none r bytes spelled = is_no_message bytes (ap is_beside_protocol spelled.1)
 
   beside_posts : (letters : List LetterValue) (address : SocketAddr) (frame : List ℕ) (keys : List (List ℕ))
       (old new : SendState) → IsNoNodeMessage frame
@@ -272,6 +279,36 @@ module _ (observable : Type 0) (shown : observable) where
       (listens_posts letters told old h.questioned new.addresses h.between (send_state_at new.loopback new) old.pace
       (subst HasNoKey (sym h.keys) none) h.listens))
 
+  -- ---- notices
+
+  notice_is_none : (n : Notice) (bytes : List ℕ) → SpellsNotice n bytes → IsNoNodeMessage bytes
+  notice_is_none n bytes spelled = is_no_message bytes (ap is_beside_protocol spelled.1)
+
+  notice_posts : (letters : List LetterValue) (s : Seals) (none : HasNoKey s) (node : ℕ) (letter : Letter)
+      (old new : SendState) → SendsNotice observable s node letter old new → PostsOnly letters old.sent new.sent
+  notice_posts letters s none node letter old new x =
+      let to = Client letter.ticket.client in
+      beside_posts letters letter.to (frame_of s to x.bytes) (keys_for s to) old new
+      (subst IsNoNodeMessage (sym (frame_is s none to x.bytes))
+      (notice_is_none (notice_by s node letter) x.bytes x.spelled)) x.sends
+
+  notices_posts : (letters : List LetterValue) (s : Seals) (none : HasNoKey s) (node : ℕ) (notices : List Letter)
+      (old new : SendState) → SendsNotices observable s node notices old new → PostsOnly letters old.sent new.sent
+  notices_posts letters s none node [] old new same =
+      posts_none letters old.sent new.sent (ap (λ (t : SendState). t.sent) same)
+  notices_posts letters s none node (letter ∷ notices) old new x =
+      posts_both letters old.sent x.0.sent new.sent (notice_posts letters s none node letter old x.0 x.1)
+      (notices_posts letters s none node notices x.0 new x.2)
+
+  watched_posts : (letters : List LetterValue) (watched : Option ReceivedWatch) (old new : ServerValue ReplicaValue)
+      → HasNoKey old.addresses.seals → HandlesWatches table_of IsShown observable watched old new
+      → PostsOnly letters old.sent new.sent
+  watched_posts letters watched old new none (inl quiet) =
+      posts_none letters old.sent new.sent (ap (λ (s : ServerValue ReplicaValue). s.sent) quiet.same)
+  watched_posts letters watched old new none (inr x) =
+      notices_posts letters old.addresses.seals none old.node (x.answers ++ x.told) (send_state_at old.loopback old)
+      (send_state_at new.loopback new) x.sends
+
   -- ---- a turn
 
   module _ (Says : ReplicaValue → List (Option (List ℕ)) → List LetterValue → ReplicaValue → Type 0) where
@@ -285,14 +322,20 @@ module _ (observable : Type 0) (shown : observable) where
         posts_none [] old.sent new.sent (ap (λ (s : ServerValue ReplicaValue). s.sent) idle.same)
 
     turn_posts : (After : ServerValue ReplicaValue → Type 0) (old new : ServerValue ReplicaValue)
-        → HasNoKey old.addresses.seals → (x : DoesTurnWith Says observable None None After old new)
+        → HasNoKey old.addresses.seals → (x : DoesTurnWith Says observable None None None After old new)
         → PostsOnly (letters_in Says observable x.turn) old.sent new.sent
     turn_posts After old new none x =
-        let kept : x.mid.addresses.seals ≡ old.addresses.seals = sym x.acts.network.1 ∙ x.network.1 in
+        let beside : x.acts.probed.addresses.seals ≡ x.mid.addresses.seals = x.acts.probes.network.1 in
+        let last : new.addresses.seals ≡ x.acts.probed.addresses.seals =
+        ap (λ (s : ServerValue ReplicaValue). s.addresses.seals)
+        (watches_change x.watched x.acts.probed new x.acts.watches) in
+        let kept : x.mid.addresses.seals ≡ old.addresses.seals = sym (last ∙ beside) ∙ x.network.1 in
         let no_key : HasNoKey x.mid.addresses.seals = subst HasNoKey (sym kept) none in
         let letters = letters_in Says observable x.turn in
         posts_both letters old.sent x.mid.sent new.sent (given_posts x.came x.frames old x.mid no_key x.turn)
-        (handled_posts letters x.asked x.reported x.mid new no_key x.acts)
+        (posts_both letters x.mid.sent x.acts.probed.sent new.sent
+        (handled_posts letters x.asked x.reported x.mid x.acts.probed no_key x.acts.probes)
+        (watched_posts letters x.watched x.acts.probed new (subst HasNoKey (sym beside) no_key) x.acts.watches))
 
     last_posts : (came : List Frame) (old new : ServerValue ReplicaValue)
         → (turn : LastTurn Says observable came old new) → PostsOnly turn.hands_on.letters old.sent new.sent

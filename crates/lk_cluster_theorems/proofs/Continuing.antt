@@ -11,12 +11,11 @@ use Rattle.lk_node_interface.specs.declared.note.Note.{Note}
 use Rattle.lk_node.specs.Histories.{Genesis}
 use Rattle.lk_node.specs.Leavings.{DisksFit}
 use Rattle.lk_replica.specs.ReplicaValue.{ReplicaValue}
-use Rattle.lk_server.specs.ProbeHandling.{HandlesProbes}
-use Rattle.lk_server_replica.specs.Showing.{IsShown}
+use Rattle.lk_transport.specs.declared.received_watch.ReceivedWatch.{ReceivedWatch}
 use Rattle.lk_server.specs.Servers.{ServerValue, Turn, LastTurn, IsIdle}
 use Rattle.lk_probe.specs.declared.reported.Reported.{Reported}
 use Rattle.lk_transport.specs.declared.received_probe.ReceivedProbe.{ReceivedProbe}
-use Rattle.lk_node_process.specs.Turns.{DoesTurnWith, TellsFailure, letters_in}
+use Rattle.lk_node_process.specs.Turns.{ActsBeside, DoesTurnWith, TellsFailure, letters_in}
 use Rattle.lk_sim.specs.Networks.{IsStillDown, RestsBy, Stops, nothing}
 use Rattle.lk_sim_nodes.specs.Rooms.{AreShort}
 use Rattle.lk_sim_nodes.specs.declared.seat.Life.{Life}
@@ -27,7 +26,7 @@ use Rattle.lk_cluster_theorems.specs.Clusters.{disks_in, Starts, DoesTurn}
 use Rattle.lk_cluster_theorems.specs.Clusters.{Idles, EndsByTurn, Happens, HappenAll, IsReachable}
 use Rattle.lk_cluster_theorems.specs.Continuing.{node_of, HasNode, Continues, AddsNothing}
 use Rattle.lk_cluster_theorems.proofs.Keeping.{IsSound, Unforged, turn_takes, ended_may, with_replica}
-use Rattle.lk_cluster_theorems.proofs.Keeping.{reachable_sound}
+use Rattle.lk_cluster_theorems.proofs.Keeping.{beside_changes, reachable_sound}
 use Rattle.lk_cluster_theorems.proofs.Saying.{turn_so}
 use Rattle.lk_cluster_theorems.proofs.Tracing.{Traced, trace_group}
 
@@ -213,10 +212,10 @@ module _ (May : Network) (Metered observable : Type 0) where
   -- what is done beside the protocol after that
   acts_lead : (old : Cluster) (index n : ℕ) (before mid after : ServerValue ReplicaValue)
       → HasNode old index n (Up before) → (letters : List LetterValue) (notes : List Note)
-      → (asked : Option ReceivedProbe) (reported : Option Reported)
-      → HandlesProbes IsShown observable asked reported mid after
+      → (asked : Option ReceivedProbe) (reported : Option Reported) (watched : Option ReceivedWatch)
+      → ActsBeside observable asked reported watched mid after
       → Leads (continued old index n (Up mid) letters notes) (continued old index n (Up after) letters notes)
-  acts_lead old index n before mid after at letters notes asked reported acts =
+  acts_lead old index n before mid after at letters notes asked reported watched acts =
       let turned = continued old index n (Up mid) letters notes in
       let new = continued old index n (Up after) letters notes in
       let idles : Idles observable turned new = record {
@@ -232,7 +231,7 @@ module _ (May : Network) (Metered observable : Type 0) where
         was = refl;
         after = after;
         up = refl;
-        idle = inr (asked, reported, acts);
+        idle = inr (asked, reported, watched, acts);
         adds = record {
           genesis = refl;
           sent = sym (append-nil turned.sent);
@@ -360,14 +359,17 @@ module _ (May : Network) (Metered observable : Type 0) where
       → S old given letters new → Says Metered old given letters new) where
     -- whether a call has ended the replica is told before what is done beside the protocol as after it
     mid_failure : (mid next : ServerValue ReplicaValue) (asked : Option ReceivedProbe) (reported : Option Reported)
-        → HandlesProbes IsShown observable asked reported mid next → TellsFailure next → TellsFailure mid
-    mid_failure mid next asked reported acts failure =
+        (watched : Option ReceivedWatch) → ActsBeside observable asked reported watched mid next → TellsFailure next
+        → TellsFailure mid
+    mid_failure mid next asked reported watched acts failure =
         let as_was : next ≡ record mid {
-          addresses = next.addresses;
+          addresses = acts.probed.addresses;
+          queue = next.queue;
+          aged = next.aged;
           sent = next.sent;
           socket_failures = next.socket_failures;
           incoming = next.incoming;
-        } = acts.same in
+        } = beside_changes asked reported watched mid next acts in
         sym (ap (λ (s : ServerValue ReplicaValue). s.failed) as_was) ∙ failure
         ∙ ap (λ (s : ServerValue ReplicaValue). s.replica.failed) as_was
 
@@ -392,18 +394,20 @@ module _ (May : Network) (Metered observable : Type 0) where
         (idle_leads old index n first next at frames idle)
 
     -- one of them with what is done beside the protocol after it
-    pub done_leads : (kept : Option ReceivedProbe) (told : Option Reported) (After : ServerValue ReplicaValue → Type 0)
+    pub done_leads : (kept : Option ReceivedProbe) (told : Option Reported) (wanted : Option ReceivedWatch)
+        (After : ServerValue ReplicaValue → Type 0)
         (old : Cluster) (index n : ℕ) (first next : ServerValue ReplicaValue) → HasNode old index n (Up first)
-        → (turn : DoesTurnWith S observable kept told After first next) → May old.genesis old.sent first turn.came
+        → (turn : DoesTurnWith S observable kept told wanted After first next)
+        → May old.genesis old.sent first turn.came
         → (notes : List Note) → TracesOf old.genesis.cluster n turn.turn notes
         → Leads old (continued old index n (Up next) (letters_in S observable turn.turn) notes)
-    done_leads kept told After old index n first next at turn may notes traces =
+    done_leads kept told wanted After old index n first next at turn may notes traces =
         let mid = turn.mid in
         let said = letters_in S observable turn.turn in
         leads_on old (continued old index n (Up mid) said notes) (continued old index n (Up next) said notes)
         (taken_leads old index n first mid at turn.came turn.frames may turn.turn
-        (mid_failure mid next turn.asked turn.reported turn.acts turn.failure) notes traces)
-        (acts_lead old index n first mid next at said notes turn.asked turn.reported turn.acts)
+        (mid_failure mid next turn.asked turn.reported turn.watched turn.acts turn.failure) notes traces)
+        (acts_lead old index n first mid next at said notes turn.asked turn.reported turn.watched turn.acts)
 
     -- there is something that it adds
     pub done_trace : (unforged : Unforged May) (old : Cluster) → IsSound old → (index n : ℕ)

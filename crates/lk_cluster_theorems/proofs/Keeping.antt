@@ -19,7 +19,10 @@ use Rattle.lk_replica.specs.ReplicaValue.{ReplicaValue, device_of}
 use Rattle.lk_transport.specs.Addresses.{AddressBook}
 use Rattle.lk_transport.specs.Posts.{SendState, Becomes}
 use Rattle.lk_pacing.specs.Paces.{ticks_after, MayFollow}
-use Rattle.lk_server.specs.ProbeHandling.{HandlesProbes}
+use Rattle.lk_server.specs.WatchHandling.{HandlesWatches}
+use Rattle.lk_server_replica.specs.Tables.{table_of}
+use Rattle.lk_node_process.specs.Turns.{ActsBeside}
+use Rattle.lk_transport.specs.declared.received_watch.ReceivedWatch.{ReceivedWatch}
 use Rattle.lk_server_replica.specs.Showing.{IsShown}
 use Rattle.lk_probe.specs.declared.reported.Reported.{Reported}
 use Rattle.lk_transport.specs.declared.received_probe.ReceivedProbe.{ReceivedProbe}
@@ -259,8 +262,8 @@ module _ (old : Cluster) (w : IsSound old) where
         room = λ d is. absurd (cc is);
       })
 
--- a server as another one, but for what it knows of other addresses, what has come to its socket and was sent by it,
--- and which ticks it has withheld
+-- a server as another one, but for what it knows of other addresses, who waits for a name, what has come to its socket
+-- and was sent by it, and which ticks it has withheld
 abbrev at_rest : ServerValue ReplicaValue → ServerValue ReplicaValue → ServerValue ReplicaValue
 at_rest server after = record after {
   addresses = server.addresses;
@@ -268,20 +271,67 @@ at_rest server after = record after {
   sent = server.sent;
   socket_failures = server.socket_failures;
   withheld = server.withheld;
+  queue = server.queue;
+  aged = server.aged;
 }
+
+-- what handling watches may change
+pub watches_change : {observable : Type 0} (watched : Option ReceivedWatch) (old new : ServerValue ReplicaValue)
+    → HandlesWatches table_of IsShown observable watched old new
+    → new ≡ record old {
+      queue = new.queue;
+      aged = new.aged;
+      sent = new.sent;
+      socket_failures = new.socket_failures;
+      incoming = new.incoming;
+    }
+watches_change watched old new (inl quiet) =
+    quiet.same ∙ ap (λ (s : ServerValue ReplicaValue). record old {
+      queue = s.queue;
+      aged = s.aged;
+      sent = s.sent;
+      socket_failures = s.socket_failures;
+      incoming = s.incoming;
+    }) (sym quiet.same)
+watches_change watched old new (inr serves) = serves.same
+
+-- what is done beside the protocol may change this
+pub beside_changes : {observable : Type 0} (asked : Option ReceivedProbe) (reported : Option Reported)
+    (watched : Option ReceivedWatch) (old new : ServerValue ReplicaValue)
+    → (acts : ActsBeside observable asked reported watched old new)
+    → new ≡ record old {
+      addresses = acts.probed.addresses;
+      queue = new.queue;
+      aged = new.aged;
+      sent = new.sent;
+      socket_failures = new.socket_failures;
+      incoming = new.incoming;
+    }
+beside_changes asked reported watched old new acts =
+    watches_change watched acts.probed new acts.watches
+    ∙ ap (λ (s : ServerValue ReplicaValue). record s {
+      queue = new.queue;
+      aged = new.aged;
+      sent = new.sent;
+      socket_failures = new.socket_failures;
+      incoming = new.incoming;
+    }) acts.probes.same
 
 -- by an idle turn and beside the protocol nothing else changes
 at_rest_by : {observable : Type 0} (server after : ServerValue ReplicaValue)
     → ((frames : List (SocketAddr × List ℕ)) × IsIdle observable frames server after)
-    ⊎ ((asked : Option ReceivedProbe) × (reported : Option Reported)
-    × HandlesProbes IsShown observable asked reported server after) → at_rest server after ≡ server
+    ⊎ ((asked : Option ReceivedProbe) × (reported : Option Reported) × (watched : Option ReceivedWatch)
+    × ActsBeside observable asked reported watched server after) → at_rest server after ≡ server
 at_rest_by server after (inl i) =
     ap (λ (s : ServerValue ReplicaValue). record s {
       addresses = server.addresses;
       sent = server.sent;
       socket_failures = server.socket_failures;
+      queue = server.queue;
+      aged = server.aged;
     }) i.1.same
-at_rest_by server after (inr a) = ap (λ (s : ServerValue ReplicaValue). at_rest server s) a.2.same
+at_rest_by server after (inr a) =
+    ap (λ (s : ServerValue ReplicaValue). at_rest server s) (beside_changes a.0 a.1 a.2 server after a.3)
 
 module _ (May : Network) (Metered observable : Type 0) (unforged : Unforged May) where
   module _ (old new : Cluster) (w : IsSound old) where

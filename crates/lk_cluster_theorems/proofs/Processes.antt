@@ -98,7 +98,7 @@ module _ (Metered observable Honest : Type 0) (honest : Honest) where
           (continued old index n after (letters_in (SaysIfHonest Metered Honest) observable x.turn.turn) notes)
       turns_lead After x may notes traces =
           and_is (Up x.after) (letters_in (SaysIfHonest Metered Honest) observable x.turn.turn) notes x.up
-          (done_leads May Metered observable (SaysIfHonest Metered Honest) so None None After old index n x.server
+          (done_leads May Metered observable (SaysIfHonest Metered Honest) so None None None After old index n x.server
           x.after (is_now (Up x.server) x.was) x.turn may notes
           (to_traces old.genesis n x.turn.came x.turn.frames x.server x.turn.mid x.turn.turn notes traces))
 

@@ -17,7 +17,7 @@ use Rattle.lk_replica.specs.ReplicaValue.{ReplicaValue}
 use Rattle.lk_auth.specs.Seals.{key_list, heard}
 use Rattle.lk_auth.specs.declared.seals.Seals.{Seals}
 use Rattle.lk_transport.specs.Addresses.{Filter, filter_of}
-use Rattle.lk_transport.specs.Posts.{all_filtered, is_filtered_out, is_probe_or_report}
+use Rattle.lk_transport.specs.Posts.{all_filtered, is_filtered_out, is_beside_protocol}
 use Rattle.lk_server.specs.Premises.{IsFromANode, IsNoNodeMessage}
 use Rattle.lk_server.specs.Servers.{ServerValue}
 use Rattle.lk_transport.specs.Chains.{Chain}
@@ -36,16 +36,16 @@ use Rattle.lk_cluster_theorems.proofs.Keeping.{IsSound, Unforged, happens, begun
 no_request : (genesis : Genesis) (n : ℕ) (x : NodeMessage) (r : Request) → content.Node n x ≡ content.Request r → ⊥
 no_request genesis n x r e = cc e
 
--- a probe or a report spells no message
-pub no_message : (bytes : List ℕ) (m : Message) → Spells m bytes → is_probe_or_report bytes ≡ true → ⊥
+-- what is not part of the protocol spells no message
+pub no_message : (bytes : List ℕ) (m : Message) → Spells m bytes → is_beside_protocol bytes ≡ true → ⊥
 no_message bytes m spelled is =
-    let same : true ≡ false = sym is ∙ ap is_probe_or_report spelled.1 in
+    let same : true ≡ false = sym is ∙ ap is_beside_protocol spelled.1 in
     absurd (cc same)
 
 -- what is taken of a frame
 pub taken_unforged : (c : Cluster) → IsSound c → (s : Seals) (frame : List ℕ) → IsFromANode s frame
     → OnlyNodesSeal c.sent s frame → MayCome c.genesis c.sent (Some (heard s frame))
-taken_unforged c w s frame (inl sealed) only n x spelled = elim (cases_Bool (is_probe_or_report (heard s frame))) [
+taken_unforged c w s frame (inl sealed) only n x spelled = elim (cases_Bool (is_beside_protocol (heard s frame))) [
   | inl beside ↦ absurd (no_message (heard s frame) (said_by c.genesis n x) spelled beside)
   | inr apart ↦
       let given = only (heard s frame) sealed apart in

@@ -21,11 +21,11 @@ use Rattle.lk_replica.specs.Groups.{StepSaid}
 use Rattle.lk_replica.specs.ReplicaValue.{ReplicaValue}
 use Rattle.lk_server_replica.specs.Sayings.{SaysByGroup, IsSilenced, SaysOf}
 use Rattle.lk_server.specs.Premises.{IsNoNodeMessage}
-use Rattle.lk_server.specs.ProbeHandling.{HandlesProbes}
-use Rattle.lk_server_replica.specs.Showing.{IsShown}
+use Rattle.lk_node_process.specs.Turns.{ActsBeside}
 use Rattle.lk_server.specs.Servers.{ServerValue, Turn, LastTurn, IsIdle}
 use Rattle.lk_probe.specs.declared.reported.Reported.{Reported}
 use Rattle.lk_transport.specs.declared.received_probe.ReceivedProbe.{ReceivedProbe}
+use Rattle.lk_transport.specs.declared.received_watch.ReceivedWatch.{ReceivedWatch}
 use Rattle.lk_sim.specs.Events.{ReplacesSeat, Adds}
 use Rattle.lk_sim.specs.Networks.{MayCome, AreAsking, RecordsReplies, RestartsBy, Appears, Restarts, IsStillDown, Stops}
 use Rattle.lk_sim.specs.Networks.{nothing}
@@ -139,10 +139,10 @@ pub record Starts (old new : Cluster) : Type 0 where
   pub loopback : restarts.replica.loopback ≡ []
   pub alive : restarts.replica.replica.failed ≡ false
 
--- a node that is up takes an idle turn, or handles probes: its replica is given nothing, and nothing is given to be
--- sent as a datagram of the node. Only what it knows of the nodes at other addresses, what is to come to its socket,
--- what that has sent, how many of its sends have failed, and how many ticks were withheld may be another. `observable`
--- says that the sockets tell that
+-- a node that is up takes an idle turn, or handles probes and watches: its replica is given nothing, and nothing is
+-- given to be sent as a datagram of the node. Only what it knows of the nodes at other addresses, who waits for a name,
+-- what is to come to its socket, what that has sent, how many of its sends have failed, and how many ticks were
+-- withheld may be another. `observable` says that the sockets tell that
 pub record Idles (observable : Type 0) (old new : Cluster) : Type 0 where
   pub node : Node
   pub next : Node
@@ -152,8 +152,8 @@ pub record Idles (observable : Type 0) (old new : Cluster) : Type 0 where
   pub after : ServerValue ReplicaValue
   pub up : next.life ≡ Up after
   pub idle : ((frames : List (SocketAddr × List ℕ)) × IsIdle observable frames server after)
-      ⊎ ((asked : Option ReceivedProbe) × (reported : Option Reported)
-      × HandlesProbes IsShown observable asked reported server after)
+      ⊎ ((asked : Option ReceivedProbe) × (reported : Option Reported) × (watched : Option ReceivedWatch)
+      × ActsBeside observable asked reported watched server after)
   pub adds : Adds old new [] []
 
 -- `May` says what the network may bring, `Metered` that the devices count their calls, and `observable` that the
@@ -199,8 +199,8 @@ module _ (May : Network) (Metered observable : Type 0) where
         trace
     pub adds : Adds old new trace (batch_of node.number turn.hands_on.letters)
 
-  -- a node appears, with empty disks; it starts, or does not; it does a turn, or an idle one, or handles
-  -- probes, or ends by a turn; or it stops, up or down, and its disks have what a stop may leave. A stop in a turn is
+  -- a node appears, with empty disks; it starts, or does not; it does a turn, or an idle one, or handles probes and
+  -- watches, or ends by a turn; or it stops, up or down, and its disks have what a stop may leave. A stop in a turn is
   -- no event of its own: only a call of the device changes the disks, so such a stop is a turn that ended the node at
   -- the call that was not made, or the whole turn if none was left to make, and then a stop
   abbrev pub Happens : Cluster → Cluster → Type 0

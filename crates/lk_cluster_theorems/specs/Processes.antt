@@ -68,7 +68,7 @@ module _ (Metered observable Honest : Type 0) (genesis : Genesis) where
       pub server : ServerValue ReplicaValue
       pub was : old ≡ Up server
       pub after : ServerValue ReplicaValue
-      pub turn : DoesTurnWith (SaysIfHonest Metered Honest) observable None None After server after
+      pub turn : DoesTurnWith (SaysIfHonest Metered Honest) observable None None None After server after
       pub up : new ≡ Up after
 
     -- it has begun a turn that ended its replica. `came` is what was taken of these frames. A process that is killed in

@@ -10,21 +10,21 @@ use Rattle.lk_replica.specs.ReplicaValue.{ReplicaValue}
 use Rattle.lk_auth.specs.Seals.{key_list, to_node, IsSealedBy}
 use Rattle.lk_auth.specs.declared.seals.Seals.{Seals}
 use Rattle.lk_transport.specs.Addresses.{filter_of}
-use Rattle.lk_transport.specs.Posts.{all_filtered, is_probe_or_report}
+use Rattle.lk_transport.specs.Posts.{all_filtered, is_beside_protocol}
 use Rattle.lk_server.specs.Servers.{ServerValue}
 use Rattle.lk_sim_nodes.specs.declared.seat.Life.{Life}
 use Rattle.lk_cluster_theorems.specs.Clusters.{WasGiven}
 use Rattle.lk_cluster_theorems.specs.Processes.{IsMove, Move, letters_by}
 
 -- The only premise about keys: if a frame seals a datagram for this node under a key of the nodes, and the datagram is
--- no probe and no report, a node of the cluster has sent it. Nodes seal probes and reports under that key too, beside
--- the protocol: no replica gets them. The premise holds of a key that only the nodes of one cluster have, and only in
--- one life of it: nobody without a key can compute the HMAC-SHA-256 of a message under it (RFC 2104, section 6). Frames
--- may be lost, repeated, delayed or cut, and anybody may send other bytes
+-- part of the protocol, a node of the cluster has sent it. Nodes seal probes and reports under that key too, beside
+-- the protocol: no replica gets them, nor any watch or notice. The premise holds of a key that only the nodes of one
+-- cluster have, and only in one life of it: nobody without a key can compute the HMAC-SHA-256 of a message under it
+-- (RFC 2104, section 6). Frames may be lost, repeated, delayed or cut, and anybody may send other bytes
 abbrev pub OnlyNodesSeal : List Datagram → Seals → List ℕ → Type 0
 OnlyNodesSeal sent s frame =
     (datagram : List ℕ) → IsSealedBy (key_list s.nodes) (to_node s s.node) frame datagram
-    → is_probe_or_report datagram ≡ false → WasGiven sent datagram
+    → is_beside_protocol datagram ≡ false → WasGiven sent datagram
 
 -- the same of everything that arrives in a turn
 abbrev pub OnlyNodesSealWhatComes : List Datagram → Seals → List (SocketAddr × List ℕ) → Type 0

@@ -1,3 +1,4 @@
+pub mod Admins
 pub mod Arguments
 pub mod Spellings
 pub mod Questions

@@ -38,10 +38,11 @@ impl<'a> fmt::Display for ArgumentError<'a> {
 
 // What the value of each argument has to be.
 #[rattlefmt::skip]
-const WANTED: [(&str, &str); 13] = [
+const WANTED: [(&str, &str); 14] = [
     ("number", "must be 1 to 2147483648"),
     ("port", "must be 1 to 65535"),
     ("client", "must be 1 to 256"),
+    ("admin", "must be CLIENT,.., each from 1 to 256"),
     ("cluster", "must be 0 to 18446744073709551615"),
     ("request", "must be 1 to 281474976710656"),
     ("start", "must be 0 to 18446744073709551615"),

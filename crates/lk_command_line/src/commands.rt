@@ -57,6 +57,8 @@ const SUBCOMMANDS: &[Usage] = &[
             "the address at which the node listens; by default that of its line in the hosts, or 127.0.0.1"),
         (Kind::Given, "key", "the file of the key that the nodes share"),
         (Kind::Given, "client-key", "the file of the master from which the clients' keys are derived"),
+        (Kind::Given, "admin",
+            "CLIENT,..: the clients from which it takes join, leave, raise and break; by default all"),
         (Kind::Given, "ticks", "what ticks go by: datagrams, or clock (each 100 ms; always with a key)"),
         (Kind::Flag, "bundle", "sends a node what goes to it at once in one UDP payload; older nodes drop that"),
         (Kind::Flag, "events", "writes leaders, members, snapshots and faults to standard error, with the time"),

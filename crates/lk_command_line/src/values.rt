@@ -122,7 +122,7 @@ pub fn port_in<'a>(matches: &ArgMatches<'a>) -> Result<Port, ArgumentError<'a>>
 }
 
 // Reads a word as the number of a client, 1 to 256. `None` if it spells none.
-fn client_of(word: &[u8]) -> Option<ClientNo>
+pub(crate) fn client_of(word: &[u8]) -> Option<ClientNo>
     ensures some { IfSome result (Spells IsClient word.now) }
     ensures none { IsNone result → SpellsNone IsClient word.now }
 {

@@ -1,6 +1,10 @@
 //! Draws the tokens of probes, which nobody can guess who does not read them.
 
+ghost use Rattle.std.specs.Prelude.{◌≡◌};
+ghost use Rattle.lk_hearing.specs.Tokens.{fresh, mixed, next_state, token};
+
 use sha2::{Digest, Sha256};
+use std::marker::Model;
 
 // An odd number by which the readings so far are multiplied before the next is added.
 const STEP: u128 = 0x2360_ed05_1fc6_5da4_4385_df64_9fcc_f645;
@@ -9,12 +13,22 @@ const STEP: u128 = 0x2360_ed05_1fc6_5da4_4385_df64_9fcc_f645;
 #[derive(Drop)]
 pub struct TokenSource {
     state: [u8; 32],
-    // the readings since the last draw, mixed
+    // all readings so far, mixed
     readings: u128,
 }
 
+impl Model for TokenSource {
+    ghost use Rattle.lk_hearing.specs.Tokens.{SourceValue};
+
+    ghost Value = { SourceValue };
+
+    ghost view = { λ s. record { state = s.state; readings = s.readings } };
+}
+
 // Returns the first eight bytes as a number.
-fn number_of(state: &[u8; 32]) -> u64 {
+fn number_of(state: &[u8; 32]) -> u64
+    ensures { result ≡ token state.now }
+{
     match state.first_chunk::<8>() {
         Some(bytes) => u64::from_be_bytes(*bytes),
         None => 0,
@@ -23,7 +37,9 @@ fn number_of(state: &[u8; 32]) -> u64 {
 
 impl TokenSource {
     /// A source into which nothing was mixed.
-    pub fn new() -> TokenSource {
+    pub fn new() -> TokenSource
+        ensures { result ≡ fresh }
+    {
         TokenSource {
             state: [0; 32],
             readings: 0,
@@ -31,13 +47,19 @@ impl TokenSource {
     }
 
     /// Mixes in a reading of a clock, in nanoseconds.
-    pub fn stir(&mut self, reading: u128) {
+    pub fn stir(&mut self, reading: u128)
+        ensures { self.new ≡ record self.old { readings = mixed self.old.readings reading } }
+    {
         self.readings = self.readings.wrapping_mul(STEP).wrapping_add(reading);
     }
 
-    /// Draws the next token: the first eight bytes of the next state, which is the SHA-256 digest of the state and the
-    /// readings since the last draw.
-    pub fn draw(&mut self) -> u64 {
+    /// Draws the next token: the first eight bytes of the next state, which is the SHA-256 digest of the state and of
+    /// all readings so far.
+    #[tactic(auto, unfolding(crate::specs::Tokens::next_state))]
+    pub fn draw(&mut self) -> u64
+        ensures next { self.new ≡ record self.old { state = next_state self.old } }
+        ensures token { result ≡ token self.new.state }
+    {
         let mut hasher = Sha256::new();
         hasher.update(self.state);
         hasher.update(self.readings.to_be_bytes());

@@ -81,8 +81,8 @@ impl LockTable {
         let _ = &self.slots;
     }
 
-    // Returns a copy of the slot of a name, or `None` if the table does not have the name.
-    fn slot(&self, name: &Name) -> Option<Slot>
+    /// Returns a copy of the slot of a name, or `None` if the table does not have the name.
+    pub fn slot(&self, name: &Name) -> Option<Slot>
         ensures { result ≡ map.get self.now.names name.now }
     {
         match self.slots.get(name) {

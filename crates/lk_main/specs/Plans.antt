@@ -11,6 +11,7 @@ use Rattle.lk_word_parsers.specs.Geneses.{SpellsGenesis}
 use Rattle.lk_store_format.specs.Values.{HeaderValue}
 use Rattle.lk_pacing.specs.declared.pace.Pace.{Pace}
 use Rattle.lk_pacing.specs.declared.pace.Pace.TheVariants.{Clock, Datagrams}
+use Rattle.lk_command_line.specs.Admins.{AreAdmins}
 use Rattle.lk_command_line.specs.Arguments.{is_given, word_of, words_of, IsSet, IsUnset}
 use Rattle.lk_command_line.specs.Questions.{AsksAs, SealsBy}
 use Rattle.lk_command_line.specs.Spellings.{IsNumber, Spells}
@@ -45,6 +46,7 @@ pub record PlansNode (m : ArgMatches) (p : NodePlan) : Type 0 where
   pub folder : p.folder.now ≡ word_of m (codes "dir")
   pub options : OptionsAre m (codes "bind") p.options
   pub key : option_map (λ s. s.now) p.options.key ≡ first_value (found_of m) (codes "key")
+  pub admins : AreAdmins (first_value (found_of m) (codes "admin")) p.options.admins
   pub set : IsSet m (codes "existing") → p.existing ≡ true
   pub unset : IsUnset m (codes "existing") → p.existing ≡ false
   pub bundling : IsSet m (codes "bundle") → p.bundles ≡ true

@@ -8,6 +8,7 @@ ghost use Rattle.lk_main.specs.Plans.{PlansNode, PlansSchedule};
 
 use clap::ArgMatches;
 use lk_client::question::Question;
+use lk_command_line::admins::admins_in;
 use lk_command_line::argument_error::{ArgumentError, invalid_argument};
 use lk_command_line::asking::{inquiry_of, question_of};
 use lk_command_line::operation::invalid_operation;
@@ -24,25 +25,29 @@ use lk_random_schedules::fuzzing::MAX_EVENTS;
 use lk_random_schedules::plan::Plan;
 use lk_status::target::{Inquiry, Target};
 use lk_store_format::Header;
+use lk_transport::admins::Admins;
 use lk_types::{ClientNo, Op};
 use lk_word_parsers::command_line::operation_of;
 use log::Level;
 use std::alloc::Global;
 
-// Reads the options about other machines; `name` is the option with the address.
+// Reads the options about others; `name` is the option with the address.
 fn options_in<'a>(
     matches: &ArgMatches<'a>,
     name: &'a str,
     key: Option<&'a str>,
+    admins: Admins,
 ) -> Result<NetworkOptions<'a>, ArgumentError<'a>>
     ensures options { IfOk result (OptionsAre matches.now name.now) }
     ensures key { IfOk result (λ o. o.key ≡ key.entry) }
+    ensures admins { IfOk result (λ o. o.admins ≡ admins) }
 {
     Ok(NetworkOptions {
         hosts: matches.get_str("hosts"),
         bind: address_in(matches, name)?,
         key,
         client_key: matches.get_str("client-key"),
+        admins,
     })
 }
 
@@ -50,7 +55,7 @@ fn options_in<'a>(
 pub fn ask_options<'a>(matches: &ArgMatches<'a>) -> Result<NetworkOptions<'a>, ArgumentError<'a>>
     ensures { IfOk result (OptionsAre matches.now (codes "address")) }
 {
-    options_in(matches, "address", None)
+    options_in(matches, "address", None, Admins::Everyone)
 }
 
 // Reads what the ticks of a node go by. Nodes with a key always go by the clock, and `--ticks datagrams` is then
@@ -81,7 +86,7 @@ pub fn node_plan<'a>(matches: &ArgMatches<'a>) -> Result<NodePlan<'a>, ArgumentE
         folder: word(matches, "dir"),
         existing: matches.get_flag("existing"),
         bundles: matches.get_flag("bundle"),
-        options: options_in(matches, "bind", matches.get_str("key"))?,
+        options: options_in(matches, "bind", matches.get_str("key"), admins_in(matches)?)?,
     })
 }
 

@@ -8,6 +8,13 @@ use lk_state::Machine;
 use lk_types::{Ballot, Executed, NodeNo, RealBallot};
 
 impl<M: Machine> Node<M> {
+    /// The state machine, after the positions that it has executed.
+    pub fn machine(&self) -> &M
+        ensures { M.text result.now ≡ self.now.learner.whole.text }
+    {
+        self.learner.whole().machine()
+    }
+
     /// How many positions it has executed.
     pub fn executed(&self) -> Executed
         ensures { result ≡ self.now.learner.whole.roster.executed }

@@ -6,10 +6,11 @@ use Rattle.lk_node_events.specs.declared.event.Event.TheVariants.{Leaderless}
 use Rattle.lk_node_events.specs.declared.event.Event.TheVariants.{Joined}
 use Rattle.lk_node_events.specs.declared.event.Event.TheVariants.{Left, Wrote, Installed, Unsent, Behind, CaughtUp}
 use Rattle.lk_node_events.specs.declared.event.Event.TheVariants.{OtherGenesis, OtherCluster, Deaf, Hears, Outside}
+use Rattle.lk_node_events.specs.declared.event.Event.TheVariants.{QueueFull, Names, Barred}
 
 -- how many kinds of events there are
 abbrev pub kinds : ℕ
-kinds = 18
+kinds = 21
 
 -- the index of an event's kind, below that number
 abbrev pub kind_of : Event → ℕ
@@ -31,6 +32,9 @@ kind_of (OtherCluster count) = 14
 kind_of (Deaf heard members) = 15
 kind_of (Hears heard members) = 16
 kind_of (Outside seconds) = 17
+kind_of QueueFull = 18
+kind_of (Names count) = 19
+kind_of (Barred client) = 20
 
 -- an operator has to look at it
 abbrev pub is_warning : Event → Bool
@@ -39,4 +43,7 @@ is_warning (Unsent node) = true
 is_warning (OtherGenesis node) = true
 is_warning (OtherCluster count) = true
 is_warning (Deaf heard members) = true
+is_warning QueueFull = true
+is_warning (Names count) = true
+is_warning (Barred client) = true
 is_warning _ = false

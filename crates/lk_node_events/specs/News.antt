@@ -1,5 +1,5 @@
 -- Which events an observation of a node yields, compared with what was reported of it.
-use Rattle.std.specs.Prelude.{◌≡◌, ◌≢◌, ◌<◌, ◌==◌, ℕ, Bool, true, false, List, [], ◌∷◌, ◌++◌, Option, Some, None}
+use Rattle.std.specs.Prelude.{◌≡◌, ◌≢◌, ◌<◌, ◌≤◌, ◌==◌, ℕ, Bool, true, false, List, [], ◌∷◌, ◌++◌, Option, Some, None}
 use Rattle.std.specs.List.{list_any}
 use Rattle.lk_types.specs.declared.member.Member.{Member}
 use Rattle.lk_types.specs.BallotValue.{BallotValue}
@@ -10,6 +10,7 @@ use Rattle.lk_node_events.specs.declared.event.Event.TheVariants.{Leaderless}
 use Rattle.lk_node_events.specs.declared.event.Event.TheVariants.{Joined}
 use Rattle.lk_node_events.specs.declared.event.Event.TheVariants.{Left, Wrote, Installed, Unsent, Behind, CaughtUp}
 use Rattle.lk_node_events.specs.declared.event.Event.TheVariants.{OtherGenesis, OtherCluster, Deaf, Hears, Outside}
+use Rattle.lk_node_events.specs.declared.event.Event.TheVariants.{QueueFull, Names, Barred}
 use Rattle.lk_node_events.specs.declared.event.Why.{Why}
 use Rattle.lk_node_events.specs.declared.story.Story.{Story}
 use Rattle.lk_node_events.specs.declared.observation.Observation.{Observation}
@@ -21,6 +22,10 @@ is_one_of node members = list_any (λ m. m.node == node) members
 abbrev pub newer : Option ℕ → Option ℕ → Option ℕ
 newer None old = old
 newer (Some node) old = Some node
+
+-- so many names of the lock table are reported: nine tenths of the 512 that it can have
+abbrev pub many_names : ℕ
+many_names = 461
 
 -- the event is due: the observation differs from the story in this way, or the turn has brought it
 abbrev pub IsNews : Story → Observation → Event → Type 0
@@ -41,6 +46,9 @@ IsNews story seen (Deaf heard members) =
     (seen.deaf ≡ true) × (story.deaf ≡ false) × (heard ≡ seen.heard) × (members ≡ seen.members)
 IsNews story seen (Hears heard members) =
     (seen.deaf ≡ false) × (story.deaf ≡ true) × (heard ≡ seen.heard) × (members ≡ seen.members)
+IsNews story seen QueueFull = seen.is_queue_full ≡ true
+IsNews story seen (Names count) = (count ≡ seen.names) × (many_names ≤ count) × (story.names < count)
+IsNews story seen (Barred client) = seen.barred ≡ Some client
 IsNews story seen StartedEmpty = ⊥
 IsNews story seen (Found executed) = ⊥
 IsNews story seen (Leaderless seconds) = ⊥
@@ -56,6 +64,7 @@ story_with seen story = record {
   members = seen.members;
   snapshot = seen.snapshot;
   deaf = seen.deaf;
+  names = seen.names;
 }
 
 -- the story after it was reported that nobody leads, if it was: then any leader is news
@@ -63,7 +72,7 @@ abbrev pub forgetting : Option Event → Story → Story
 forgetting None story = story
 forgetting (Some event) story = record story { follows = None }
 
--- the story of a node that was first seen like this
+-- the story of a node that was first seen like this: no number of names was reported
 abbrev pub story_of : Observation → Story
 story_of seen = record {
   leads = seen.leads;
@@ -71,14 +80,15 @@ story_of seen = record {
   members = seen.members;
   snapshot = seen.snapshot;
   deaf = seen.deaf;
+  names = 0;
 }
 
 -- ---- news by what it is about
 
 -- who leads: that it leads no more, that it leads, and whom it follows; whether it hears a majority: that it does no
--- more, and that it does; who is a member: that a node joined, and that
--- one left; and its work: a snapshot that it wrote, one that it installed, what it could not send, whom it heard of
--- another genesis, and what it heard of another cluster
+-- more, and that it does; who is a member: that a node joined, and that one left; and its work: a snapshot that it
+-- wrote, one that it installed, what it could not send, whom it heard of another genesis, what it heard of another
+-- cluster, that it had no room for a watch, that the lock table fills up, and that a request was barred
 pub data Topic : Type 0 where
   ending : Topic
   leading : Topic
@@ -92,6 +102,9 @@ pub data Topic : Type 0 where
   failing : Topic
   meeting : Topic
   straying : Topic
+  refusing : Topic
+  filling : Topic
+  barring : Topic
 
 abbrev pub lead_topics : List Topic
 lead_topics = ending ∷ leading ∷ following ∷ deafening ∷ hearing ∷ []
@@ -111,7 +124,7 @@ abbrev pub member_topics : Story → Observation → List Topic
 member_topics story seen = joins seen.members ++ leaves story.members
 
 abbrev pub work_topics : List Topic
-work_topics = writing ∷ installing ∷ failing ∷ meeting ∷ straying ∷ []
+work_topics = writing ∷ installing ∷ failing ∷ meeting ∷ straying ∷ refusing ∷ filling ∷ barring ∷ []
 
 abbrev pub topics : Story → Observation → List Topic
 topics story seen = lead_topics ++ (member_topics story seen ++ work_topics)
@@ -136,6 +149,9 @@ IsNewsOf installing story seen event =
 IsNewsOf failing story seen event = (node : ℕ) × (event ≡ Unsent node) × IsNews story seen (Unsent node)
 IsNewsOf meeting story seen event = (node : ℕ) × (event ≡ OtherGenesis node) × IsNews story seen (OtherGenesis node)
 IsNewsOf straying story seen event = (count : ℕ) × (event ≡ OtherCluster count) × IsNews story seen (OtherCluster count)
+IsNewsOf refusing story seen event = (event ≡ QueueFull) × IsNews story seen QueueFull
+IsNewsOf filling story seen event = (count : ℕ) × (event ≡ Names count) × IsNews story seen (Names count)
+IsNewsOf barring story seen event = (client : ℕ) × (event ≡ Barred client) × IsNews story seen (Barred client)
 
 -- the event is news of this topic; without an event there is no such news
 abbrev pub Gives : Topic → Story → Observation → Option Event → Type 0

@@ -1,10 +1,12 @@
--- Events that depend on how long something lasts: no leader, and being behind.
+-- Events that depend on how long something lasts: no leader, being behind, and hearing no majority from the start on.
 use Rattle.std.specs.Prelude.{◌≡◌, ◌≤◌, ◌<◌, ◌+◌, ◌*◌, ◌⊎◌, ℕ, Bool, true, false, Option, Some, None, IfSome, IsSome}
-use Rattle.std.specs.Prelude.{IsNone}
+use Rattle.std.specs.Prelude.{IsNone, ◌||◌, not, is_some}
 use Rattle.lk_node_events.specs.declared.event.Event.{Event}
-use Rattle.lk_node_events.specs.declared.event.Event.TheVariants.{Leaderless, Outside, Behind, CaughtUp}
+use Rattle.lk_node_events.specs.declared.event.Event.TheVariants.{Leaderless, Outside, Behind, CaughtUp, Deaf}
 use Rattle.lk_node_events.specs.declared.timers.LeaderlessTimer.{LeaderlessTimer}
 use Rattle.lk_node_events.specs.declared.timers.BehindTimer.{BehindTimer}
+use Rattle.lk_node_events.specs.declared.timers.DeafTimer.{DeafTimer}
+use Rattle.lk_node_events.specs.declared.observation.Observation.{Observation}
 
 -- that time, or this one where there was none
 abbrev pub first_time : Option ℕ → ℕ → ℕ
@@ -96,3 +98,25 @@ pub record TurnsLag (old : BehindTimer) (now : ℕ) (wanted : Option ℕ) (execu
   pub some : IfSome news (IsLagNews old now wanted executed)
   pub none : IsNone news → (e : Event) → IsLagNews old now wanted executed e → ⊥
   pub becomes : BecomesLag old now wanted news new
+
+-- it hears no majority, and has heard none since its first turn, two seconds ago or more, and that is not yet reported
+pub record IsDeafNews (deaf : DeafTimer) (now : ℕ) (seen : Observation) (event : Event) : Type 0 where
+  pub told : event ≡ Deaf seen.heard seen.members
+  pub hears_none : seen.deaf ≡ true
+  pub unlogged : deaf.is_over ≡ false
+  pub since : ℕ
+  pub is_since : deaf.since ≡ Some since
+  pub long : since + 2000 ≤ now
+
+-- what is known of it after a turn in which it hears a majority or not: that is over if it does, or if it is reported
+pub record BecomesDeaf (old : DeafTimer) (now : ℕ) (is_deaf : Bool) (news : Option Event) (new : DeafTimer) : Type 0
+  where
+    pub over : new.is_over ≡ ((old.is_over || not is_deaf) || is_some news)
+    pub since : new.is_over ≡ false → new.since ≡ Some (first_time old.since now)
+
+-- the event that is due after such a turn, and what is known then
+pub record TurnsDeaf (old : DeafTimer) (now : ℕ) (seen : Observation) (news : Option Event) (new : DeafTimer) : Type 0
+  where
+    pub some : IfSome news (IsDeafNews old now seen)
+    pub none : IsNone news → (e : Event) → IsDeafNews old now seen e → ⊥
+    pub becomes : BecomesDeaf old now seen.deaf news new

@@ -2,7 +2,7 @@
 use Rattle.std.specs.Prelude.{◌≡◌, ℕ, List, [], ◌∷◌, Option, Some, None, IsSomeAnd, slice_get, slice_set}
 use Rattle.lk_node_events.specs.Kinds.{kind_of}
 use Rattle.lk_node_events.specs.News.{Topic, topics, Gives, forgetting, story_with}
-use Rattle.lk_node_events.specs.Timers.{TurnsQuiet, TurnsLag}
+use Rattle.lk_node_events.specs.Timers.{TurnsQuiet, TurnsLag, TurnsDeaf}
 use Rattle.lk_node_events.specs.RateLimits.{having_put, having_logged, IsLineOf}
 use Rattle.lk_node_events.specs.declared.event.Event.{Event}
 use Rattle.lk_node_events.specs.declared.rate_limit.Line.{Line}
@@ -44,9 +44,13 @@ pub record TurnsTimes (now : ℕ) (seen : Observation) (old new : Watch) : Type 
   pub quiet : TurnsQuiet old.quiet now (has_leader seen) seen.is_member leaderless new.quiet
   pub behind : Option Event
   pub lag : TurnsLag old.lag now seen.wanted seen.executed behind new.lag
-  pub mid : List RateLimit
-  pub first : PutsSome now leaderless old.slots.all mid
-  pub second : PutsSome now behind mid new.slots.all
+  pub unheard : Option Event
+  pub deaf : TurnsDeaf old.deaf now seen unheard new.deaf
+  pub one : List RateLimit
+  pub two : List RateLimit
+  pub first : PutsSome now leaderless old.slots.all one
+  pub second : PutsSome now behind one two
+  pub third : PutsSome now unheard two new.slots.all
   pub story : new.story ≡ forgetting leaderless old.story
 
 -- a turn: the events that depend on time are put into the slots, and then the news of what is seen
@@ -58,6 +62,7 @@ pub record Turns (now : ℕ) (seen : Observation) (old new : Watch) : Type 0 whe
     story = story_with seen timed.story;
     quiet = timed.quiet;
     lag = timed.lag;
+    deaf = timed.deaf;
     slots = new.slots;
   }
 

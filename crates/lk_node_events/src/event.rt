@@ -3,11 +3,12 @@
 ghost use Rattle.std.specs.Prelude.{◌≡◌, ◌≢◌, ◌<◌};
 ghost use Rattle.lk_node_events.specs.Kinds.{kind_of, kinds, is_warning};
 
+use lk_types::limits::MAX_NAMES;
 use lk_types::{Executed, Members, NodeNo, RealBallot};
 use std::fmt;
 
 /// The number of kinds of events.
-pub const KINDS: usize = 18;
+pub const KINDS: usize = 21;
 
 /// Why a node no longer leads.
 #[derive(Clone, Copy, Debug)]
@@ -60,6 +61,12 @@ pub enum Event {
     Hears(u8, Members),
     /// It is not a member of the next position, and has neither led nor heard of a leader for this many seconds.
     Outside(u64),
+    /// It had no room for a watch.
+    QueueFull,
+    /// Its lock table has this many names, at least nine tenths of the most that it can have.
+    Names(usize),
+    /// It dropped an administrative request of this client, which is no admin.
+    Barred(u16),
 }
 
 impl Event {
@@ -87,6 +94,9 @@ impl Event {
             Event::Deaf(_, _) => 15,
             Event::Hears(_, _) => 16,
             Event::Outside(_) => 17,
+            Event::QueueFull => 18,
+            Event::Names(_) => 19,
+            Event::Barred(_) => 20,
         }
     }
 
@@ -101,6 +111,9 @@ impl Event {
                 | Event::OtherGenesis(_)
                 | Event::OtherCluster(_)
                 | Event::Deaf(_, _)
+                | Event::QueueFull
+                | Event::Names(_)
+                | Event::Barred(_)
         )
     }
 }
@@ -229,6 +242,11 @@ impl fmt::Display for Event {
             Event::Hears(heard, members) => write_heard(*heard, members, ", a majority", f),
             Event::Outside(seconds) => {
                 write!(f, "is not a member, and has had no leader for {seconds} s")
+            }
+            Event::QueueFull => f.write_str("has no room for a watch"),
+            Event::Names(count) => write!(f, "fills up: names {count} of {MAX_NAMES}"),
+            Event::Barred(client) => {
+                write!(f, "dropped an administrative request of client {client}")
             }
         }
     }

@@ -37,6 +37,12 @@ pub struct Observation {
     pub heard: u8,
     /// Whether it hears too few, and so gets no ticks.
     pub deaf: bool,
+    /// Whether it had no room for a watch in the turn.
+    pub is_queue_full: bool,
+    /// How many names its lock table has.
+    pub names: usize,
+    /// The client that is no admin whose administrative request was dropped, if that is to be reported.
+    pub barred: Option<u16>,
 }
 
 impl Observation {

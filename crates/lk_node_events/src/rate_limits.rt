@@ -40,6 +40,9 @@ impl RateLimits {
                 RateLimit::EMPTY,
                 RateLimit::EMPTY,
                 RateLimit::EMPTY,
+                RateLimit::EMPTY,
+                RateLimit::EMPTY,
+                RateLimit::EMPTY,
             ],
         }
     }

@@ -3,7 +3,8 @@
 ghost use Rattle.std.specs.Prelude.{◌≡◌};
 ghost use Rattle.lk_node_events.specs.News.{Gives, story_of, forgetting, story_with, is_one_of};
 ghost use Rattle.lk_node_events.specs.News.{deafening, ending, hearing, leading, following, joining, leaving};
-ghost use Rattle.lk_node_events.specs.News.{writing, installing, failing, meeting, straying};
+ghost use Rattle.lk_node_events.specs.News.{writing, installing, failing, meeting, straying, refusing, filling};
+ghost use Rattle.lk_node_events.specs.News.{barring};
 ghost use Rattle.lk_node_events.specs.News.{lead_topics, joins, leaves, member_topics, work_topics, topics};
 ghost use Rattle.lk_node_events.specs.Watches.{PutsNews};
 
@@ -11,6 +12,9 @@ use crate::event::Event;
 use crate::observation::Observation;
 use crate::rate_limits::RateLimits;
 use lk_types::{Executed, Member, Members, NodeNo, RealBallot};
+
+// How many names of the lock table are reported: nine tenths of the 512 that it can have.
+const MANY_NAMES: usize = 461;
 
 /// What was last reported of a node.
 #[derive(Drop)]
@@ -25,6 +29,8 @@ pub struct Story {
     pub snapshot: Executed,
     /// Whether it hears too few members.
     pub deaf: bool,
+    /// How many names its lock table has; 0 before the first turn.
+    pub names: usize,
 }
 
 // Whether the node is one of these members.
@@ -35,7 +41,8 @@ fn is_one_of(node: NodeNo, members: &[Member]) -> bool
 }
 
 impl Story {
-    /// Returns the story of a node that was first seen like this: all of it passes as reported.
+    /// Returns the story of a node that was first seen like this: all of it passes as reported, except how many names
+    /// there are.
     pub fn of(seen: Observation) -> Story
         ensures { result ≡ story_of seen }
     {
@@ -53,6 +60,7 @@ impl Story {
             members,
             snapshot,
             deaf,
+            names: 0,
         }
     }
 
@@ -175,6 +183,34 @@ impl Story {
         Some(Event::Hears(seen.heard, seen.members.copy()))
     }
 
+    /// Returns `QueueFull` if it had no room for a watch in the turn.
+    pub fn queue_full(&self, seen: &Observation) -> Option<Event>
+        ensures { Gives refusing self.now seen.now result }
+    {
+        if !seen.is_queue_full {
+            return None;
+        }
+        Some(Event::QueueFull)
+    }
+
+    /// Returns `Names` if its lock table has many names, and more than in the story.
+    pub fn names(&self, seen: &Observation) -> Option<Event>
+        ensures { Gives filling self.now seen.now result }
+    {
+        if seen.names < MANY_NAMES || seen.names <= self.names {
+            return None;
+        }
+        Some(Event::Names(seen.names))
+    }
+
+    /// Returns `Barred` if the turn brought a dropped request that is to be reported.
+    pub fn barred(&self, seen: &Observation) -> Option<Event>
+        ensures { Gives barring self.now seen.now result }
+    {
+        let client = seen.barred?;
+        Some(Event::Barred(client))
+    }
+
     // Puts the news of the leader, and of whether a majority is heard, into the slots.
     fn put_leads(&self, now: u64, seen: &Observation, slots: &mut RateLimits)
         ensures { PutsNews now self.now seen.now lead_topics slots.old.all slots.new.all }
@@ -212,7 +248,7 @@ impl Story {
         self.put_left(now, seen, self.members.as_slice(), slots);
     }
 
-    // Puts the news of snapshots, of failed sends, and of datagrams of another genesis or cluster.
+    // Puts the news of snapshots, of failed sends, of datagrams of another genesis or cluster, and of what is full.
     fn put_work(&self, now: u64, seen: &Observation, slots: &mut RateLimits)
         ensures { PutsNews now self.now seen.now work_topics slots.old.all slots.new.all }
     {
@@ -221,6 +257,9 @@ impl Story {
         slots.put_some(now, self.unsent(seen));
         slots.put_some(now, self.stranger(seen));
         slots.put_some(now, self.foreign(seen));
+        slots.put_some(now, self.queue_full(seen));
+        slots.put_some(now, self.names(seen));
+        slots.put_some(now, self.barred(seen));
     }
 
     // Puts all news into the slots.
@@ -251,6 +290,7 @@ impl Story {
             members,
             snapshot,
             deaf,
+            names,
             ..
         } = seen;
         self.leads = leads;
@@ -258,6 +298,7 @@ impl Story {
         self.members = members;
         self.snapshot = snapshot;
         self.deaf = deaf;
+        self.names = names;
     }
 
     /// Puts what is news after a turn into the slots, and remembers it as reported.

@@ -1,19 +1,22 @@
-//! Events that depend on how long something lasts: no leader, and being behind. Times are milliseconds since 1970.
+//! Events that depend on how long something lasts: no leader, being behind, and hearing no majority from the start on.
+//! Times are milliseconds since 1970.
 
-ghost use Rattle.std.specs.Prelude.{◌≡◌, ◌⊎◌, Some, None, true, false, IfSome, IsSome, IsNone};
+ghost use Rattle.std.specs.Prelude.{◌≡◌, ◌⊎◌, Some, None, true, false, IfSome, IsSome, IsNone, is_some, not};
 ghost use Rattle.lk_node_events.specs.Timers.{first_time, first_asked, no_lag, quiet_event, IsQuietNews, IsBehind};
 ghost use Rattle.lk_node_events.specs.Timers.{IsOver, HasRested};
-ghost use Rattle.lk_node_events.specs.Timers.{IsLagNews, BecomesLag};
+ghost use Rattle.lk_node_events.specs.Timers.{IsLagNews, BecomesLag, IsDeafNews, BecomesDeaf};
 ghost use Rattle.lk_node_events.specs.declared.event.Event.{Event as EventValue};
 ghost use Rattle.lk_node_events.specs.declared.event.Event.TheVariants.{Behind, CaughtUp};
 
 use crate::event::Event;
+use crate::observation::Observation;
 use lk_types::{Executed, NodeNo};
 
 // The milliseconds of a second.
 const SECOND: u64 = 1000;
 
-// The seconds without a leader after which it is first reported: an election takes less.
+// The seconds after which it is first reported that there is no leader, or that no majority was ever heard: an election
+// takes less.
 const FIRST: u64 = 2;
 
 /// How long a node has had no leader, and what was reported of that.
@@ -32,6 +35,15 @@ pub struct BehindTimer {
     pub asked: Option<(u64, u64)>,
     /// Whether `Behind` was reported, so that `CaughtUp` has to follow.
     pub logged: bool,
+}
+
+/// How long a node has heard no majority since its start.
+#[derive(Clone, Copy)]
+pub struct DeafTimer {
+    /// The time of the first turn, `None` before it.
+    pub since: Option<u64>,
+    /// Whether it has heard a majority, or was reported to have heard none.
+    pub is_over: bool,
 }
 
 // Returns the event of a node that has had no leader for so many seconds: `Leaderless` of a member, and `Outside` of
@@ -155,5 +167,51 @@ impl BehindTimer {
             Some(node) => self.behind_event(now, node),
             None => self.caught_up_event(now, executed),
         }
+    }
+}
+
+impl DeafTimer {
+    /// Returns the timer of a node that was first seen like this.
+    pub fn of(seen: &Observation) -> DeafTimer
+        ensures { result ≡ record { since = None; is_over = not seen.now.deaf } }
+    {
+        DeafTimer {
+            since: None,
+            is_over: !seen.deaf,
+        }
+    }
+
+    // Notes the time of the first turn, or returns `Deaf` if two seconds have passed since then.
+    fn deaf_event(&mut self, now: u64, seen: &Observation) -> Option<Event>
+        requires { (self.old.is_over ≡ false) × (seen.now.deaf ≡ true) }
+        ensures some { IfSome result (IsDeafNews self.old now seen.now) }
+        ensures none { IsNone result → (e : EventValue) → IsDeafNews self.old now seen.now e → ⊥ }
+        ensures over { self.new.is_over ≡ is_some result }
+        ensures since { self.new.since ≡ Some (first_time self.old.since now) }
+    {
+        let Some(since) = self.since else {
+            self.since = Some(now);
+            return None;
+        };
+        if now.saturating_sub(since) < FIRST * SECOND {
+            return None;
+        }
+        self.is_over = true;
+        Some(Event::Deaf(seen.heard, seen.members.copy()))
+    }
+
+    /// Updates it after a turn. Returns `Deaf` once, if the node has heard no majority since its start, two seconds ago
+    /// or more.
+    pub fn observe(&mut self, now: u64, seen: &Observation) -> Option<Event>
+        ensures some { IfSome result (IsDeafNews self.old now seen.now) }
+        // An event that is due is returned.
+        ensures none { IsNone result → (e : EventValue) → IsDeafNews self.old now seen.now e → ⊥ }
+        ensures becomes { BecomesDeaf self.old now seen.now.deaf result self.new }
+    {
+        self.is_over |= !seen.deaf;
+        if self.is_over {
+            return None;
+        }
+        self.deaf_event(now, seen)
     }
 }

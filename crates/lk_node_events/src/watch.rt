@@ -1,6 +1,6 @@
 //! The watch over a node: finds its events, turn by turn, and keeps them until they may be logged.
 
-ghost use Rattle.std.specs.Prelude.{◌≡◌, replicate, slice_get, Some, None, IfSome};
+ghost use Rattle.std.specs.Prelude.{◌≡◌, replicate, slice_get, Some, None, IfSome, not};
 ghost use Rattle.lk_node_events.specs.Kinds.{kinds};
 ghost use Rattle.lk_node_events.specs.News.{story_of};
 ghost use Rattle.lk_node_events.specs.Timers.{no_lag};
@@ -13,7 +13,7 @@ use crate::observation::Observation;
 use crate::rate_limit::Line;
 use crate::rate_limits::RateLimits;
 use crate::story::Story;
-use crate::timers::{BehindTimer, LeaderlessTimer};
+use crate::timers::{BehindTimer, DeafTimer, LeaderlessTimer};
 
 /// What was reported of a node, and what waits to be logged. Times are milliseconds since 1970.
 #[derive(Drop)]
@@ -21,6 +21,7 @@ pub struct Watch {
     pub story: Story,
     pub quiet: LeaderlessTimer,
     pub lag: BehindTimer,
+    pub deaf: DeafTimer,
     pub slots: RateLimits,
 }
 
@@ -30,12 +31,15 @@ impl Watch {
         ensures story { result.story ≡ story_of seen }
         ensures quiet { result.quiet ≡ record { since = None; logged = 0 } }
         ensures lag { result.lag ≡ no_lag }
+        ensures deaf { result.deaf ≡ record { since = None; is_over = not seen.deaf } }
         ensures slots { result.slots.all ≡ replicate kinds empty }
     {
+        let deaf = DeafTimer::of(&seen);
         Watch {
             story: Story::of(seen),
             quiet: LeaderlessTimer::NONE,
             lag: BehindTimer::NONE,
+            deaf,
             slots: RateLimits::new(),
         }
     }
@@ -48,7 +52,7 @@ impl Watch {
         self.slots.put(now, event);
     }
 
-    // Puts the events that depend on time: no leader, behind, caught up.
+    // Puts the events that depend on time: no leader, behind, caught up, no majority heard since the start.
     fn put_times(&mut self, now: u64, seen: &Observation)
         ensures { TurnsTimes now seen.now self.old self.new }
     {
@@ -57,6 +61,8 @@ impl Watch {
         self.slots.put_some(now, leaderless);
         let lag = self.lag.observe(now, seen.wanted, seen.executed);
         self.slots.put_some(now, lag);
+        let deaf = self.deaf.observe(now, seen);
+        self.slots.put_some(now, deaf);
     }
 
     /// Updates the watch after a turn, and puts the events that this shows into the slots.

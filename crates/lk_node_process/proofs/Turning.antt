@@ -15,12 +15,17 @@ use Rattle.lk_transport.specs.ReceiveBuffers.{BufferValue}
 use Rattle.lk_transport.specs.Kept.{KeepsOf}
 use Rattle.lk_transport.specs.Posts.{all_filtered}
 use Rattle.lk_server_replica.specs.Sayings.{SaysOf}
-use Rattle.lk_server.specs.ProbeHandling.{HandlesProbes}
-use Rattle.lk_server_replica.specs.Showing.{IsShown}
 use Rattle.lk_server.specs.Servers.{ServerValue, HasReceived, TurnOrIdle as ServerTurn, LastTurn}
+use Rattle.lk_server.specs.ProbeHandling.{HandlesProbes}
+use Rattle.lk_server.specs.WatchHandling.{HandlesWatches}
+use Rattle.lk_server_replica.specs.Showing.{IsShown}
+use Rattle.lk_server_replica.specs.Tables.{table_of}
+use Rattle.lk_probe.specs.declared.reported.Reported.{Reported}
+use Rattle.lk_transport.specs.declared.received_probe.ReceivedProbe.{ReceivedProbe}
+use Rattle.lk_transport.specs.declared.received_watch.ReceivedWatch.{ReceivedWatch}
 use Rattle.lk_transport.specs.Chains.{Repeats}
 use Rattle.lk_node_process.specs.Revivals.{IsRestartRefused, StaysDown}
-use Rattle.lk_node_process.specs.Turns.{DoesTurn, DoesTurnWith, EndsByStranger, EndsTurn, BreaksOff}
+use Rattle.lk_node_process.specs.Turns.{ActsBeside, DoesTurn, DoesTurnWith, EndsByStranger, EndsTurn, BreaksOff}
 use Rattle.lk_node_process.specs.Turns.{BreaksOffByStranger, TellsFailure}
 
 -- what a replica on a device says, where that is honest
@@ -68,10 +73,10 @@ pub turn_taken : {Says : ReplicaValue → List (Option (List ℕ)) → List Lett
     (old mid new : ServerValue ReplicaValue) → HasReceived observable frames old mid
     → ServerTurn Says observable frames old mid
     → KeepsOf old.addresses.seals frames kept left
-    → HandlesProbes IsShown observable left.asked left.reported mid new
-    → IsSameNetwork old.addresses mid.addresses → TellsFailure new → After new
-    → DoesTurnWith Says observable kept.asked kept.reported After old new
-turn_taken After frames kept left old mid new received turn keeps acts network failure becomes = record {
+    → ActsBeside observable left.asked left.reported left.watched mid new
+    → IsSameNetwork old.addresses mid.addresses → IsSameNetwork mid.addresses new.addresses → TellsFailure new
+    → After new → DoesTurnWith Says observable kept.asked kept.reported kept.watched After old new
+turn_taken After frames kept left old mid new received turn keeps acts network held failure becomes = record {
   frames = frames;
   came = all_filtered (filter_of old.addresses) frames;
   opened = refl;
@@ -83,11 +88,28 @@ turn_taken After frames kept left old mid new received turn keeps acts network f
   last = keeps.last;
   reported = left.reported;
   first_reported = keeps.reported;
+  watched = left.watched;
+  first_watched = keeps.watched;
   acts = acts;
-  network = (acts.network.0 ∙ network.0, acts.network.1 ∙ network.1);
+  network = (held.0 ∙ network.0, held.1 ∙ network.1, held.2 ∙ network.2);
   failure = failure;
   becomes = becomes;
 }
+
+-- what the server does beside the protocol, if the watch that was left is the one that was kept, and what is observed
+-- last changes nothing
+module _ (observable : Type 0) (asked : Option ReceivedProbe) (reported : Option Reported)
+    (kept left : Option ReceivedWatch) (old probed told new : ServerValue ReplicaValue) (same : new ≡ told) where
+  pub acts_beside : HandlesProbes IsShown observable asked reported old probed → left ≡ kept
+      → HandlesWatches table_of IsShown observable left probed told
+      → ActsBeside observable asked reported kept old new
+  acts_beside probes is_kept watches =
+      subst (λ (s : ServerValue ReplicaValue). ActsBeside observable asked reported kept old s) (sym same) (record {
+        probed = probed;
+        probes = probes;
+        watches = subst (λ (w : Option ReceivedWatch). HandlesWatches table_of IsShown observable w probed told)
+            is_kept watches;
+      })
 
 -- one of both stands, however a call ends
 pub on_either : {T E P Q : Type 0} (r : Result T E) → OnOk r P → OnErr r Q → P ⊎ Q

@@ -9,12 +9,16 @@ use Rattle.lk_probe.specs.declared.reported.Reported.{Reported}
 use Rattle.lk_transport.specs.Addresses.{IsSameNetwork, filter_of}
 use Rattle.lk_transport.specs.Posts.{all_filtered}
 use Rattle.lk_server.specs.ProbeHandling.{HandlesProbes}
+use Rattle.lk_server.specs.WatchHandling.{HandlesWatches}
 use Rattle.lk_server_replica.specs.Showing.{IsShown}
+use Rattle.lk_server_replica.specs.Tables.{table_of}
 use Rattle.lk_server.specs.Servers.{ServerValue, HasReceived, Turn, LastTurn, IsIdle}
 use Rattle.lk_transport.specs.Askers.{BringsProbe}
 use Rattle.lk_transport.specs.Inquiring.{IsReportedBy}
 use Rattle.lk_transport.specs.Kept.{KeepsFirstOf, OnlyLastBrings}
+use Rattle.lk_transport.specs.Watches.{BringsWatch}
 use Rattle.lk_transport.specs.declared.received_probe.ReceivedProbe.{ReceivedProbe}
+use Rattle.lk_transport.specs.declared.received_watch.ReceivedWatch.{ReceivedWatch}
 use Rattle.lk_transport.specs.Chains.{Repeats}
 
 -- the server knows whether a call has ended its replica
@@ -29,6 +33,13 @@ HasFollowedNoStranger s = bound_in s.addresses.neighbours ≡ None
 abbrev pub HasFollowedStranger : ServerValue ReplicaValue → Type 0
 HasFollowedStranger s = IsSome (bound_in s.addresses.neighbours)
 
+-- what a server does beside the protocol after a turn: it handles probes, and then watches
+pub record ActsBeside (observable : Type 0) (asked : Option ReceivedProbe) (reported : Option Reported)
+    (watched : Option ReceivedWatch) (old new : ServerValue ReplicaValue) : Type 0 where
+  pub probed : ServerValue ReplicaValue
+  pub probes : HandlesProbes IsShown observable asked reported old probed
+  pub watches : HandlesWatches table_of IsShown observable watched probed new
+
 -- `Says` relates a replica's input to its letters, and `observable` says that the socket reveals what it sends and what
 -- arrives
 module _ (Says : ReplicaValue → List (Option (List ℕ)) → List LetterValue → ReplicaValue → Type 0)
@@ -37,10 +48,11 @@ module _ (Says : ReplicaValue → List (Option (List ℕ)) → List LetterValue 
   -- taken of the frames that came, and a tick where one was due, and goes on; or it is idle, and given nothing. After
   -- that the probe kept from before, or else the first in those frames, is answered, and a node of the same genesis
   -- that asks by it is heard again. The node learns from the report that it had kept, or else from the first in those
-  -- frames that replies to it. Of these frames only the last brings a probe or a report, where none was kept. One
-  -- question and the probes to the members are sent if they are due, and nothing else. Where nodes live, and the keys,
-  -- are the same. `After` holds of the server then
-  pub record DoesTurnWith (kept : Option ReceivedProbe) (told : Option Reported)
+  -- frames that replies to it. Of these frames only the last brings a probe, a report or a watch, where none was kept.
+  -- One question and the probes to the members are sent if they are due. Last the watch that it had kept, or else the
+  -- first in those frames, is heard, and those who wait are told; and nothing else is sent. Where nodes live, and the
+  -- keys, are the same. `After` holds of the server then
+  pub record DoesTurnWith (kept : Option ReceivedProbe) (told : Option Reported) (wanted : Option ReceivedWatch)
       (After : ServerValue ReplicaValue → Type 0) (old new : ServerValue ReplicaValue) : Type 0 where
     pub frames : List (SocketAddr × List ℕ)
     pub came : List (SocketAddr × List ℕ)
@@ -51,21 +63,23 @@ module _ (Says : ReplicaValue → List (Option (List ℕ)) → List LetterValue 
     pub asked : Option ReceivedProbe
     pub first_asked : KeepsFirstOf (BringsProbe old.addresses.seals) kept frames asked
     pub reported : Option Reported
-    pub last : kept ≡ None → told ≡ None → OnlyLastBrings old.addresses.seals frames
+    pub last : kept ≡ None → told ≡ None → wanted ≡ None → OnlyLastBrings old.addresses.seals frames
     pub first_reported : KeepsFirstOf (IsReportedBy old.addresses.seals) told frames reported
-    pub acts : HandlesProbes IsShown observable asked reported mid new
+    pub watched : Option ReceivedWatch
+    pub first_watched : KeepsFirstOf (BringsWatch old.addresses.seals) wanted frames watched
+    pub acts : ActsBeside observable asked reported watched mid new
     pub network : IsSameNetwork old.addresses new.addresses
     pub failure : TellsFailure new
     pub becomes : After new
 
-  -- a turn before which no probe and no report was kept, so that the first probe in the frames that came is answered
-  -- and what the first report tells is learned, and after which it goes on
+  -- a turn before which no probe, no report and no watch was kept, so that the first probe in the frames that came is
+  -- answered, what the first report tells is learned, and the first watch is heard, and after which it goes on
   abbrev pub DoesTurn : ServerValue ReplicaValue → ServerValue ReplicaValue → Type 0
-  DoesTurn = DoesTurnWith None None HasFollowedNoStranger
+  DoesTurn = DoesTurnWith None None None HasFollowedNoStranger
 
   -- such a turn after which it ends, since it has followed a node of another genesis
   abbrev pub EndsByStranger : ServerValue ReplicaValue → ServerValue ReplicaValue → Type 0
-  EndsByStranger = DoesTurnWith None None HasFollowedStranger
+  EndsByStranger = DoesTurnWith None None None HasFollowedStranger
 
   -- a turn that ended the replica
   pub record EndsTurn (old new : ServerValue ReplicaValue) : Type 0 where

@@ -12,7 +12,7 @@ use lk_pacing::pace::Pace;
 use lk_program_fault::ProgramFault;
 use lk_replica::Replica;
 use lk_server::server::Server;
-use lk_state::Machine;
+use lk_server_replica::TableMachine;
 use lk_store_format::Header;
 use lk_transport::network::Network;
 use lk_transport::receive_buffer::ReceiveBuffer;
@@ -56,7 +56,7 @@ type DemoServer<M, S> = Server<Replica<M, MemoryDisk>, S>;
 
 // The nodes, and the socket of their clients.
 #[derive(Drop)]
-struct Cluster<M: Machine, S: DatagramSocket + Drop> {
+struct Cluster<M: TableMachine, S: DatagramSocket + Drop> {
     nodes: Vec<DemoServer<M, S>>,
     client: S,
     // the receive buffer that all of them share
@@ -89,7 +89,7 @@ fn genesis_at<S: DatagramSocket>(alloc: Global, sockets: &[S]) -> Result<Genesis
 }
 
 // Starts the server of a member, on an empty disk in memory.
-fn start<M: Machine, S: DatagramSocket + Drop>(
+fn start<M: TableMachine, S: DatagramSocket + Drop>(
     alloc: Global,
     node: NodeNo,
     genesis: &Genesis,
@@ -110,7 +110,7 @@ fn start<M: Machine, S: DatagramSocket + Drop>(
 }
 
 // Starts the servers of the members, in order, each on its socket.
-fn start_all<M: Machine, S: DatagramSocket + Drop>(
+fn start_all<M: TableMachine, S: DatagramSocket + Drop>(
     alloc: Global,
     genesis: &Genesis,
     sockets: Vec<S>,
@@ -137,7 +137,7 @@ fn question_of(row: (u16, u64, &[u8]), port: Port) -> Option<Question> {
     }
 }
 
-impl<M: Machine, S: DatagramSocket + Drop> Cluster<M, S> {
+impl<M: TableMachine, S: DatagramSocket + Drop> Cluster<M, S> {
     // Starts a new cluster on these sockets.
     fn start(alloc: Global, sockets: Sockets<S>) -> Result<Cluster<M, S>, ProgramFault> {
         let Sockets { nodes, client } = sockets;
@@ -234,7 +234,7 @@ impl<M: Machine, S: DatagramSocket + Drop> Cluster<M, S> {
 
 /// Runs nodes with disks in memory, and prints the replies to their clients, which take turns. The sockets' receives
 /// must not wait. Returns whether every request got a reply; if not, the last line is `no answer`.
-pub fn run_demo<M: Machine, S: DatagramSocket + Drop, W: Write>(
+pub fn run_demo<M: TableMachine, S: DatagramSocket + Drop, W: Write>(
     alloc: Global,
     sockets: Sockets<S>,
     out: &mut W,
@@ -267,7 +267,7 @@ fn free_sockets<R: Net>(
 }
 
 // Opens a socket for the clients and one for each node, at free ports of 127.0.0.1, and plays the story on them.
-fn play_on_ports<M: Machine, R: Net, W: Write>(
+fn play_on_ports<M: TableMachine, R: Net, W: Write>(
     rt: &R,
     alloc: Global,
     out: &mut W,
@@ -283,7 +283,7 @@ fn play_on_ports<M: Machine, R: Net, W: Write>(
 
 /// Runs the demonstration: three nodes of this process on free ports of 127.0.0.1, and the replies to two clients that
 /// take turns. Returns status 0, or 1 after `no answer` or an error message.
-pub fn demo<M: Machine, R: Net, W: Write, E: Write>(
+pub fn demo<M: TableMachine, R: Net, W: Write, E: Write>(
     rt: &R,
     alloc: Global,
     out: &mut W,

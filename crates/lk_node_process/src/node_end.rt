@@ -8,7 +8,7 @@ use lk_node_events::line::Observer;
 use lk_program_fault::ProgramFault;
 use lk_replica::Replica;
 use lk_server::server::Server;
-use lk_state::Machine;
+use lk_server_replica::TableMachine;
 use lk_transport::socket::DatagramSocket;
 use std::io::Write;
 
@@ -26,7 +26,7 @@ pub struct RefusedStart<F: Drop, D: Drop, S: Drop> {
 /// How the run of a node has ended: the status of its process, and what is left: its server, with the device and the
 /// socket, or these alone if the node did not start.
 #[derive(Drop)]
-pub struct NodeEnd<M: Machine, D: LogDisk + Drop, S: DatagramSocket + Drop> {
+pub struct NodeEnd<M: TableMachine, D: LogDisk + Drop, S: DatagramSocket + Drop> {
     pub status: u8,
     pub left: Result<NodeServer<M, D, S>, RefusedStart<ProgramFault, D, S>>,
 }

@@ -10,6 +10,7 @@ use lk_program_fault::ProgramFault;
 use lk_replica::Replica;
 use lk_server::server::Server;
 use lk_server::turn_events::TurnEvents;
+use lk_server_replica::TableMachine;
 use lk_state::Machine;
 use lk_transport::socket::DatagramSocket;
 use lk_types::{Members, NodeNo};
@@ -34,7 +35,7 @@ fn next_members<M: Machine>(node: &Node<M>) -> &Members {
 }
 
 // Makes the observation of a server's node, from its state and from what happened in its turn.
-fn observation_of<M: Machine, D: LogDisk + Drop, S: DatagramSocket + Drop>(
+fn observation_of<M: TableMachine, D: LogDisk + Drop, S: DatagramSocket + Drop>(
     server: &Server<Replica<M, D>, S>,
     events: &TurnEvents,
 ) -> Observation {
@@ -55,8 +56,11 @@ fn observation_of<M: Machine, D: LogDisk + Drop, S: DatagramSocket + Drop>(
         unsent: events.sends.unsent,
         stranger: events.stranger,
         foreign: events.foreign,
+        barred: events.barred,
         heard: server.count_heard(),
         deaf: server.is_deaf(),
+        is_queue_full: events.is_queue_full,
+        names: node.machine().table().len(),
     }
 }
 
@@ -66,7 +70,7 @@ fn is_empty<M: Machine>(node: &Node<M>) -> bool {
 }
 
 /// Reports to an observer that a node has started.
-pub fn observe_start<M: Machine, D: LogDisk + Drop, S: DatagramSocket + Drop, O: Observer>(
+pub fn observe_start<M: TableMachine, D: LogDisk + Drop, S: DatagramSocket + Drop, O: Observer>(
     server: &Server<Replica<M, D>, S>,
     observer: &mut O,
 ) {
@@ -77,7 +81,7 @@ pub fn observe_start<M: Machine, D: LogDisk + Drop, S: DatagramSocket + Drop, O:
 }
 
 /// Reports to an observer that a server has done a turn, and clears the server's events. Does nothing if it is off.
-pub fn observe_turn<M: Machine, D: LogDisk + Drop, S: DatagramSocket + Drop, O: Observer>(
+pub fn observe_turn<M: TableMachine, D: LogDisk + Drop, S: DatagramSocket + Drop, O: Observer>(
     server: &mut Server<Replica<M, D>, S>,
     observer: &mut O,
 )

@@ -4,16 +4,16 @@ ghost use Rattle.std.specs.Prelude.{◌≡◌, ◌<◌, ◌≤◌, ◌^◌, ◌�
 ghost use Rattle.lk_disk.specs.declared.device.Side.{Side as SideValue};
 ghost use Rattle.lk_node_interface.specs.Faults.{fault_number};
 ghost use Rattle.lk_replica.specs.Revived.{MayGoOn};
-ghost use Rattle.lk_server.specs.ProbeHandling.{HandlesProbes};
-ghost use Rattle.lk_server_replica.specs.Showing.{IsShown};
 ghost use Rattle.lk_server.specs.Servers.{IsConfiguredAs, HasSocket};
+ghost use Rattle.lk_transport.specs.Addresses.{IsSameNetwork};
 ghost use Rattle.lk_transport.specs.Chains.{Repeats};
 ghost use Rattle.lk_program_fault.specs.Faults.{replica_fault};
 ghost use Rattle.lk_node_setup.specs.KeysOfNode.{AreSealsOf};
 ghost use Rattle.lk_node_setup.specs.SelfProbes.{socket_value};
 ghost use Rattle.lk_node_process.specs.Revivals.{ComesUp, IsServerStarted, IsRestartRefused};
 ghost use Rattle.lk_node_process.specs.Revivals.{StartsOn, RestsOn, surroundings};
-ghost use Rattle.lk_node_process.specs.Turns.{DoesTurn, DoesTurnWith, HasFollowedNoStranger, HasFollowedStranger};
+ghost use Rattle.lk_node_process.specs.Turns.{ActsBeside, DoesTurn, DoesTurnWith, HasFollowedNoStranger};
+ghost use Rattle.lk_node_process.specs.Turns.{HasFollowedStranger};
 ghost use Rattle.lk_node_process.specs.Turns.{EndsTurn, BreaksOff, BreaksOffByStranger};
 ghost use Rattle.lk_node_process.specs.Turns.{RunsTurns, EndsBefore, TellsFailure};
 ghost use Rattle.lk_node_process.specs.Warnings.{DoesTurnAndWarns, Warns, WarnsUntil, reminded};
@@ -36,8 +36,7 @@ use lk_server::group_fault::GroupFault;
 use lk_server::notes::log_notes;
 use lk_server::server::{Server, node_turn};
 use lk_server::watching::{log_port, log_start};
-use lk_server_replica::ServerReplica;
-use lk_state::Machine;
+use lk_server_replica::{ServerReplica, TableMachine};
 use lk_store_format::Header;
 use lk_transport::receive_buffer::ReceiveBuffer;
 use lk_transport::socket::DatagramSocket;
@@ -50,7 +49,7 @@ use std::time::Clock;
 const TURNS: u64 = 1 << 48;
 
 // Restarts the replica from a device. Logs how it started and what it executed. An error returns the device too.
-fn restart_replica<M: Machine, D: LogDisk + Drop, L: Log>(
+fn restart_replica<M: TableMachine, D: LogDisk + Drop, L: Log>(
     alloc: Global,
     header: &Header,
     device: D,
@@ -89,7 +88,7 @@ fn with_socket<D: LogDisk + Drop, S: DatagramSocket + Drop>(
 
 /// Starts the server of a node from a device. Logs how it started and what it executed. An error returns the device
 /// and the socket too.
-pub fn revive<M: Machine, D: LogDisk + Drop, S: DatagramSocket + Drop, L: Log>(
+pub fn revive<M: TableMachine, D: LogDisk + Drop, S: DatagramSocket + Drop, L: Log>(
     alloc: Global,
     header: &Header,
     resources: Resources<D, S>,
@@ -162,7 +161,7 @@ fn write_why<D: LogDisk + FailureCause + Drop, S: DatagramSocket + Drop, E: Writ
 
 // The same for a plan. If the store does not open, writes what was found and what to do.
 fn revive_plan<
-    M: Machine,
+    M: TableMachine,
     D: LogDisk + FailureCause + Drop,
     S: DatagramSocket + Drop,
     L: Log,
@@ -189,24 +188,34 @@ fn revive_plan<
     }
 }
 
-// Ends a turn: handles probes, and reports the turn to an observer. If the node has followed one of another genesis,
-// writes so.
-fn end_turn<M: Machine, D: LogDisk + Drop, S: DatagramSocket + Drop, L: Log, O: Observer, E: Write>(
+// Ends a turn: handles probes and watches, and reports the turn to an observer. If the node has followed one of another
+// genesis, writes so.
+fn end_turn<
+    M: TableMachine,
+    D: LogDisk + Drop,
+    S: DatagramSocket + Drop,
+    L: Log,
+    O: Observer,
+    E: Write,
+>(
     server: &mut NodeServer<M, D, S>,
     buffer: &mut ReceiveBuffer,
     log: &L,
     observer: &mut O,
     err: &mut E,
 ) -> Result<(), ProgramFault>
-    ensures acts { HandlesProbes IsShown S.is_observable buffer.old.asked buffer.old.reported server.old server.new }
+    ensures acts { ActsBeside S.is_observable buffer.old.asked buffer.old.reported buffer.old.watched
+        server.old server.new }
+    ensures network { IsSameNetwork server.old.addresses server.new.addresses }
     ensures goes_on { OnOk result (HasFollowedNoStranger server.new) }
     ensures leaves { OnErr result (HasFollowedStranger server.new) }
-    ensures spent { (buffer.new.asked ≡ None) × (buffer.new.reported ≡ None) }
+    ensures spent { (buffer.new.asked ≡ None) × (buffer.new.reported ≡ None) × (buffer.new.watched ≡ None) }
     ensures failure { TellsFailure server.new }
     // While the node goes on nothing is written.
     ensures quiet { OnOk result (E.contents err.new ≡ E.contents err.old) }
 {
     let leader = server.handle_probes(buffer, log);
+    server.handle_watches(buffer);
     // The contract of this call shows that the server knows whether its replica has failed.
     let _ = server.replica();
     observe_turn(server, observer);
@@ -218,7 +227,7 @@ fn end_turn<M: Machine, D: LogDisk + Drop, S: DatagramSocket + Drop, L: Log, O: 
 
 // Returns what a fault that ended a turn means to the process. If the device failed, writes why.
 fn write_failed_turn<
-    M: Machine,
+    M: TableMachine,
     D: LogDisk + FailureCause + Drop,
     S: DatagramSocket + Drop,
     E: Write,
@@ -231,7 +240,7 @@ fn write_failed_turn<
 
 // Does one turn, and reports it to an observer. If the device failed, writes why.
 fn do_turn<
-    M: Machine,
+    M: TableMachine,
     D: LogDisk + FailureCause + Drop,
     S: DatagramSocket + Drop,
     C: Clock,
@@ -249,12 +258,13 @@ fn do_turn<
 ) -> Result<(), ProgramFault>
     // Its replica was given as one group the letters of the node to itself, or else what was taken of the frames that
     // came, and a tick if one was due. Of the letters that it produced, those to the node itself are kept, after the
-    // ones that wait. Then probes are handled: the probe and the report that were kept before, or else the first that
-    // came. No node of another genesis has led the node.
+    // ones that wait. Then probes and watches are handled: the probe, the report and the watch that were kept before,
+    // or else the first that came. No node of another genesis has led the node.
     ensures turn { OnOk result
         (DoesTurnWith ⟦<Replica<M, D> as ServerReplica>⟧.Says S.is_observable buffer.old.asked buffer.old.reported
-        HasFollowedNoStranger server.old server.new) }
-    ensures spent { OnOk result ((buffer.new.asked ≡ None) × (buffer.new.reported ≡ None)) }
+        buffer.old.watched HasFollowedNoStranger server.old server.new) }
+    ensures spent { OnOk result
+        ((buffer.new.asked ≡ None) × (buffer.new.reported ≡ None) × (buffer.new.watched ≡ None)) }
     // While the node goes on nothing is written.
     ensures quiet { OnOk result (E.contents err.new ≡ E.contents err.old) }
     // The turn ended the replica, and after that nothing is sent and no probe is answered; or it is such a turn, and a
@@ -262,7 +272,7 @@ fn do_turn<
     ensures ends { OnErr result
         (EndsTurn ⟦<Replica<M, D> as ServerReplica>⟧.Says S.is_observable server.old server.new
         ⊎ DoesTurnWith ⟦<Replica<M, D> as ServerReplica>⟧.Says S.is_observable buffer.old.asked buffer.old.reported
-        HasFollowedStranger server.old server.new) }
+        buffer.old.watched HasFollowedStranger server.old server.new) }
 {
     match node_turn(server, buffer, tick_timer, log) {
         Ok(()) => end_turn(server, buffer, log, observer, err),
@@ -271,7 +281,7 @@ fn do_turn<
 }
 
 // Warns after a turn if a warning is due, by the server's own status. A warning that cannot be written is lost.
-fn warn_if_due<M: Machine, D: LogDisk + Drop, S: DatagramSocket + Drop, E: Write>(
+fn warn_if_due<M: TableMachine, D: LogDisk + Drop, S: DatagramSocket + Drop, E: Write>(
     server: &NodeServer<M, D, S>,
     reminder: &mut PortReminder,
     plan: &NodePlan<'_>,
@@ -286,7 +296,7 @@ fn warn_if_due<M: Machine, D: LogDisk + Drop, S: DatagramSocket + Drop, E: Write
 
 // Does 2^48 turns, warns after each if that is due, and reports them to an observer. If the device failed, writes why.
 fn do_turns<
-    M: Machine,
+    M: TableMachine,
     D: LogDisk + FailureCause + Drop,
     S: DatagramSocket + Drop,
     C: Clock,
@@ -340,7 +350,7 @@ fn do_turns<
 
 // Logs the port of a server, reports its start to an observer, and does 2^48 turns.
 fn run_turns<
-    M: Machine,
+    M: TableMachine,
     D: LogDisk + FailureCause + Drop,
     S: DatagramSocket + Drop,
     C: Clock,
@@ -371,7 +381,7 @@ fn run_turns<
 /// 2^48 turns, and 1 after a fault, which is written to standard error; and what is left, as it is then: the server, or
 /// the device and the socket of a node that did not start.
 pub fn run_node<
-    M: Machine,
+    M: TableMachine,
     D: LogDisk + FailureCause + Drop,
     S: DatagramSocket + Drop,
     C: Clock,

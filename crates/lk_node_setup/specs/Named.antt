@@ -50,8 +50,8 @@ module _ (is_text : List ℕ → List ℕ → Type 0) where
   AreHostsIn None hosts = hosts ≡ Local
   AreHostsIn (Some path) hosts = (text : List ℕ) × is_text path text × AreListedIn text hosts
 
-  -- this is what the options name for a node: its hosts, its seals under the keys of the files, and the address at
-  -- which it listens, where it has a key if other machines can reach that
+  -- this is what the options name for a node: its hosts, its seals under the keys of the files, the admins, and the
+  -- address at which it listens, where it has a key if other machines can reach that
   pub record IsNetworkOf (header : HeaderValue) (port : ℕ) (options : NetworkOptions) (n : Network)
       (address : SocketAddr) : Type 0 where
     pub hosts : AreHostsIn (option_map (λ p. p.now) options.hosts) n.hosts
@@ -59,6 +59,7 @@ module _ (is_text : List ℕ → List ℕ → Type 0) where
     pub nodes : AreKeysIn (option_map (λ p. p.now) options.key) (key_list n.seals.nodes)
     pub clients : AreKeysIn (option_map (λ p. p.now) options.client_key) (key_list n.seals.clients)
     pub apart : AreApart (key_list n.seals.nodes) (key_list n.seals.clients)
+    pub admins : n.admins ≡ options.admins
     pub listens : IsListening header port options.bind n.hosts address
     pub guarded : IsReachedWithKey n.seals address
 

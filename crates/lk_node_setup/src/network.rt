@@ -16,6 +16,7 @@ use lk_client::destination::Destination;
 use lk_node_files::causes::write_cause;
 use lk_program_fault::ProgramFault;
 use lk_store_format::Header;
+use lk_transport::admins::Admins;
 use lk_transport::hosts::Hosts;
 use lk_transport::network::Network;
 use lk_types::{NodeNo, Port};
@@ -23,14 +24,15 @@ use std::alloc::Global;
 use std::io::Write;
 use std::net::{IpAddr, Ipv4Addr, SocketAddr};
 
-/// The options of a command line about other machines: the file of the hosts; the address that a node listens on, or
-/// that a client asks first; the key files of the nodes and of the clients.
+/// The options of a command line about others: the file of the hosts; the address that a node listens on, or that a
+/// client asks first; the key files of the nodes and of the clients; and which clients a node takes for admins.
 #[derive(Clone, Copy)]
 pub struct NetworkOptions<'a> {
     pub hosts: Option<&'a str>,
     pub bind: Option<IpAddr>,
     pub key: Option<&'a str>,
     pub client_key: Option<&'a str>,
+    pub admins: Admins,
 }
 
 // Reads the file of the hosts; if none is named, all nodes are at 127.0.0.1. If the file cannot be read or is invalid,
@@ -188,8 +190,8 @@ fn check_reach<E: Write>(
     Ok(())
 }
 
-/// Reads what the options name. Returns where the nodes live with the keys, and the address on which the node listens.
-/// On failure it writes the reason and returns `CannotOpen`; out of memory, it returns `NoMemory`.
+/// Reads what the options name. Returns where the nodes live, with the keys and the admins, and the address on which
+/// the node listens. On failure it writes the reason and returns `CannotOpen`; out of memory, it returns `NoMemory`.
 pub fn network_of<T: TextFiles, E: Write>(
     files: &T,
     alloc: Global,
@@ -207,7 +209,12 @@ pub fn network_of<T: TextFiles, E: Write>(
     let host = listen_host(header, &hosts, options.hosts, options.bind, err)?;
     let address = SocketAddr::from((host, port.get()));
     check_reach(&seals, address, err)?;
-    Ok((Network { hosts, seals }, address))
+    let network = Network {
+        hosts,
+        seals,
+        admins: options.admins,
+    };
+    Ok((network, address))
 }
 
 /// Reads what a client's options name. Returns the address that it asks first (127.0.0.1 if none is given), where the

@@ -111,9 +111,9 @@ probe_length_is p bytes s is =
     ap length s.1 ∙ omega (arith, spelled_probe p s.0, none)
 
 pub long_probe_length_is : (p : Probe) (bytes : List ℕ) → SpellsProbe p bytes → p.asks_reach ≡ true
-    → length bytes ≡ 178
+    → length bytes ≡ 182
 long_probe_length_is p bytes s is =
-    let more : length (blank p.asks_reach) ≡ 4 = ap (λ (b : Bool). length (blank b)) is in
+    let more : length (blank p.asks_reach) ≡ 8 = ap (λ (b : Bool). length (blank b)) is in
     ap length s.1 ∙ omega (arith, spelled_probe p s.0, more)
 
 spelled_report : (r : Report) → IsReport r → length (report_spelling r) ≡ 174 + length (reach_in r.reach)
@@ -136,7 +136,7 @@ report_length_is r bytes s is =
     ap length s.1 ∙ omega (arith, spelled_report r s.0, length-tail r.reach false is)
 
 pub long_report_length_is : (r : Report) (bytes : List ℕ) → SpellsReport r bytes → is_some r.reach ≡ true
-    → length bytes ≡ 178
+    → length bytes ≡ 182
 long_report_length_is r bytes s is =
     ap length s.1 ∙ omega (arith, spelled_report r s.0, length-tail r.reach true is)
 

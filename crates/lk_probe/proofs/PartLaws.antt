@@ -347,14 +347,17 @@ heard_reads = remade_reads heard_in heard_number (tested (λ n. leb n 256) read_
 reach_reads : Reads read_reach reach IsReach
 unfolding read_reach
 reach_reads = fitting read_reach reach
-    (λ (t : Reach). IfSome t.heard IsByte × (Unit {0} × Unit {0})) IsReach (λ t f. f.0) (λ t f. (f, (tt, tt)))
-    (made_reads (λ (t : Option ℕ × (Bool × Bool)). let x : Reach =
-    record { heard = t.0; reads_bundles = t.1.0; sends_bundles = t.1.1 } in x)
-    (λ (t : Reach). (t.heard, (t.reads_bundles, t.sends_bundles))) (λ x. refl) (λ y. refl) _ _ _
+    (λ (t : Reach). IfSome t.heard IsByte
+    × (Unit {0} × (Unit {0} × ((t.watches < 2 ^ 16) × (t.names < 2 ^ 16))))) IsReach
+    (λ t f. (f.0, f.1.1.1.0, f.1.1.1.1)) (λ t f. (f.0, (tt, (tt, (f.1, f.2)))))
+    (made_reads (λ (t : Option ℕ × (Bool × (Bool × (ℕ × ℕ)))). let x : Reach =
+    record { heard = t.0; reads_bundles = t.1.0; sends_bundles = t.1.1.0; watches = t.1.1.1.0; names = t.1.1.1.1 } in x)
+    (λ (t : Reach). (t.heard, (t.reads_bundles, (t.sends_bundles, (t.watches, t.names))))) (λ x. refl) (λ y. refl) _ _ _
     (both_reads read_heard (λ (o : Option ℕ). two (heard_number o)) (λ (o : Option ℕ). IfSome o IsByte)
     _ _ _ heard_reads
-    (both_reads read_flag (λ (b : Bool). one (flag b)) (λ (b : Bool). Unit {0})
-    read_flag (λ (b : Bool). one (flag b)) (λ (b : Bool). Unit {0}) flag_reads flag_reads)))
+    (both_reads read_flag (λ (b : Bool). one (flag b)) (λ (b : Bool). Unit {0}) _ _ _ flag_reads
+    (both_reads read_flag (λ (b : Bool). one (flag b)) (λ (b : Bool). Unit {0}) _ _ _ flag_reads
+    (both_reads read_two two (λ n. n < 2 ^ 16) read_two two (λ n. n < 2 ^ 16) two_reads two_reads)))))
 
 none : (bytes : List ℕ) → length bytes ≡ 0 → bytes ≡ []
 none [] e = refl
@@ -374,7 +377,7 @@ tail_takes bytes o h e =
           subst (λ (z : Option Reach). IfSome z IsReach × (bytes ≡ reach_in z)) (some_is (Some a.0) o a.2) (t.0, t.1)
     ]
 
-pub length-reach : (t : Reach) → length (reach t) ≡ 4
+pub length-reach : (t : Reach) → length (reach t) ≡ 8
 length-reach t = simp (length-append, length-two) (omega arith)
 
 pub tail_again : (o : Option Reach) → IfSome o IsReach → read_tail (reach_in o) ≡ Some o
@@ -389,13 +392,13 @@ pub blank_takes : (bytes : List ℕ) (asks : Bool) → read_blank bytes ≡ Some
 unfolding read_blank
 blank_takes bytes asks e =
     elim (chosen (eqb (length bytes) 0) (Some false)
-    (cond (eqb (length bytes) 4 && are_zeros bytes) (Some true) None) (Some asks) e) [
+    (cond (eqb (length bytes) 8 && are_zeros bytes) (Some true) None) (Some asks) e) [
       | inl short ↦ subst (λ (z : Bool). bytes ≡ blank z) (some_is false asks short.1)
           (none bytes (eqb-true _ _ short.0))
-      | inr long ↦ elim (chosen (eqb (length bytes) 4 && are_zeros bytes) (Some true) None (Some asks) long.1) [
+      | inr long ↦ elim (chosen (eqb (length bytes) 8 && are_zeros bytes) (Some true) None (Some asks) long.1) [
         | inr bad ↦ let no = bad.1 in absurd cc
         | inl good ↦
-            let are = both_are (eqb (length bytes) 4) (are_zeros bytes) good.0 in
+            let are = both_are (eqb (length bytes) 8) (are_zeros bytes) good.0 in
             subst (λ (z : Bool). bytes ≡ blank z) (some_is true asks good.1)
             (zeros bytes are.1 ∙ ap (λ (n : ℕ). replicate n 0) (eqb-true _ _ are.0))
       ]

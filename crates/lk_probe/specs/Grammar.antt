@@ -24,7 +24,7 @@ probe_length = 174
 
 -- how many more form 2 has
 abbrev pub reach_length : ℕ
-reach_length = 4
+reach_length = 8
 
 -- a number that may not be there: 0 where it is not
 abbrev pub or_zero : Option ℕ → ℕ
@@ -61,7 +61,8 @@ heard_number None = 0
 heard_number (Some n) = n + 1
 
 abbrev pub reach : Reach → List ℕ
-reach t = two (heard_number t.heard) ++ (one (flag t.reads_bundles) ++ one (flag t.sends_bundles))
+reach t = two (heard_number t.heard)
+    ++ (one (flag t.reads_bundles) ++ (one (flag t.sends_bundles) ++ (two t.watches ++ two t.names)))
 
 -- the number of the form: the second has a reach, or asks for one
 abbrev pub form : Bool → ℕ
@@ -142,7 +143,7 @@ abbrev pub IsProbe : Probe → Type 0
 IsProbe p = (p.cluster < 2 ^ 64) × IfSome p.origin IsOrigin × IfSome p.client IsClient × (p.token < 2 ^ 64)
 
 abbrev pub IsReach : Reach → Type 0
-IsReach t = IfSome t.heard IsByte
+IsReach t = IfSome t.heard IsByte × (t.watches < 2 ^ 16) × (t.names < 2 ^ 16)
 
 abbrev pub IsReport : Report → Type 0
 IsReport r = (r.cluster < 2 ^ 64) × IsNode r.node × IfSome r.client IsClient × (r.token < 2 ^ 64) × IsStatus r.status

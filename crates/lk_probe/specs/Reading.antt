@@ -121,8 +121,14 @@ unfoldable pub read_heard : List ℕ → Option (Option ℕ × List ℕ)
 read_heard = made heard_in (tested (λ n. nat_le n 256) read_two)
 
 unfoldable pub read_reach : List ℕ → Option (Reach × List ℕ)
-read_reach = made (λ t. record { heard = t.0; reads_bundles = t.1.0; sends_bundles = t.1.1 })
-    (both read_heard (both read_flag read_flag))
+read_reach = made (λ t. record {
+  heard = t.0;
+  reads_bundles = t.1.0;
+  sends_bundles = t.1.1.0;
+  watches = t.1.1.1.0;
+  names = t.1.1.1.1;
+})
+    (both read_heard (both read_flag (both read_flag (both read_two read_two))))
 
 -- what follows the bytes of form 1 in a report: nothing, or a reach
 unfoldable pub read_tail : List ℕ → Option (Option Reach)

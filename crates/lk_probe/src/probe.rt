@@ -21,7 +21,7 @@ pub struct Probe {
     pub client: Option<ClientNo>,
     /// A number that the report repeats, by which the asker matches them.
     pub token: u64,
-    /// Whether the report is to say whom the node hears: then both have form 2.
+    /// Whether the report is to have a reach: then both have form 2.
     pub asks_reach: bool,
 }
 
@@ -36,7 +36,7 @@ pub struct Report {
     /// The token of the probe.
     pub token: u64,
     pub status: Status,
-    /// Whom it hears, and what it does with bundles, if the probe asks for that: then the report has form 2.
+    /// What form 2 has beside the status, if the probe asks for that: then the report has form 2.
     pub reach: Option<Reach>,
 }
 

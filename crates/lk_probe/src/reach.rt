@@ -1,8 +1,9 @@
-// What a report of form 2 has beside the status: whom its node hears, and what its socket does with bundles.
+// What a report of form 2 has beside the status.
 ghost use Rattle.std.specs.Prelude.{IfSome};
 ghost use Rattle.lk_probe.specs.Grammar.{IsReach};
 
-/// Whom a node hears, and what its socket does with bundles.
+/// What a report of form 2 has beside the status: whom its node hears, what its socket does with bundles, and how many
+/// watches and names it keeps.
 #[derive(Clone, Copy)]
 pub struct Reach {
     /// How many of the members of the next position it hears, itself included. `None` if it does not find that out.
@@ -11,6 +12,10 @@ pub struct Reach {
     pub reads_bundles: bool,
     /// Whether it sends bundles.
     pub sends_bundles: bool,
+    /// How many watches it keeps, 65535 if there are more.
+    pub watches: u16,
+    /// How many names its lock table has, 65535 if there are more.
+    pub names: u16,
 }
 
 impl Reach {
@@ -21,6 +26,8 @@ impl Reach {
         if let Some(heard) = self.heard {
             let _heard = heard;
         }
+        let _watches = self.watches;
+        let _names = self.names;
     }
 }
 

@@ -272,10 +272,14 @@ fn read_reach(bytes: &[u8]) -> Option<(Reach, &[u8])>
     let (heard, rest) = read_heard(bytes)?;
     let (reads_bundles, rest) = read_flag(rest)?;
     let (sends_bundles, rest) = read_flag(rest)?;
+    let (watches, rest) = read_u16(rest)?;
+    let (names, rest) = read_u16(rest)?;
     let reach = Reach {
         heard,
         reads_bundles,
         sends_bundles,
+        watches,
+        names,
     };
     Some((reach, rest))
 }

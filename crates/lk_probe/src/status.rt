@@ -12,7 +12,7 @@ pub const DIGEST: usize = 32;
 pub const LENGTH: usize = 174;
 
 /// How many bytes form 2 has after these.
-pub const REACH: usize = 4;
+pub const REACH: usize = 8;
 
 /// The version of a program.
 #[derive(Clone, Copy, PartialEq, Eq)]

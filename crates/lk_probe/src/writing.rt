@@ -229,6 +229,8 @@ fn reach_bytes(value: &Reach) -> Bytes
     put_heard(&mut out, value.heard);
     put_flag(&mut out, value.reads_bundles);
     put_flag(&mut out, value.sends_bundles);
+    put_u16(&mut out, value.watches);
+    put_u16(&mut out, value.names);
     out
 }
 

@@ -105,6 +105,7 @@ module _ {R : Type 0} (Shows : R → ProbedState → Type 0) (observable : Type 
         network = (
           held.0 ∙ kept.0 ∙ known.0 ∙ heard.0 ∙ ap (λ (b : AddressBook). b.hosts) book,
           held.1 ∙ kept.1 ∙ known.1 ∙ heard.1 ∙ ap (λ (b : AddressBook). b.seals) book,
+          held.2 ∙ kept.2 ∙ known.2 ∙ heard.2 ∙ ap (λ (b : AddressBook). b.admins) book,
         );
         still = λ t. quiet t ∙ still t ∙ ap (λ (s : ServerValue R). s.incoming) again
             ∙ answer_still Shows observable asked old replied replies t;

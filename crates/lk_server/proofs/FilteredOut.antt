@@ -3,7 +3,7 @@ use Rattle.std.proofs.Common.{◌≡◌, ℕ, Bool, ◌||◌, ◌&&◌, true, fa
 use Rattle.std.specs.declared.net.socket_addr.SocketAddr.{SocketAddr}
 use Rattle.lk_auth.specs.Seals.{heard}
 use Rattle.lk_transport.specs.Addresses.{Filter}
-use Rattle.lk_transport.specs.Posts.{is_filtered_out, is_probe_or_report, is_request}
+use Rattle.lk_transport.specs.Posts.{is_filtered_out, is_beside_protocol, is_dropped}
 
 first_true : (a b : Bool) → a ≡ true → a || b ≡ true
 first_true true b is = refl
@@ -21,38 +21,35 @@ first_false : (a b : Bool) → a || b ≡ false → a ≡ false
 first_false true b is = is
 first_false false b is = refl
 
--- it is a client's request, and the node is deaf
-abbrev pub is_dropped : Filter → SocketAddr × List ℕ → Bool
-is_dropped s d = s.deaf && is_request (heard s.seals d.1)
-
--- so, or it came from a node of another genesis
+-- it came from a node of another genesis, or it is dropped
 abbrev is_strange : Filter → SocketAddr × List ℕ → Bool
-is_strange s d = s.strangers d.0 || is_dropped s d
+is_strange s d = s.strangers d.0 || is_dropped s (heard s.seals d.1)
 
 -- it stands beside the protocol
-pub beside_is_out : (s : Filter) (d : SocketAddr × List ℕ) → is_probe_or_report (heard s.seals d.1) ≡ true
+pub beside_is_out : (s : Filter) (d : SocketAddr × List ℕ) → is_beside_protocol (heard s.seals d.1) ≡ true
     → is_filtered_out s d ≡ true
-beside_is_out s d is = first_true (is_probe_or_report (heard s.seals d.1)) (is_strange s d) is
+beside_is_out s d is = first_true (is_beside_protocol (heard s.seals d.1)) (is_strange s d) is
 
 -- it came from a node of another genesis
 pub stranger_is_out : (s : Filter) (d : SocketAddr × List ℕ) → s.strangers d.0 ≡ true → is_filtered_out s d ≡ true
 stranger_is_out s d is =
-    second_true (is_probe_or_report (heard s.seals d.1)) (is_strange s d)
-    (first_true (s.strangers d.0) (is_dropped s d) is)
+    second_true (is_beside_protocol (heard s.seals d.1)) (is_strange s d)
+    (first_true (s.strangers d.0) (is_dropped s (heard s.seals d.1)) is)
 
--- a client asks, and the node is deaf
-pub dropped_is_out : (s : Filter) (d : SocketAddr × List ℕ) → is_dropped s d ≡ true → is_filtered_out s d ≡ true
+-- it is a client's request that is dropped
+pub dropped_is_out : (s : Filter) (d : SocketAddr × List ℕ) → is_dropped s (heard s.seals d.1) ≡ true
+    → is_filtered_out s d ≡ true
 dropped_is_out s d is =
-    second_true (is_probe_or_report (heard s.seals d.1)) (is_strange s d)
-    (second_true (s.strangers d.0) (is_dropped s d) is)
+    second_true (is_beside_protocol (heard s.seals d.1)) (is_strange s d)
+    (second_true (s.strangers d.0) (is_dropped s (heard s.seals d.1)) is)
 
 -- none of these
-pub is_not_out : (s : Filter) (d : SocketAddr × List ℕ) → is_probe_or_report (heard s.seals d.1) ≡ false
-    → s.strangers d.0 ≡ false → is_dropped s d ≡ false → is_filtered_out s d ≡ false
+pub is_not_out : (s : Filter) (d : SocketAddr × List ℕ) → is_beside_protocol (heard s.seals d.1) ≡ false
+    → s.strangers d.0 ≡ false → is_dropped s (heard s.seals d.1) ≡ false → is_filtered_out s d ≡ false
 is_not_out s d beside known taken =
-    none_true (is_probe_or_report (heard s.seals d.1)) (is_strange s d) beside
-    (none_true (s.strangers d.0) (is_dropped s d) known taken)
+    none_true (is_beside_protocol (heard s.seals d.1)) (is_strange s d) beside
+    (none_true (s.strangers d.0) (is_dropped s (heard s.seals d.1)) known taken)
 
 pub not_beside : (s : Filter) (d : SocketAddr × List ℕ) → is_filtered_out s d ≡ false
-    → is_probe_or_report (heard s.seals d.1) ≡ false
-not_beside s d apart = first_false (is_probe_or_report (heard s.seals d.1)) (is_strange s d) apart
+    → is_beside_protocol (heard s.seals d.1) ≡ false
+not_beside s d apart = first_false (is_beside_protocol (heard s.seals d.1)) (is_strange s d) apart

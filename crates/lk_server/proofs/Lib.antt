@@ -1,5 +1,7 @@
 mod Free
 mod Probed
+mod Watched
+mod Telling
 mod Asking
 mod Carrying
 mod FilteredOut

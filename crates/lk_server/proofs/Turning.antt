@@ -148,6 +148,8 @@ same_by old new others = record {
   cluster = ap (λ (s : ServerValue _). s.cluster) others;
   node = ap (λ (s : ServerValue _). s.node) others;
   pace = ap (λ (s : ServerValue _). s.pace) others;
+  queue = ap (λ (s : ServerValue _). s.queue) others;
+  aged = ap (λ (s : ServerValue _). s.aged) others;
 }
 
 pub same_in_group : {R : Type 0} (old new : ServerValue R) → ChangesInGroup old new → IsSameServer old new
@@ -155,6 +157,8 @@ same_in_group old new others = record {
   cluster = ap (λ (s : ServerValue _). s.cluster) others;
   node = ap (λ (s : ServerValue _). s.node) others;
   pace = ap (λ (s : ServerValue _). s.pace) others;
+  queue = ap (λ (s : ServerValue _). s.queue) others;
+  aged = ap (λ (s : ServerValue _). s.aged) others;
 }
 
 -- one receive is all that a turn receives
@@ -696,10 +700,14 @@ module _ {R : Type 0} (S : Sayings R) (G : Gatherings R) (observable : Type 0) w
   -- ---- a turn
 
   -- it is the same server, a step further
-  same_further : (old mid new : ServerValue R) → mid.cluster ≡ old.cluster → mid.node ≡ old.node → mid.pace ≡ old.pace
-      → IsSameServer mid new → IsSameServer old new
-  same_further old mid new cluster node pace same =
-      record { cluster = same.cluster ∙ cluster; node = same.node ∙ node; pace = same.pace ∙ pace }
+  same_further : (old mid new : ServerValue R) → IsSameServer old mid → IsSameServer mid new → IsSameServer old new
+  same_further old mid new first same = record {
+    cluster = same.cluster ∙ first.cluster;
+    node = same.node ∙ first.node;
+    pace = same.pace ∙ first.pace;
+    queue = same.queue ∙ first.queue;
+    aged = same.aged ∙ first.aged;
+  }
 
   pub turn_of : (frames : List (SocketAddr × List ℕ)) (group now : GroupValue) (old mid new : ServerValue R)
       → G old.replica [] group old.replica → AddsGroup G observable frames group now old mid
@@ -721,7 +729,7 @@ module _ {R : Type 0} (S : Sayings R) (G : Gatherings R) (observable : Type 0) w
         withholds = withholding_on old mid new untimed unheld t.withholds;
         heard = subst (λ (b : AddressBook). RecordsSenders old.cluster
             (all_filtered (filter_of old.addresses) frames) old.addresses b) (sym book) t.heard;
-        same = same_further old mid new first.cluster first.node first.pace then;
+        same = same_further old mid new first then;
         alive = lives;
       }
 
@@ -749,7 +757,7 @@ module _ {R : Type 0} (S : Sayings R) (G : Gatherings R) (observable : Type 0) w
     ticks = untimed ∙ t.ticks;
     heard = subst (λ (b : AddressBook). RecordsSenders old.cluster
         (all_filtered (filter_of old.addresses) frames) old.addresses b) (sym book) t.heard;
-    same = same_further old mid new first.cluster first.node first.pace then;
+    same = same_further old mid new first then;
     ended = ended;
   }
 

@@ -5,4 +5,6 @@ pub mod Gatherings
 pub mod Pauses
 pub mod Probes
 pub mod ProbeHandling
+pub mod WatchHandling
+pub mod FullQueues
 pub mod Premises

@@ -9,6 +9,7 @@ use Rattle.lk_probe.specs.declared.probe.Probe.{Probe}
 use Rattle.lk_auth.specs.Seals.{key_list, to_node, heard, IsSealedBy}
 use Rattle.lk_auth.specs.Vouching.{IsSealedByClient}
 use Rattle.lk_auth.specs.declared.seals.Seals.{Seals}
+use Rattle.lk_watch.specs.declared.watch.Watch.{Watch}
 
 -- no node's message: it spells a client's request, or nothing
 abbrev pub IsNoNodeMessage : List ℕ → Type 0
@@ -44,3 +45,9 @@ IsProbedByANode s frame = IsSealedBy (key_list s.nodes) (to_node s s.node) frame
 -- names none, that of client 0, which only the masters yield and no client is given
 abbrev pub IsProbedByWhomItNames : Seals → List ℕ → Probe → Type 0
 IsProbedByWhomItNames s frame p = IsProbedByANode s frame ⊎ IsSealedByClient s (or_zero p.client) frame (heard s frame)
+
+-- a node sealed a watch for this node, or someone did who has the key of its client
+abbrev pub IsWatchedByItsClient : Seals → List ℕ → Watch → Type 0
+IsWatchedByItsClient s frame w =
+    IsSealedBy (key_list s.nodes) (to_node s s.node) frame (heard s frame)
+    ⊎ IsSealedByClient s w.ticket.client frame (heard s frame)

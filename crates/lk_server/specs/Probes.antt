@@ -1,5 +1,5 @@
 -- The report of a node, and how a server answers a probe with it.
-use Rattle.std.specs.Prelude.{◌≡◌, ℕ, Bool, List, Option, Some, None, if◌then◌else◌}
+use Rattle.std.specs.Prelude.{◌≡◌, ℕ, Bool, List, Option, Some, None, if◌then◌else◌, length}
 use Rattle.lk_probe.specs.Grammar.{SpellsReport, IsReportFor}
 use Rattle.lk_probe.specs.declared.probe.Probe.{Probe}
 use Rattle.lk_probe.specs.declared.probe.Report.{Report}
@@ -26,33 +26,38 @@ pub record ReportsStatus (digest : List ℕ) (count : ℕ) (shown : ProbedState)
 
 -- ---- how it answers
 
--- a report has a reach exactly if the probe asks for one, and it tells this count of members that are heard
-pub record ReportsReach (asks : Bool) (heard : Option ℕ) (reach : Option Reach) : Type 0 where
+-- a report has a reach exactly if the probe asks for one, and it tells this count of members that are heard, so many
+-- watches, and the names that the replica shows
+pub record ReportsReach (asks : Bool) (heard : Option ℕ) (watches : ℕ) (shown : ProbedState) (reach : Option Reach)
+    : Type 0 where
   pub told : Reach
   pub count : told.heard ≡ heard
+  pub watches_told : told.watches ≡ watches
+  pub names_told : told.names ≡ shown.names
   pub is : reach ≡ (if asks then Some told else None)
 
 -- these bytes are a report of that node that answers the probe in its form, and tells what the replica shows, that
--- count of ticks, and this count of members that are heard. By the laws of lk_probe it is as long as the probe
-pub record IsReportTo (node : ℕ) (genesis : List ℕ) (count : ℕ) (heard : Option ℕ) (shown : ProbedState) (p : Probe)
-    (bytes : List ℕ) : Type 0 where
+-- count of ticks, this count of members that are heard, and so many watches. By the laws of lk_probe it is as long as
+-- the probe
+pub record IsReportTo (node : ℕ) (genesis : List ℕ) (count : ℕ) (heard : Option ℕ) (watches : ℕ) (shown : ProbedState)
+    (p : Probe) (bytes : List ℕ) : Type 0 where
   pub report : Report
   pub spelled : SpellsReport report bytes
   pub is_for : IsReportFor p report
   pub node_told : report.node ≡ node
   pub told : ReportsStatus genesis count shown report.status
-  pub reached : ReportsReach p.asks_reach heard report.reach
+  pub reached : ReportsReach p.asks_reach heard watches shown report.reach
 
--- the probe was answered, by the server's own count of periods and with whom it hears in this one, where a member gets
--- its letters, or else where the probe came from; nothing else is sent or changed, nor is what is to come, if the
--- socket tells that. `Shows` is what a replica shows
+-- the probe was answered, by the server's own count of periods, with whom it hears in this one and how many watches it
+-- keeps, where a member gets its letters, or else where the probe came from; nothing else is sent or changed, nor is
+-- what is to come, if the socket tells that. `Shows` is what a replica shows
 pub record RepliesToProbe {R : Type 0} (Shows : R → ProbedState → Type 0) (observable : Type 0) (a : ReceivedProbe)
     (old new : ServerValue R) : Type 0 where
   pub shown : ProbedState
   pub shows : Shows old.replica shown
   pub bytes : List ℕ
-  pub reports : IsReportTo old.node old.addresses.seals.genesis (periods old) (heard_by shown.members old) shown a.probe
-      bytes
+  pub reports : IsReportTo old.node old.addresses.seals.genesis (periods old) (heard_by shown.members old)
+      (length old.queue.waiters) shown a.probe bytes
   pub located : ProbedState
   pub locates : Shows old.replica located
   pub address : SocketAddr

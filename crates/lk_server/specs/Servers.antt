@@ -15,6 +15,7 @@ use Rattle.lk_pacing.specs.Paces.{is_clock, ticks_after, MayFollow}
 use Rattle.lk_transport.specs.Posts.{RecordsSenders, SendState, Becomes, all_filtered}
 use Rattle.lk_transport.specs.Streams.{Stream, Receives, ReceivesOne, ComeWithin, frames_in}
 use Rattle.lk_transport.specs.declared.network.Network.{Network}
+use Rattle.lk_watch.specs.Queues.{QueueValue}
 use Rattle.lk_pacing.specs.declared.pace.Pace.{Pace}
 use Rattle.lk_pacing.specs.declared.pace.Pace.TheVariants.{Clock}
 
@@ -40,17 +41,21 @@ pub record ServerValue (R : Type 0) : Type 0 where
   pub socket_failures : ℕ
   -- what its receives are to find, in order
   pub incoming : Stream
+  -- who waits for a name, and the count of periods up to which their watches have lived
+  pub queue : QueueValue
+  pub aged : ℕ
 
--- it serves as this node of this cluster, with this pace, these hosts and these keys
+-- it serves as this node of this cluster, with this pace, these hosts, these keys and these admins
 pub record IsConfiguredAs {R : Type 0} (c n : ℕ) (p : Pace) (known : Network) (s : ServerValue R) : Type 0 where
   pub cluster : s.cluster ≡ c
   pub node : s.node ≡ n
   pub pace : s.pace ≡ p
   pub hosts : s.addresses.hosts ≡ known.hosts
   pub seals : s.addresses.seals ≡ known.seals
+  pub admins : s.addresses.admins ≡ known.admins
 
--- nobody has written to it yet, not even itself, it has counted no tick and probed nobody, and is deaf if its ticks go
--- by the clock
+-- nobody has written to it yet, not even itself, and nobody waits; it has counted no tick and probed nobody, and is
+-- deaf if its ticks go by the clock
 pub record HasHeardNobody {R : Type 0} (s : ServerValue R) : Type 0 where
   pub loopback : s.loopback ≡ []
   pub received : s.received ≡ 0
@@ -60,6 +65,8 @@ pub record HasHeardNobody {R : Type 0} (s : ServerValue R) : Type 0 where
   pub deaf : s.addresses.deaf ≡ is_clock s.pace
   pub clients : (c : ℕ) → IsClient c → client_at s.addresses c ≡ None
   pub nodes : (n : ℕ) → node_at s.addresses n ≡ None
+  pub waiters : s.queue.waiters ≡ []
+  pub aged : s.aged ≡ 0
 
 -- it runs this replica, which a call has ended or not
 pub record Runs {R : Type 0} (r : R) (ended : Bool) (s : ServerValue R) : Type 0 where
@@ -239,11 +246,13 @@ pub record KeepsCounts {R : Type 0} (old new : ServerValue R) : Type 0 where
   pub ticks : new.ticks ≡ old.ticks
   pub withheld : new.withheld ≡ old.withheld
 
--- it is the server of the same node, and its ticks go by the same
+-- it is the server of the same node, its ticks go by the same, and the same wait as before
 pub record IsSameServer {R : Type 0} (old new : ServerValue R) : Type 0 where
   pub cluster : new.cluster ≡ old.cluster
   pub node : new.node ≡ old.node
   pub pace : new.pace ≡ old.pace
+  pub queue : new.queue ≡ old.queue
+  pub aged : new.aged ≡ old.aged
 
 -- Where letters of the node to itself wait, it takes the first 64 of them, in order, and nothing of the socket; else
 -- what came. Its replica was given just that as one group, and a tick where one was due and not withheld, and each tick

@@ -1,4 +1,5 @@
-//! Counts the datagrams that mean nothing to a server: those that do not parse, and those of another cluster.
+//! Counts the datagrams that a server ignores: those that do not parse, those of another cluster, and administrative
+//! requests of clients that are no admins.
 
 ghost use Rattle.std.specs.Prelude.{◌≡◌, ◌≢◌, Some, None, if◌then◌else◌};
 ghost use Rattle.lk_server.specs.Counts.{is_power_of_two};
@@ -7,11 +8,13 @@ ghost use Rattle.lk_disk.specs.Disk.{one_more};
 use lk_transport::arrival::Arrival;
 use log::{Log, debug};
 
-/// How many datagrams did not parse, and how many were of another cluster.
+/// How many datagrams did not parse, how many were of another cluster, and how many were administrative requests of
+/// clients that are no admins.
 #[derive(Clone, Copy)]
 pub struct IgnoredCounts {
     bad: u64,
     foreign: u64,
+    barred: u64,
 }
 
 // Logs a count if it is a power of two, so that the log stays short. Returns whether it is one.
@@ -28,9 +31,13 @@ fn log_count<L: Log>(log: &L, what: &str, count: u64) -> bool
 impl IgnoredCounts {
     /// No such datagram has arrived.
     pub fn new() -> IgnoredCounts
-        ensures { result ≡ record { bad = 0; foreign = 0 } }
+        ensures { result ≡ record { bad = 0; foreign = 0; barred = 0 } }
     {
-        IgnoredCounts { bad: 0, foreign: 0 }
+        IgnoredCounts {
+            bad: 0,
+            foreign: 0,
+            barred: 0,
+        }
     }
 
     /// Returns how many datagrams did not parse.
@@ -40,8 +47,17 @@ impl IgnoredCounts {
         self.bad
     }
 
-    /// Counts a datagram if it is one of them, and logs each count that is a power of two at level debug. Returns the
-    /// count of datagrams of another cluster if this one brought it to a power of two.
+    /// Counts an administrative request of a client that is no admin, and logs each count that is a power of two at
+    /// level debug.
+    pub fn count_barred<L: Log>(&mut self, log: &L)
+        ensures { self.new ≡ record self.old { barred = one_more self.old.barred } }
+    {
+        self.barred = self.barred.saturating_add(1);
+        let _ = log_count(log, "that only an admin may send", self.barred);
+    }
+
+    /// Counts a datagram if it does not parse or is of another cluster, and logs each count that is a power of two at
+    /// level debug. Returns the count of datagrams of another cluster if this one brought it to a power of two.
     pub fn count<L: Log>(&mut self, came: &Arrival, log: &L) -> Option<u64>
         ensures bad { came.now ≡ Arrival.Bad → self.new ≡ record self.old { bad = one_more self.old.bad } }
         ensures foreign { came.now ≡ Arrival.Foreign

@@ -7,9 +7,11 @@ ghost use Rattle.lk_auth.specs.declared.seals.Seals.{Seals};
 ghost use Rattle.lk_node.specs.NodeValue.{NodeValue};
 ghost use Rattle.lk_node.specs.Steps.{IsForeign};
 ghost use Rattle.lk_transport.specs.Askers.{BringsProbe};
+ghost use Rattle.lk_transport.specs.Watches.{BringsWatch};
 ghost use Rattle.lk_transport.specs.declared.received_probe.ReceivedProbe.{ReceivedProbe};
+ghost use Rattle.lk_transport.specs.declared.received_watch.ReceivedWatch.{ReceivedWatch};
 ghost use Rattle.lk_server.specs.Premises.{IsFromANode, IsToldOrAsked, IsProbedByANode, IsProbedByWhomItNames};
-ghost use Rattle.lk_server.specs.Premises.{IsUnsealed};
+ghost use Rattle.lk_server.specs.Premises.{IsUnsealed, IsWatchedByItsClient};
 
 /// If the nodes have a key, whatever a server takes from a frame was sealed for this node by someone who has one of
 /// the nodes' keys, or it is no node's message: it is a client's request, or it does not parse.
@@ -39,4 +41,11 @@ pub fn is_probed_by_whom_it_names()
         → key_list s.clients ≢ [] → BringsProbe s d (Some a) → IsProbedByWhomItNames s d.1 a.probe }
     ensures node { (s : Seals) (d : SocketAddr × List ℕ) (a : ReceivedProbe) → key_list s.nodes ≢ []
         → key_list s.clients ≡ [] → IsSome a.probe.origin → BringsProbe s d (Some a) → IsProbedByANode s d.1 }
+{}
+
+/// If nodes and clients have keys, a watch that is kept was sealed by someone who has one of the nodes' keys, or the
+/// key of the client that it names. No client can watch as another.
+pub fn is_watched_by_its_client()
+    ensures { (s : Seals) (d : SocketAddr × List ℕ) (r : ReceivedWatch) → key_list s.nodes ≢ []
+        → key_list s.clients ≢ [] → BringsWatch s d (Some r) → IsWatchedByItsClient s d.1 r.watch }
 {}

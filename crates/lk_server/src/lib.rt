@@ -2,6 +2,7 @@
 //! the crates above.
 #![tactic(auto)]
 
+mod barring;
 mod gathering;
 pub mod group_fault;
 pub mod ignored;
@@ -13,4 +14,5 @@ mod probing;
 pub mod server;
 mod socket_input;
 pub mod turn_events;
+mod watch_handling;
 pub mod watching;

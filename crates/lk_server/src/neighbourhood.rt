@@ -36,17 +36,22 @@ impl<R: ServerReplica, S: DatagramSocket + Drop> Server<R, S> {
         }
     }
 
+    // Whether 600 periods have passed since that count of them, if it is one.
+    pub(crate) fn is_minute_past(&self, noted: Option<u64>) -> bool {
+        match noted {
+            Some(periods) => self.now().saturating_sub(periods) >= MINUTE,
+            None => true,
+        }
+    }
+
     // Logs a warning, and records an event, that it hears a node of another genesis: once in 600 periods at most.
     pub(crate) fn warn_of_stranger<L: Log>(&mut self, node: NodeNo, log: &L)
         ensures { self.new ≡ self.old }
     {
-        match self.stranger_warned {
-            Some(periods) if self.now().saturating_sub(periods) < MINUTE => {}
-            _ => {
-                self.stranger_warned = Some(self.now());
-                self.events.stranger = Some(node);
-                log_stranger(log, node);
-            }
+        if self.is_minute_past(self.stranger_warned) {
+            self.stranger_warned = Some(self.now());
+            self.events.stranger = Some(node);
+            log_stranger(log, node);
         }
     }
 

@@ -48,6 +48,7 @@ fn receive_after_pause<S: DatagramSocket + Drop, C: Clock>(
     ensures pauses { IsPauseDue pause.old group.now → pause.new.left + 1 ≡ pause.old.left }
     ensures asked { buffer.new.asked ≡ buffer.old.asked }
     ensures reported { buffer.new.reported ≡ buffer.old.reported }
+    ensures watched { buffer.new.watched ≡ buffer.old.watched }
     ensures others { post.new ≡ record post.old { incoming = post.new.incoming } }
 {
     if pauses(pause, tick_timer, group) {
@@ -72,6 +73,7 @@ pub(crate) fn receive_or_pause<S: DatagramSocket + Drop, C: Clock>(
         → pause.new.left + 1 ≡ pause.old.left }
     ensures asked { buffer.new.asked ≡ buffer.old.asked }
     ensures reported { buffer.new.reported ≡ buffer.old.reported }
+    ensures watched { buffer.new.watched ≡ buffer.old.watched }
     ensures others { post.new ≡ record post.old { incoming = post.new.incoming } }
 {
     post.try_receive(buffer);

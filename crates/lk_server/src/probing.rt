@@ -60,12 +60,25 @@ impl<R: ServerReplica, S: DatagramSocket + Drop> Server<R, S> {
         Some(self.post.count_heard(members, self.now()) as u8)
     }
 
-    // Returns whom it hears of the members that its replica shows, and what its socket does with bundles.
+    // Returns how many watches it keeps.
+    fn count_watches(&self) -> u16
+        ensures { result ≡ length self.now.queue.waiters }
+    {
+        // It does nothing; by its contract there are at most 1,024.
+        self.watches.facts();
+        self.watches.len() as u16
+    }
+
+    // Returns whom it hears of the members that its replica shows, what its socket does with bundles, and how many
+    // watches and names it keeps.
     fn reach_of(&self, shown: &ProbedState) -> Reach
-        ensures { result.heard ≡ heard_by shown.now.members self.now }
+        ensures heard { result.heard ≡ heard_by shown.now.members self.now }
+        ensures watches { result.watches ≡ length self.now.queue.waiters }
+        ensures names { result.names ≡ shown.now.names }
     {
         shown.members.facts();
-        self.post.reach(self.heard_of(shown.members.as_slice()))
+        let heard = self.heard_of(shown.members.as_slice());
+        self.post.reach(heard, self.count_watches(), shown.names)
     }
 
     // Returns the version of the lock table, which it reads if that is unknown.
@@ -77,11 +90,11 @@ impl<R: ServerReplica, S: DatagramSocket + Drop> Server<R, S> {
     }
 
     // Returns the report that replies to a probe: the server's status, with what its replica shows now, and whom it
-    // hears now, if the probe asks for that.
+    // hears and how many watches and names it keeps now, if the probe asks for that.
     fn report(&self, asked: &ReceivedProbe) -> ProbeDatagram
         ensures { (shown : ProbedStateValue) × R.Shows self.now.replica shown
             × IsReportTo self.now.node self.now.addresses.seals.genesis (periods self.now)
-            (heard_by shown.members self.now) shown asked.now.probe result }
+            (heard_by shown.members self.now) (length self.now.queue.waiters) shown asked.now.probe result }
     {
         let shown = self.replica.show();
         let reach = self.reach_of(&shown);

@@ -29,6 +29,7 @@ use lk_transport::post::SocketPost;
 use lk_transport::receive_buffer::ReceiveBuffer;
 use lk_transport::socket::DatagramSocket;
 use lk_types::NodeNo;
+use lk_watch::queue::WatchQueue;
 use log::Log;
 use std::alloc::Global;
 use std::marker::Model;
@@ -45,7 +46,8 @@ pub struct Server<R: ServerReplica, S: DatagramSocket + Drop> {
     pub(crate) post: SocketPost<S>,
     // datagrams taken so far, modulo 2^64
     pub(crate) received: u64,
-    // how many of them did not parse, and how many were of another cluster
+    // how many of them did not parse, were of another cluster, or were administrative requests of clients that are no
+    // admins
     pub(crate) ignored: IgnoredCounts,
     // what has happened since the last `drain_events`
     pub(crate) events: TurnEvents,
@@ -61,6 +63,11 @@ pub struct Server<R: ServerReplica, S: DatagramSocket + Drop> {
     pub(crate) tokens: TokenSource,
     // the count of periods at its last warning of a node of another genesis
     pub(crate) stranger_warned: Option<u64>,
+    // the same at its last event of an administrative request that it dropped
+    pub(crate) barred_noted: Option<u64>,
+    // who waits for a name, and the count of periods up to which their watches have lived
+    pub(crate) watches: WatchQueue,
+    pub(crate) aged: u64,
 }
 
 impl<R: ServerReplica, S: DatagramSocket + Drop> Model for Server<R, S> {
@@ -82,6 +89,8 @@ impl<R: ServerReplica, S: DatagramSocket + Drop> Model for Server<R, S> {
       sent = s.post.sent;
       socket_failures = s.post.socket_failures;
       incoming = s.post.incoming;
+      queue = s.watches;
+      aged = s.aged;
     } };
 }
 
@@ -120,6 +129,9 @@ impl<R: ServerReplica, S: DatagramSocket + Drop> Server<R, S> {
             sync_pause: SyncPause::NONE,
             tokens: TokenSource::new(),
             stranger_warned: None,
+            barred_noted: None,
+            watches: WatchQueue::new(alloc),
+            aged: 0,
         }
     }
 
@@ -240,7 +252,7 @@ impl<R: ServerReplica, S: DatagramSocket + Drop> Server<R, S> {
             × (found : TurnInput) × (frames : List (Address × List ℕ))
             × Finds S.is_observable found frames self.old self.new
             × KeepsOf self.old.addresses.seals frames buffer.old buffer.new) }
-        // Where nodes live and the keys do not change.
+        // Where nodes live, the keys and the admins do not change.
         ensures network { IsSameNetwork self.old.addresses self.new.addresses }
     {
         let mut group = self.new_group();
@@ -277,7 +289,7 @@ pub fn node_turn<R: ServerReplica, S: DatagramSocket + Drop, C: Clock, L: Log>(
         ((frames : List (Address × List ℕ)) × HasReceived S.is_observable frames server.old server.new
         × LastTurn R.Says S.is_observable (all_filtered (filter_of server.old.addresses) frames)
         server.old server.new) }
-    // Where nodes live and the keys do not change.
+    // Where nodes live, the keys and the admins do not change.
     ensures network { IsSameNetwork server.old.addresses server.new.addresses }
 {
     let mut group = server.new_group();

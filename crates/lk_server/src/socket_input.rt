@@ -11,7 +11,7 @@ ghost use Rattle.lk_server.specs.Gatherings.{Finds, AddsHeard, EndsHeard, AddsFr
 ghost use Rattle.lk_server.specs.Gatherings.{EndsGroup, ChangesAtFrame, ChangesAtSocket};
 ghost use Rattle.lk_transport.specs.Streams.{Receives, ComeWithin, first_of, listed};
 ghost use Rattle.lk_transport.specs.Posts.{RecordsSender, is_filtered_out};
-ghost use Rattle.lk_transport.specs.Kept.{KeepsProbes, KeepsOf};
+ghost use Rattle.lk_transport.specs.Kept.{KeepsLast, KeepsOf};
 
 use crate::gathering::FURTHER;
 use crate::group_fault::GroupFault;
@@ -23,7 +23,7 @@ use lk_replica::Group;
 use lk_server_replica::ServerReplica;
 use lk_transport::arrival::Arrival;
 use lk_transport::receive_buffer::ReceiveBuffer;
-use lk_transport::received_probe::is_probe_or_report;
+use lk_transport::received_probe::is_beside_protocol;
 use lk_transport::socket::DatagramSocket;
 use lk_wire::Datagram;
 use log::Log;
@@ -36,6 +36,7 @@ impl<R: ServerReplica, S: DatagramSocket + Drop> Server<R, S> {
         ensures comes { S.is_observable → Receives buffer.new.last self.old.incoming self.new.incoming }
         ensures asked { buffer.new.asked ≡ buffer.old.asked }
         ensures reported { buffer.new.reported ≡ buffer.old.reported }
+        ensures watched { buffer.new.watched ≡ buffer.old.watched }
         ensures others { self.new ≡ record self.old { incoming = self.new.incoming } }
     {
         self.post.receive(buffer);
@@ -54,6 +55,7 @@ impl<R: ServerReplica, S: DatagramSocket + Drop> Server<R, S> {
         ensures none { S.is_observable → buffer.new.last ≡ None → first_of self.old.incoming ≡ None }
         ensures asked { buffer.new.asked ≡ buffer.old.asked }
         ensures reported { buffer.new.reported ≡ buffer.old.reported }
+        ensures watched { buffer.new.watched ≡ buffer.old.watched }
         ensures others { self.new ≡ record self.old { incoming = self.new.incoming } }
     {
         receive_or_pause(
@@ -86,9 +88,9 @@ impl<R: ServerReplica, S: DatagramSocket + Drop> Server<R, S> {
     }
 
     // Opens the frame in the buffer, if there is one, and adds its datagram to the group. The buffer keeps the first
-    // probe and the first report instead. What comes from the address of a node of another genesis is dropped, and a
-    // client's request while the server is deaf.
-    // Returns what was found.
+    // probe, the first report and the first watch instead. What comes from the address of a node of another genesis is
+    // dropped, and a client's request while the server is deaf, or if it is administrative and the client is no
+    // admin. Returns what was found.
     fn add_received<L: Log>(
         &mut self,
         buffer: &mut ReceiveBuffer,
@@ -113,7 +115,7 @@ impl<R: ServerReplica, S: DatagramSocket + Drop> Server<R, S> {
             × (is_filtered_out (filter_of self.old.addresses) frame ≡ false)
             × EndsHeard R.Says R.Gathers (frame ∷ []) group.old self.old self.new) }
         ensures kept { IfOk result
-            (λ found. found ≡ TurnInput.Filtered → KeepsProbes self.old.addresses.seals buffer.old
+            (λ found. found ≡ TurnInput.Filtered → KeepsLast self.old.addresses.seals buffer.old
             buffer.new) }
         ensures rest { IfOk result (λ found. (found ≡ TurnInput.Filtered → ⊥) → buffer.new ≡ buffer.old) }
         ensures spares { OnErr result (buffer.new ≡ buffer.old) }
@@ -124,11 +126,13 @@ impl<R: ServerReplica, S: DatagramSocket + Drop> Server<R, S> {
             return Ok(TurnInput::Nothing);
         };
         let datagram = self.post.open(frame);
-        if is_probe_or_report(datagram) {
+        if is_beside_protocol(datagram) {
             let asked = self.post.read_probe(from, frame, datagram);
             let reported = self.post.read_report(from, frame, datagram);
+            let watched = self.post.read_watch(from, frame, datagram);
             buffer.keep_probe(asked);
             buffer.keep_report(reported);
+            buffer.keep_watch(watched);
             return Ok(TurnInput::Filtered);
         }
         if let Some(node) = self.post.stranger(from) {
@@ -136,6 +140,7 @@ impl<R: ServerReplica, S: DatagramSocket + Drop> Server<R, S> {
             return Ok(TurnInput::Filtered);
         }
         if self.post.drops(datagram) {
+            self.note_dropped(datagram, log);
             return Ok(TurnInput::Filtered);
         }
         let viewed = Datagram::of(datagram);
@@ -156,7 +161,8 @@ impl<R: ServerReplica, S: DatagramSocket + Drop> Server<R, S> {
             → (frame : Address × List ℕ) × (is_filtered_out (filter_of self.old.addresses) frame ≡ false)
             × AddsFromSocket R.Gathers S.is_observable 1 (frame ∷ []) group.old group.new self.old self.new
             × KeepsOf self.old.addresses.seals (frame ∷ []) buffer.old buffer.new
-            × (buffer.new.asked ≡ buffer.old.asked) × (buffer.new.reported ≡ buffer.old.reported)) }
+            × (buffer.new.asked ≡ buffer.old.asked) × (buffer.new.reported ≡ buffer.old.reported)
+            × (buffer.new.watched ≡ buffer.old.watched)) }
         ensures none { IfOk result
             (λ found. (found ≡ TurnInput.Something → ⊥)
             → (frames : List (Address × List ℕ)) × Finds S.is_observable found frames self.old self.new
@@ -188,7 +194,8 @@ impl<R: ServerReplica, S: DatagramSocket + Drop> Server<R, S> {
         ensures none { IfOk result
             (λ came. came ≡ false → (S.is_observable → ComeWithin 2 [] self.old.incoming self.new.incoming)
             × (record self.new { incoming = self.old.incoming } ≡ self.old) × (group.new ≡ group.old)
-            × (buffer.new.asked ≡ buffer.old.asked) × (buffer.new.reported ≡ buffer.old.reported)) }
+            × (buffer.new.asked ≡ buffer.old.asked) × (buffer.new.reported ≡ buffer.old.reported)
+            × (buffer.new.watched ≡ buffer.old.watched)) }
         ensures ends { OnErr result
             ((frame : Address × List ℕ)
             × EndsSocket R.Says R.Gathers S.is_observable 2 (frame ∷ []) group.old self.old self.new) }
@@ -207,7 +214,7 @@ impl<R: ServerReplica, S: DatagramSocket + Drop> Server<R, S> {
     }
 
     // Adds up to 63 further datagrams to the group, in order: those that already wait or come in a pause, as long
-    // as the group has something to send, and up to the first probe or report that is kept.
+    // as the group has something to send, and up to the first probe, report or watch that is kept.
     fn add_further_datagrams<C: Clock, L: Log>(
         &mut self,
         buffer: &mut ReceiveBuffer,

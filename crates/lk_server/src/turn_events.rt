@@ -1,12 +1,14 @@
 //! What happened to a node in a turn, for the observer of its events.
 
-ghost use Rattle.std.specs.Prelude.{◌≡◌, ◌≤◌, ◌<◌, ℕ, Some, None};
+ghost use Rattle.std.specs.Prelude.{◌≡◌, ◌≤◌, ◌<◌, ◌||◌, ℕ, Some, None};
 ghost use Rattle.lk_transport.specs.Arrivals.{sender};
+ghost use Rattle.lk_server.specs.FullQueues.{says_full};
 
 use lk_server_replica::replica_status::ReplicaStatus;
 use lk_transport::arrival::Arrival;
 use lk_transport::post::SendSummary;
 use lk_types::{Executed, NodeNo};
+use lk_watch::{Letter, News, Watch};
 
 /// What happened to a node in a turn that its state after the turn does not show.
 #[derive(Clone, Copy)]
@@ -19,6 +21,10 @@ pub struct TurnEvents {
     pub stranger: Option<NodeNo>,
     /// How many datagrams of another cluster have come, if that is to be reported.
     pub foreign: Option<u64>,
+    /// The client that is no admin whose administrative request was dropped, if that is to be reported.
+    pub barred: Option<u16>,
+    /// Whether a watch was answered that the queue of those who wait has no room for its client.
+    pub is_queue_full: bool,
 }
 
 impl TurnEvents {
@@ -28,6 +34,8 @@ impl TurnEvents {
         sends: SendSummary::NOTHING,
         stranger: None,
         foreign: None,
+        barred: None,
+        is_queue_full: false,
     };
 
     /// Records the snapshot that the replica installed at this input, if it did and a node sent the input.
@@ -44,6 +52,18 @@ impl TurnEvents {
                 self.installed = Some((after.snapshot, node));
             }
             _ => {}
+        }
+    }
+
+    /// Records that the queue of those who wait is full, if the answer to a watch says that.
+    pub fn note_answer(&mut self, watch: &Watch, answer: &Letter)
+        ensures { self.new ≡ record self.old {
+          is_queue_full = self.old.is_queue_full || says_full watch.now answer.now;
+        } }
+    {
+        let is_kept_out = watch.periods > 0 && answer.place == 0;
+        if is_kept_out && answer.news == News::Held {
+            self.is_queue_full = true;
         }
     }
 }

@@ -4,3 +4,4 @@ pub mod Showing
 pub mod Statuses
 pub mod TableVersions
 pub mod Refusals
+pub mod Tables

@@ -1,8 +1,10 @@
 -- The values that a replica shows to a probe.
 use Rattle.std.specs.Prelude.{◌≡◌, ◌↔◌, ◌==◌, ◌+◌, ◌-◌, ℕ, if◌then◌else◌, length, min, slice_get, Some, IsTrue}
+use Rattle.std.specs.FinMap as map
 use Rattle.lk_members.specs.Windows.{RosterValue}
 use Rattle.lk_leader.specs.Proposing.{Leads}
 use Rattle.lk_replica.specs.ReplicaValue.{ReplicaValue}
+use Rattle.lk_server_replica.specs.Tables.{table_of}
 use Rattle.lk_server_replica.specs.declared.probed_state.ProbedState.{ProbedState}
 
 -- how many positions remain before the last granted join or leave takes effect; 0 if none is pending
@@ -21,3 +23,4 @@ pub record IsShown (r : ReplicaValue) (s : ProbedState) : Type 0 where
   pub pending : s.progress.pending ≡ min (pending_in r.node.learner.whole.roster) 255
   pub waiting : s.waiting ≡ min (length r.node.leader.waiting) 65535
   pub format : s.format ≡ r.store.format
+  pub names : s.names ≡ map.len (table_of r).names

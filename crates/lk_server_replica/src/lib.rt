@@ -4,8 +4,10 @@
 mod probed_state;
 pub mod replica_status;
 mod server_replica;
+mod table_machine;
 mod table_version;
 
 pub use probed_state::ProbedState;
 pub use server_replica::ServerReplica;
+pub use table_machine::TableMachine;
 pub use table_version::TableVersion;

@@ -1,8 +1,11 @@
 //! The part of a node's report to a probe that its replica knows.
 
 ghost use Rattle.std.specs.Prelude.{◌≡◌, Some, min, length, slice_get};
+ghost use Rattle.std.specs.FinMap as map;
+ghost use Rattle.lk_locks.specs.Packed.{table_in};
 ghost use Rattle.lk_server_replica.specs.Showing.{pending_in, IsShown};
 
+use crate::table_machine::TableMachine;
 use lk_disk::LogDisk;
 use lk_members::Roster;
 use lk_node::Node;
@@ -22,6 +25,8 @@ pub struct ProbedState {
     pub members: Members,
     /// The format of its store.
     pub format: u8,
+    /// How many names its lock table has.
+    pub names: u16,
 }
 
 // The members of the next position.
@@ -55,9 +60,16 @@ fn waiting<M: Machine>(node: &Node<M>) -> u16
     if count < 65535 { count as u16 } else { 65535 }
 }
 
+// Returns how many names the lock table has.
+fn names<M: TableMachine>(node: &Node<M>) -> u16
+    ensures { result ≡ map.len (table_in node.now.learner.whole.text).names }
+{
+    node.machine().table().len() as u16
+}
+
 impl ProbedState {
     /// Reads these values from a replica.
-    pub fn of<M: Machine, D: LogDisk + Drop>(replica: &Replica<M, D>) -> ProbedState
+    pub fn of<M: TableMachine, D: LogDisk + Drop>(replica: &Replica<M, D>) -> ProbedState
         ensures { IsShown replica.now result }
     {
         let node = replica.node();
@@ -76,6 +88,7 @@ impl ProbedState {
             waiting: waiting(node),
             members: next_members(node.roster()).copy(),
             format: replica.format(),
+            names: names(node),
         }
     }
 }

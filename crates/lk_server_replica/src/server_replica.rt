@@ -4,6 +4,7 @@ ghost use Rattle.std.specs.Prelude.{◌≡◌, ℕ, List, [], ◌∷◌, Option,
 ghost use Rattle.lk_node_interface.specs.Letters.{LetterValue};
 ghost use Rattle.lk_node.specs.Calls.{heard_by};
 ghost use Rattle.lk_node_interface.specs.declared.input.Input.{Input as InputValue};
+ghost use Rattle.lk_locks.specs.Plain.{Table};
 ghost use Rattle.lk_replica.specs.Groups.{GroupValue, IsGathered};
 ghost use Rattle.lk_replica.specs.Posts.{GivesLetters, TellsSends};
 ghost use Rattle.lk_state.specs.Packed.{packed};
@@ -12,16 +13,18 @@ ghost use Rattle.lk_server_replica.specs.Groups.{GathersMore, SaysNoMore};
 ghost use Rattle.lk_server_replica.specs.Showing.{IsShown};
 ghost use Rattle.lk_server_replica.specs.Refusals.{IsOfGroups};
 ghost use Rattle.lk_server_replica.specs.Statuses.{IsStatusOf};
+ghost use Rattle.lk_server_replica.specs.Tables.{table_of};
 ghost use Rattle.lk_server_replica.specs.TableVersions.{TellsRaised};
 ghost use Rattle.lk_server_replica.specs.declared.probed_state.ProbedState.{ProbedState as ProbedStateValue};
 
 use crate::probed_state::ProbedState;
 use crate::replica_status::ReplicaStatus;
+use crate::table_machine::TableMachine;
 use crate::table_version::is_raised;
 use lk_disk::LogDisk;
+use lk_locks::LockTable;
 use lk_node_interface::{Input, Post, ReplicaFault};
 use lk_replica::{Group, Replica};
-use lk_state::Machine;
 use std::alloc::Global;
 
 /// A replica as a server runs it: it takes its input in groups.
@@ -45,6 +48,9 @@ pub trait ServerReplica: Sized + Drop {
 
     /// Whether it may return this from `is_raised`.
     ghost IsRaised: { Self → Bool → Type 0 };
+
+    /// The lock table that it has executed.
+    ghost table: { Self → Table };
 
     /// Returns an empty group, for `gather` and `release`.
     fn new_group(&self, alloc: Global) -> Group
@@ -93,9 +99,13 @@ pub trait ServerReplica: Sized + Drop {
     /// unpacks its state, which is expensive.
     fn is_raised(&self, alloc: Global) -> Option<bool>
         ensures { IfSome result (IsRaised self.now) };
+
+    /// Returns the lock table that it has executed.
+    fn table(&self) -> &LockTable
+        ensures { result.now ≡ table self.now };
 }
 
-impl<M: Machine, D: LogDisk + Drop> ServerReplica for Replica<M, D> {
+impl<M: TableMachine, D: LogDisk + Drop> ServerReplica for Replica<M, D> {
     ghost failed = { λ r. r.failed };
 
     ghost Says = { λ old given letters new. D.is_honest
@@ -110,6 +120,8 @@ impl<M: Machine, D: LogDisk + Drop> ServerReplica for Replica<M, D> {
     ghost Shows = { IsShown };
 
     ghost IsRaised = { λ r. TellsRaised M.meaning M.IsText (packed r.node.learner.whole) };
+
+    ghost table = { table_of };
 
     fn new_group(&self, alloc: Global) -> Group {
         Group::new(alloc)
@@ -143,5 +155,9 @@ impl<M: Machine, D: LogDisk + Drop> ServerReplica for Replica<M, D> {
 
     fn is_raised(&self, alloc: Global) -> Option<bool> {
         is_raised(alloc, self.node())
+    }
+
+    fn table(&self) -> &LockTable {
+        self.node().machine().table()
     }
 }

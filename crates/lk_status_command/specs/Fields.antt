@@ -12,7 +12,7 @@ use Rattle.lk_status_command.specs.declared.field.Field.{Field}
 use Rattle.lk_status_command.specs.declared.field.Field.TheVariants.{Leads, Leader, Silence, Promised, Executed}
 use Rattle.lk_status_command.specs.declared.field.Field.TheVariants.{Snapshot}
 use Rattle.lk_status_command.specs.declared.field.Field.TheVariants.{Members, Pending, Waiting, Unread, Unsent, Ticks}
-use Rattle.lk_status_command.specs.declared.field.Field.TheVariants.{Format}
+use Rattle.lk_status_command.specs.declared.field.Field.TheVariants.{Format, Watches, Names}
 use Rattle.lk_status_command.specs.declared.field.Field.TheVariants.{Table, Heard, ReadsBundles, SendsBundles}
 
 -- the node that a report takes for the leader, or 0: a leader takes itself for it
@@ -27,6 +27,15 @@ reads_in (Some t) = Some (flag t.reads_bundles)
 abbrev pub sends_in : Option Reach → Option ℕ
 sends_in None = None
 sends_in (Some t) = Some (flag t.sends_bundles)
+
+-- how many watches a node keeps, and how many names its lock table has, if that is said
+abbrev pub watches_in : Option Reach → Option ℕ
+watches_in None = None
+watches_in (Some t) = Some t.watches
+
+abbrev pub names_in : Option Reach → Option ℕ
+names_in None = None
+names_in (Some t) = Some t.names
 
 -- the number of a field that each report has
 abbrev pub field_number : Field → Report → ℕ
@@ -51,6 +60,8 @@ abbrev pub field_value : Field → Report → Option ℕ
 field_value Heard r = heard_of r.reach
 field_value ReadsBundles r = reads_in r.reach
 field_value SendsBundles r = sends_in r.reach
+field_value Watches r = watches_in r.reach
+field_value Names r = names_in r.reach
 field_value field r = Some (field_number field r)
 
 -- its name in JSON, and in a metric
@@ -72,6 +83,8 @@ field_name Table = codes "table_version"
 field_name Heard = codes "members_heard"
 field_name ReadsBundles = codes "reads_bundles"
 field_name SendsBundles = codes "sends_bundles"
+field_name Watches = codes "watches"
+field_name Names = codes "names"
 
 -- it only grows until the node restarts
 abbrev pub is_counter : Field → Bool
@@ -103,12 +116,15 @@ field_help Table = codes "Version of its lock table: 2 once it is raised."
 field_help Heard = codes "Members of the next position that it hears, itself included."
 field_help ReadsBundles = codes "Whether it reads bundles."
 field_help SendsBundles = codes "Whether it sends bundles."
+field_help Watches = codes "Watches that it keeps."
+field_help Names = codes "Names that its lock table has, free ones too: 512 at most."
 
 -- all of them, in the order in which they are printed
 abbrev pub all_fields : List Field
 all_fields =
     Leads ∷ Leader ∷ Silence ∷ Promised ∷ Executed ∷ Snapshot ∷ Members ∷ Pending
-    ∷ Waiting ∷ Unread ∷ Unsent ∷ Ticks ∷ Format ∷ Table ∷ Heard ∷ ReadsBundles ∷ SendsBundles ∷ []
+    ∷ Waiting ∷ Unread ∷ Unsent ∷ Ticks ∷ Format ∷ Table ∷ Heard ∷ ReadsBundles ∷ SendsBundles
+    ∷ Watches ∷ Names ∷ []
 
 -- the node is one of these members
 abbrev pub is_member : ℕ → List Member → Bool

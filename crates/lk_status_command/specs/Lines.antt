@@ -1,19 +1,25 @@
 -- The lines of a status: one for each target, and one for the cluster.
-use Rattle.std.specs.Prelude.{ℕ, ◌+◌, ◌-◌, ◌*◌, ◌%◌, ◌^◌, ◌==◌, nat_eq, nat_lt, nat_le, Bool, true, false, Option, Some}
+use Rattle.std.specs.Prelude.{ℕ, ◌-◌, ◌*◌, ◌==◌, nat_eq, nat_lt, nat_le, Bool, true, false, Option, Some}
 use Rattle.std.specs.Prelude.{None, List, []}
 use Rattle.std.specs.Prelude.{◌∷◌, ◌++◌, length, codes, if◌then◌else◌}
 use Rattle.std.specs.Cmp.Lexicographic.{pointwise}
 use Rattle.std.specs.Fmt.{decimal}
 use Rattle.std.specs.List.{flat_map}
+use Rattle.std.specs.Net.Text.{ip_text}
+use Rattle.std.specs.declared.net.ip_addr.IpAddr.{IpAddr}
 use Rattle.lk_types.specs.BallotValue.{BallotValue}
+use Rattle.lk_types.specs.Limits.{max_names}
 use Rattle.lk_types.specs.declared.member.Member.{Member}
 use Rattle.lk_probe.specs.Grammar.{heard_of}
 use Rattle.lk_probe.specs.declared.probe.Report.{Report}
 use Rattle.lk_status.specs.Measures.{executed_of}
 use Rattle.lk_status.specs.Rounds.{report_of}
+use Rattle.lk_status.specs.Targets.{target_address}
 use Rattle.lk_status.specs.Verdicts.{seeks_votes, count_reporting, one_genesis}
+use Rattle.lk_status.specs.declared.target.Inquiry.{Inquiry}
 use Rattle.lk_status.specs.declared.target.Target.{Target}
-use Rattle.lk_status_command.specs.Fields.{is_member}
+use Rattle.lk_status_command.specs.Fields.{is_member, names_in, watches_in}
+use Rattle.lk_status_command.specs.Tokens.{by_token}
 
 -- ---- counts
 
@@ -100,6 +106,14 @@ traffic_text r =
     ++ (count_text [] r.status.traffic.waiting (codes "request waits") (codes "requests wait")
     ++ count_text [] r.status.traffic.unsent (codes "send failed") (codes "sends failed"))
 
+-- how many watches, unless there are none or it is not said
+abbrev pub watches_text : Option ℕ → List ℕ
+watches_text None = []
+watches_text (Some watches) = if watches == 0 then [] else codes ", watches " ++ decimal watches
+
+abbrev pub kept_text : Report → List ℕ
+kept_text r = watches_text (watches_in r.reach)
+
 -- its number and its port
 abbrev pub name_text : ℕ → ℕ → List ℕ
 name_text node port = codes "node " ++ (decimal node ++ (codes ", port " ++ (decimal port ++ codes ": ")))
@@ -108,20 +122,33 @@ abbrev pub node_line : ℕ → Report → ℕ → List ℕ
 node_line port r most =
     name_text r.node port
     ++ (leadership_text r
-    ++ (hearing_text r ++ (progress_text r most ++ (members_text r.status.members ++ (traffic_text r ++ 10 ∷ [])))))
+    ++ (hearing_text r
+    ++ (progress_text r most ++ (members_text r.status.members ++ (traffic_text r ++ (kept_text r ++ 10 ∷ []))))))
 
 -- ---- of all
 
--- the line of the target at this port, by its report
-abbrev pub target_line : ℕ → Option Report → ℕ → List ℕ
-target_line port (Some r) most = node_line port r most
-target_line port None most = codes "port " ++ (decimal port ++ codes ": no answer\n")
+-- the node that was asked, if that is known
+abbrev pub asked_node : Option ℕ → List ℕ
+asked_node None = []
+asked_node (Some node) = codes "node " ++ (decimal node ++ codes ", ")
+
+-- the port and the address from which nothing came
+abbrev pub silent_place : IpAddr → ℕ → List ℕ
+silent_place address port =
+    codes "port " ++ (decimal port ++ (codes ": no answer from " ++ (ip_text address ++ 10 ∷ [])))
+
+-- the line of a target that has not answered
+abbrev pub silent_line : Inquiry → Target → List ℕ
+silent_line i t = asked_node t.node ++ silent_place (target_address i t) t.port
+
+-- the line of a target, by its report
+abbrev pub target_line : Inquiry → Target → Option Report → ℕ → List ℕ
+target_line i t (Some r) most = node_line t.port r most
+target_line i t None most = silent_line i t
 
 -- a line for each target, the first by the report with this token, and each other by that with the next
-abbrev pub target_lines : ℕ → List Target → List Report → ℕ → List ℕ
-target_lines token [] rs most = []
-target_lines token (t ∷ ts) rs most =
-    target_line t.port (report_of token rs) most ++ target_lines ((token + 1) % (2 ^ 64)) ts rs most
+abbrev pub target_lines : ℕ → Inquiry → List Report → ℕ → List ℕ
+target_lines first i rs most = by_token (λ token t. target_line i t (report_of token rs) most) first i.targets.items
 
 -- a node that names another genesis than the measure
 abbrev pub stranger_word : Report → Report → List ℕ
@@ -136,6 +163,22 @@ strangers_text measure rs =
 abbrev pub raised_text : Report → List ℕ
 raised_text r = if nat_le 2 r.status.identity.table then codes "; raised" else []
 
+-- the greater of two numbers, of those that there are
+abbrev pub greater : Option ℕ → Option ℕ → Option ℕ
+greater None other = other
+greater (Some n) None = Some n
+greater (Some n) (Some m) = if nat_lt n m then Some m else Some n
+
+-- the greatest of this number and those of names that the reports say
+abbrev pub most_names : Option ℕ → List Report → Option ℕ
+most_names most [] = most
+most_names most (r ∷ rs) = most_names (greater most (names_in r.reach)) rs
+
+-- how many names the lock table has, if that is known
+abbrev pub names_text : Option ℕ → List ℕ
+names_text None = []
+names_text (Some names) = codes "; names " ++ (decimal names ++ (codes " of " ++ decimal max_names))
+
 -- how many of its members are up
 abbrev pub majority_text : Report → List Report → List ℕ
 majority_text measure rs =
@@ -146,8 +189,9 @@ majority_text measure rs =
 abbrev pub cluster_line : Option Report → List Report → List ℕ
 cluster_line None rs = []
 cluster_line (Some measure) rs =
-    majority_text measure rs ++ (raised_text measure ++ (strangers_text measure rs ++ 10 ∷ []))
+    majority_text measure rs
+    ++ (names_text (most_names None rs) ++ (raised_text measure ++ (strangers_text measure rs ++ 10 ∷ [])))
 
 -- all of them, with the distance to the measure
-abbrev pub status_text : ℕ → List Target → List Report → Option Report → List ℕ
-status_text first targets rs measure = target_lines first targets rs (executed_of measure) ++ cluster_line measure rs
+abbrev pub status_text : ℕ → Inquiry → List Report → Option Report → List ℕ
+status_text first i rs measure = target_lines first i rs (executed_of measure) ++ cluster_line measure rs

@@ -13,7 +13,7 @@ use Rattle.lk_status_command.specs.declared.status.Form.TheVariants as form
 
 -- the lines of these reports, the first target's with this token, and why requests may not be answered
 abbrev pub lines_text : ℕ → Inquiry → List Report → Option Report → List ℕ
-lines_text first i rs measure = status_text first i.targets.items rs measure ++ why_text measure rs
+lines_text first i rs measure = status_text first i rs measure ++ why_text measure rs
 
 -- the text of these reports in each form
 abbrev pub form_text : Form → ℕ → Inquiry → List Report → Option Report → List ℕ

@@ -7,8 +7,19 @@ use Rattle.lk_types.specs.declared.member.Member.{Member}
 use Rattle.lk_probe.specs.Grammar.{heard_of}
 use Rattle.lk_probe.specs.declared.probe.Report.{Report}
 use Rattle.lk_probe.specs.declared.reach.Reach.{Reach}
-use Rattle.lk_status.specs.Verdicts.{seeks_votes, one_genesis, has_followers, has_majority, hears_enough}
+use Rattle.lk_status.specs.Verdicts.{seeks_votes, one_genesis, has_followers, has_majority, has_reported, hears_enough}
 use Rattle.lk_status_command.specs.Fields.{is_member, followed}
+
+-- ---- a leader that does not answer
+
+-- the node, if there is one and it has not reported
+abbrev pub unless_reported : Option ℕ → List Report → Option ℕ
+unless_reported None rs = None
+unless_reported (Some node) rs = if has_reported node rs then None else Some node
+
+-- the node that is followed, if it has not reported
+abbrev pub silent_in : List Report → Option ℕ
+silent_in rs = unless_reported (followed rs) rs
 
 -- ---- of a node
 
@@ -51,24 +62,35 @@ cut_off_line node =
     codes "why: node "
     ++ (decimal node ++ codes " hears no majority: if that lasts, check its --port, the hosts and its network\n")
 
+abbrev pub deaf_leader_line : ℕ → List ℕ
+deaf_leader_line node = codes "why: node "
+    ++ (decimal node ++ codes ", which leads, hears no majority: check what keeps the members' datagrams from it\n")
+
 -- it does not lead and hears no majority: it has another key, if it could not read what came, or else nothing comes
+abbrev pub follower_reason : Report → List ℕ
+follower_reason r =
+    if r.status.traffic.unread == 0 then cut_off_line r.node else other_key_line r.node r.status.traffic.unread
+
+-- it hears no majority
 abbrev pub unheard_reason : Report → List ℕ
-unheard_reason r =
-    if r.status.leadership.leads then []
-    else (if r.status.traffic.unread == 0 then cut_off_line r.node else other_key_line r.node r.status.traffic.unread)
+unheard_reason r = if r.status.leadership.leads then deaf_leader_line r.node else follower_reason r
+
+-- the same, but not while a leader is still followed that does not answer: then the election has just begun
+abbrev pub candidate_reason : Bool → Report → List ℕ
+candidate_reason early r = if early then [] else seeking_reason r
 
 -- it hears no majority, or seeks votes, or hears nobody
-abbrev pub hearing_reason : Report → List ℕ
-hearing_reason r =
-    if hears_enough r then (if seeks_votes r then seeking_reason r else deaf_reason r) else unheard_reason r
+abbrev pub hearing_reason : Bool → Report → List ℕ
+hearing_reason early r =
+    if hears_enough r then (if seeks_votes r then candidate_reason early r else deaf_reason r) else unheard_reason r
 
 abbrev pub outside_line : ℕ → List ℕ
 outside_line node = codes "why: node " ++ (decimal node ++ codes " is not a member: it has left, or has to join\n")
 
 -- of one of these members what it hears, where a majority of them is up, and of another node that it is none
-abbrev pub node_reason : Bool → List Member → Report → List ℕ
-node_reason majority members r =
-    if is_member r.node members then (if majority then hearing_reason r else []) else outside_line r.node
+abbrev pub node_reason : Bool → Bool → List Member → Report → List ℕ
+node_reason majority early members r =
+    if is_member r.node members then (if majority then hearing_reason early r else []) else outside_line r.node
 
 -- ---- of the cluster
 
@@ -88,14 +110,26 @@ mute_text (Some node) =
     ++ codes " sends and hears nobody: stop it, and check its --port, the hosts and the keys\n")
 mute_text None = codes "the members do not hear each other\n"
 
+-- a node is followed and does not answer: it has just died, or else it sends and hears nobody
+abbrev pub silent_text : ℕ → List ℕ
+silent_text node =
+    codes "node " ++ (decimal node
+    ++ codes ", which others follow, does not answer: stop it, and check its --port, the hosts and the keys\n")
+
 -- why nobody leads, if that lasts: where all nodes that report hear a majority, long datagrams are lost between them
 abbrev pub cause_text : List Report → List ℕ
 cause_text rs =
     if list_all hears rs then codes "let long datagrams pass (fragments): the members hear each other\n"
     else mute_text (followed rs)
 
+-- what to do if that lasts: where the node that is followed does not answer, the others show nothing of the cause yet
+abbrev pub remedy_text : Option ℕ → List Report → List ℕ
+remedy_text (Some node) rs = silent_text node
+remedy_text None rs = cause_text rs
+
 abbrev pub leaderless_line : List Report → List ℕ
-leaderless_line rs = codes "why: nobody leads: an election takes seconds; if it lasts, " ++ cause_text rs
+leaderless_line rs =
+    codes "why: nobody leads: an election takes seconds; if it lasts, " ++ remedy_text (silent_in rs) rs
 
 abbrev pub geneses_reason : List Report → List ℕ
 geneses_reason rs = if one_genesis rs then [] else geneses_line
@@ -105,22 +139,17 @@ unfollowed_line node =
     codes "why: no majority follows node "
     ++ (decimal node ++ codes ", which leads: they do not hear it, or it does not hear them\n")
 
-abbrev pub deaf_leader_line : ℕ → List ℕ
-deaf_leader_line node = codes "why: node "
-    ++ (decimal node ++ codes ", which leads, hears no majority: check what keeps the members' datagrams from it\n")
-
--- a leader hears no majority, or no majority follows it
+-- a leader hears a majority, and none follows it; of one that hears none its own reason says it
 abbrev pub unfollowed_reason : Report → List Report → List ℕ
 unfollowed_reason measure rs =
-    if hears_enough measure then (if has_followers measure rs then [] else unfollowed_line measure.node)
-    else deaf_leader_line measure.node
+    if hears_enough measure && not (has_followers measure rs) then unfollowed_line measure.node else []
 
 abbrev pub leader_reason : Report → List Report → List ℕ
 leader_reason measure rs =
     if measure.status.leadership.leads then unfollowed_reason measure rs else leaderless_line rs
 
-abbrev pub node_reasons : Bool → List Member → List Report → List ℕ
-node_reasons majority members rs = flat_map (node_reason majority members) rs
+abbrev pub node_reasons : Bool → Bool → List Member → List Report → List ℕ
+node_reasons majority early members rs = flat_map (node_reason majority early members) rs
 
 -- without a majority nobody can lead, and members that are up hear nobody
 abbrev pub leaders_reason : Bool → Report → List Report → List ℕ
@@ -129,7 +158,7 @@ leaders_reason majority measure rs = if majority then leader_reason measure rs e
 abbrev pub members_reason : Report → List Report → List ℕ
 members_reason measure rs =
     leaders_reason (has_majority measure rs) measure rs
-    ++ node_reasons (has_majority measure rs) measure.status.members rs
+    ++ node_reasons (has_majority measure rs) (is_some (silent_in rs)) measure.status.members rs
 
 -- ---- of bundles
 

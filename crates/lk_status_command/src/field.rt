@@ -2,7 +2,7 @@
 ghost use Rattle.std.specs.Prelude.{◌≡◌};
 ghost use Rattle.lk_probe.specs.Grammar.{heard_of, or_zero};
 ghost use Rattle.lk_status_command.specs.Fields.{field_name, field_kind, field_help, field_value, reads_in, sends_in};
-ghost use Rattle.lk_status_command.specs.Fields.{field_number, presumed_in};
+ghost use Rattle.lk_status_command.specs.Fields.{field_number, names_in, presumed_in, watches_in};
 
 use lk_probe::{Reach, Report};
 use lk_types::NodeNo;
@@ -27,10 +27,12 @@ pub enum Field {
     Heard,
     ReadsBundles,
     SendsBundles,
+    Watches,
+    Names,
 }
 
 /// All of them, in the order in which they are printed.
-pub const FIELDS: [Field; 17] = [
+pub const FIELDS: [Field; 19] = [
     Field::Leads,
     Field::Leader,
     Field::Silence,
@@ -48,6 +50,8 @@ pub const FIELDS: [Field; 17] = [
     Field::Heard,
     Field::ReadsBundles,
     Field::SendsBundles,
+    Field::Watches,
+    Field::Names,
 ];
 
 // The number of a node, or 0.
@@ -91,6 +95,26 @@ fn sends_bundles(reach: &Option<Reach>) -> Option<u64>
     }
 }
 
+/// Returns how many watches a node keeps, `None` if it does not say it.
+pub fn watches_kept(reach: &Option<Reach>) -> Option<u64>
+    ensures { result ≡ watches_in reach.now }
+{
+    match reach {
+        Some(reach) => Some(u64::from(reach.watches)),
+        None => None,
+    }
+}
+
+/// Returns how many names the lock table of a node has, `None` if it does not say it.
+pub fn names_kept(reach: &Option<Reach>) -> Option<u64>
+    ensures { result ≡ names_in reach.now }
+{
+    match reach {
+        Some(reach) => Some(u64::from(reach.names)),
+        None => None,
+    }
+}
+
 // Returns how many members a node hears, `None` if it does not say it.
 fn members_heard(report: &Report) -> Option<u64>
     ensures { result ≡ heard_of report.now.reach }
@@ -124,6 +148,8 @@ impl Field {
             Field::Heard => "members_heard",
             Field::ReadsBundles => "reads_bundles",
             Field::SendsBundles => "sends_bundles",
+            Field::Watches => "watches",
+            Field::Names => "names",
         }
     }
 
@@ -159,6 +185,8 @@ impl Field {
             Field::Heard => "Members of the next position that it hears, itself included.",
             Field::ReadsBundles => "Whether it reads bundles.",
             Field::SendsBundles => "Whether it sends bundles.",
+            Field::Watches => "Watches that it keeps.",
+            Field::Names => "Names that its lock table has, free ones too: 512 at most.",
         }
     }
 
@@ -182,7 +210,11 @@ impl Field {
             Field::Ticks => status.traffic.ticks,
             Field::Format => u64::from(status.identity.format),
             Field::Table => u64::from(status.identity.table),
-            Field::Heard | Field::ReadsBundles | Field::SendsBundles => 0,
+            Field::Heard
+            | Field::ReadsBundles
+            | Field::SendsBundles
+            | Field::Watches
+            | Field::Names => 0,
         }
     }
 
@@ -194,6 +226,8 @@ impl Field {
             Field::Heard => members_heard(report),
             Field::ReadsBundles => reads_bundles(&report.reach),
             Field::SendsBundles => sends_bundles(&report.reach),
+            Field::Watches => watches_kept(&report.reach),
+            Field::Names => names_kept(&report.reach),
             _ => Some(self.number(report)),
         }
     }

@@ -7,15 +7,20 @@ ghost use Rattle.lk_status_command.specs.Lines.{one_or_many};
 ghost use Rattle.lk_status_command.specs.Lines.{heard_text, unled_text, alone_text, followed_text, following_text};
 ghost use Rattle.lk_status_command.specs.Lines.{leadership_text, executed_text, snapshot_text, behind_text};
 ghost use Rattle.lk_status_command.specs.Lines.{promised_text, progress_text, members_text};
-ghost use Rattle.lk_status_command.specs.Lines.{count_text, traffic_text, node_line, target_line, target_lines};
-ghost use Rattle.lk_status_command.specs.Lines.{stranger_word, few_text, hearing_text};
-ghost use Rattle.lk_status_command.specs.Lines.{strangers_text, raised_text, majority_text, cluster_line, status_text};
+ghost use Rattle.lk_status_command.specs.Lines.{count_text, traffic_text, watches_text, kept_text, node_line};
+ghost use Rattle.lk_status_command.specs.Lines.{asked_node, silent_place, silent_line, target_line, target_lines};
+ghost use Rattle.lk_status_command.specs.Lines.{stranger_word, few_text, hearing_text, greater, most_names};
+ghost use Rattle.lk_status_command.specs.Lines.{names_text, strangers_text, raised_text, majority_text, cluster_line};
+ghost use Rattle.lk_status_command.specs.Lines.{status_text};
+ghost use Rattle.lk_status.specs.Targets.{target_address};
 
+use crate::field::{names_kept, watches_kept};
 use crate::node_reason::is_among;
 use lk_probe::Report;
 use lk_status::measure::executed_of;
-use lk_status::target::{Inquiry, report_with};
+use lk_status::target::{Inquiry, Target, report_with};
 use lk_status::verdict::{count_reporting, has_one_genesis, seeks_votes};
+use lk_types::limits::MAX_NAMES;
 use lk_types::{Ballot, Member, NodeNo};
 use std::io;
 use std::io::Write;
@@ -208,6 +213,25 @@ fn write_traffic<W: Write>(report: &Report, out: &mut W) -> io::Result<()>
     Ok(())
 }
 
+// Writes how many watches a node keeps, `, watches 3`, or nothing for 0 or if it does not say it.
+fn write_watches<W: Write>(watches: Option<u64>, out: &mut W) -> io::Result<()>
+    ensures { OnOk result (Appends (W.contents out.old) (W.contents out.new) (watches_text watches)) }
+{
+    match watches {
+        Some(watches) if watches > 0 => write!(out, ", watches {watches}")?,
+        _ => {}
+    }
+    Ok(())
+}
+
+// Writes how many watches the node of a report keeps, if it keeps any and says it.
+fn write_kept<W: Write>(report: &Report, out: &mut W) -> io::Result<()>
+    ensures { OnOk result (Appends (W.contents out.old) (W.contents out.new) (kept_text report.now)) }
+{
+    write_watches(watches_kept(&report.reach), out)?;
+    Ok(())
+}
+
 // Writes the line of a node.
 fn write_node<W: Write>(port: u16, report: &Report, most: u64, out: &mut W) -> io::Result<()>
     ensures { OnOk result (Appends (W.contents out.old) (W.contents out.new) (node_line port report.now most)) }
@@ -218,23 +242,54 @@ fn write_node<W: Write>(port: u16, report: &Report, most: u64, out: &mut W) -> i
     write_progress(report, most, out)?;
     write_members(report.status.members.as_slice(), out)?;
     write_traffic(report, out)?;
+    write_kept(report, out)?;
     out.write_all(b"\n")?;
     Ok(())
 }
 
-// Writes the line of the target at that port: that of its node, or `no answer`.
+// Writes the number of the node that was asked, or nothing if it was asked by its port alone.
+fn write_asked_node<W: Write>(node: Option<NodeNo>, out: &mut W) -> io::Result<()>
+    ensures { OnOk result (Appends (W.contents out.old) (W.contents out.new) (asked_node node)) }
+{
+    if let Some(node) = node {
+        write!(out, "node {}, ", node.get())?;
+    }
+    Ok(())
+}
+
+// Writes the port of a target that has not answered, and the address.
+fn write_silent_place<W: Write>(inquiry: &Inquiry, target: &Target, out: &mut W) -> io::Result<()>
+    ensures { OnOk result (Appends (W.contents out.old) (W.contents out.new)
+        (silent_place (target_address inquiry.now target.now) target.now.port)) }
+{
+    let address = inquiry.address_of(target).ip();
+    let port = target.port.get();
+    writeln!(out, "port {port}: no answer from {address}")
+}
+
+// Writes the line of a target that has not answered.
+fn write_silent<W: Write>(inquiry: &Inquiry, target: &Target, out: &mut W) -> io::Result<()>
+    ensures { OnOk result (Appends (W.contents out.old) (W.contents out.new) (silent_line inquiry.now target.now)) }
+{
+    write_asked_node(target.node, out)?;
+    write_silent_place(inquiry, target, out)?;
+    Ok(())
+}
+
+// Writes the line of a target: that of its node, or that it has not answered.
 fn write_target<W: Write>(
-    port: u16,
+    inquiry: &Inquiry,
+    target: &Target,
     report: Option<&Report>,
     most: u64,
     out: &mut W,
 ) -> io::Result<()>
     ensures { OnOk result (Appends (W.contents out.old) (W.contents out.new)
-        (target_line port (option_copied report.entry) most)) }
+        (target_line inquiry.now target.now (option_copied report.entry) most)) }
 {
     match report {
-        Some(report) => write_node(port, report, most, out)?,
-        None => writeln!(out, "port {port}: no answer")?,
+        Some(report) => write_node(target.port.get(), report, most, out)?,
+        None => write_silent(inquiry, target, out)?,
     }
     Ok(())
 }
@@ -248,12 +303,12 @@ fn write_targets<W: Write>(
     out: &mut W,
 ) -> io::Result<()>
     ensures { OnOk result (Appends (W.contents out.old) (W.contents out.new)
-        (target_lines first inquiry.now.targets.items reports.now most)) }
+        (target_lines first inquiry.now reports.now most)) }
 {
     let mut token = first;
     let targets = inquiry.targets.as_slice();
     'targets: for target in targets {
-        write_target(target.port.get(), report_with(reports, token), most, out)?;
+        write_target(inquiry, target, report_with(reports, token), most, out)?;
         token = token.wrapping_add(1);
     }
     Ok(())
@@ -293,6 +348,39 @@ fn write_raised<W: Write>(measure: &Report, out: &mut W) -> io::Result<()>
     Ok(())
 }
 
+// Returns the greater of two numbers, of those that there are.
+fn greater(one: Option<u64>, other: Option<u64>) -> Option<u64>
+    ensures { result ≡ greater one other }
+{
+    match (one, other) {
+        (None, other) => other,
+        (one, None) => one,
+        (Some(one), Some(other)) if one < other => Some(other),
+        (one, _) => one,
+    }
+}
+
+// Returns the greatest number of names that a node says its lock table has, `None` if none says it.
+fn most_names(reports: &[Report]) -> Option<u64>
+    ensures { result ≡ most_names None reports.now }
+{
+    let mut most = None;
+    for report in reports {
+        most = greater(most, names_kept(&report.reach));
+    }
+    most
+}
+
+// Writes how many names the lock table has, `; names 12 of 512`, or nothing if that is not known.
+fn write_names<W: Write>(names: Option<u64>, out: &mut W) -> io::Result<()>
+    ensures { OnOk result (Appends (W.contents out.old) (W.contents out.new) (names_text names)) }
+{
+    if let Some(names) = names {
+        write!(out, "; names {names} of {MAX_NAMES}")?;
+    }
+    Ok(())
+}
+
 // Writes how many of the measure's members have reported: `majority: 2 of 3 up`.
 fn write_majority<W: Write>(measure: &Report, reports: &[Report], out: &mut W) -> io::Result<()>
     ensures { OnOk result (Appends (W.contents out.old) (W.contents out.new) (majority_text measure.now reports.now)) }
@@ -302,7 +390,7 @@ fn write_majority<W: Write>(measure: &Report, reports: &[Report], out: &mut W) -
     write!(out, "majority: {up} of {count} up")
 }
 
-// Writes the line of the cluster, if any node reports: `majority: 2 of 3 up; raised; genesis differs: 4`.
+// Writes the line of the cluster, if any node reports: `majority: 2 of 3 up; names 12 of 512; genesis differs: 4`.
 fn write_cluster<W: Write>(
     measure: Option<&Report>,
     reports: &[Report],
@@ -315,6 +403,7 @@ fn write_cluster<W: Write>(
         return Ok(());
     };
     write_majority(measure, reports, out)?;
+    write_names(most_names(reports), out)?;
     write_raised(measure, out)?;
     write_strangers(measure, reports, out)?;
     out.write_all(b"\n")?;
@@ -331,7 +420,7 @@ pub fn write_lines<W: Write>(
     out: &mut W,
 ) -> io::Result<()>
     ensures { OnOk result (Appends (W.contents out.old) (W.contents out.new)
-        (status_text first inquiry.now.targets.items reports.now (option_copied measure.entry))) }
+        (status_text first inquiry.now reports.now (option_copied measure.entry))) }
 {
     write_targets(inquiry, first, reports, executed_of(measure), out)?;
     write_cluster(measure, reports, out)?;

@@ -4,7 +4,8 @@ ghost use Rattle.std.specs.Prelude.{◌≡◌, OnOk};
 ghost use Rattle.lk_status_command.specs.Fields.{is_member};
 ghost use Rattle.lk_status_command.specs.Reasons.{deaf_line, seeking_line, hears, fragments_line, seeking_reason};
 ghost use Rattle.lk_status_command.specs.Reasons.{other_key_line, cut_off_line, unheard_reason, hearing_reason};
-ghost use Rattle.lk_status_command.specs.Reasons.{outside_line, node_reason};
+ghost use Rattle.lk_status_command.specs.Reasons.{candidate_reason, deaf_leader_line, follower_reason, outside_line};
+ghost use Rattle.lk_status_command.specs.Reasons.{node_reason};
 
 use lk_probe::Report;
 use lk_status::verdict::{hears_enough, seeks_votes};
@@ -67,13 +68,23 @@ fn write_fragments<W: Write>(node: NodeNo, out: &mut W) -> io::Result<()>
 }
 
 // Writes that a node seeks votes, and what may keep them from it.
-fn write_candidate<W: Write>(report: &Report, out: &mut W) -> io::Result<()>
+fn write_seeker<W: Write>(report: &Report, out: &mut W) -> io::Result<()>
     ensures { OnOk result (Appends (W.contents out.old) (W.contents out.new) (seeking_reason report.now)) }
 {
     if hears(report) {
         write_fragments(report.node, out)?;
     } else {
         write_seeking(report.node, out)?;
+    }
+    Ok(())
+}
+
+// Writes the same, but not if the election has just begun.
+fn write_candidate<W: Write>(is_early: bool, report: &Report, out: &mut W) -> io::Result<()>
+    ensures { OnOk result (Appends (W.contents out.old) (W.contents out.new) (candidate_reason is_early report.now)) }
+{
+    if !is_early {
+        write_seeker(report, out)?;
     }
     Ok(())
 }
@@ -102,13 +113,22 @@ fn write_cut_off<W: Write>(node: NodeNo, out: &mut W) -> io::Result<()>
     Ok(())
 }
 
-// Writes that a node that does not lead hears no majority, and what may be the cause.
-fn write_unheard<W: Write>(report: &Report, out: &mut W) -> io::Result<()>
-    ensures { OnOk result (Appends (W.contents out.old) (W.contents out.new) (unheard_reason report.now)) }
+// Writes that a node that leads hears no majority.
+fn write_deaf_leader<W: Write>(leader: NodeNo, out: &mut W) -> io::Result<()>
+    ensures { OnOk result (Appends (W.contents out.old) (W.contents out.new) (deaf_leader_line leader)) }
 {
-    if report.status.leadership.leads {
-        return Ok(());
-    }
+    let node = leader.get();
+    writeln!(
+        out,
+        "why: node {node}, which leads, hears no majority: check what keeps the members' datagrams from it"
+    )?;
+    Ok(())
+}
+
+// Writes that a node that does not lead hears no majority, and what may be the cause.
+fn write_deaf_follower<W: Write>(report: &Report, out: &mut W) -> io::Result<()>
+    ensures { OnOk result (Appends (W.contents out.old) (W.contents out.new) (follower_reason report.now)) }
+{
     let unread = report.status.traffic.unread;
     if unread == 0 {
         write_cut_off(report.node, out)?;
@@ -118,15 +138,28 @@ fn write_unheard<W: Write>(report: &Report, out: &mut W) -> io::Result<()>
     Ok(())
 }
 
+// Writes that a node hears no majority: one that leads, also if it is no longer the leader that others follow, or
+// another one.
+fn write_unheard<W: Write>(report: &Report, out: &mut W) -> io::Result<()>
+    ensures { OnOk result (Appends (W.contents out.old) (W.contents out.new) (unheard_reason report.now)) }
+{
+    if report.status.leadership.leads {
+        write_deaf_leader(report.node, out)?;
+    } else {
+        write_deaf_follower(report, out)?;
+    }
+    Ok(())
+}
+
 // Writes that a node hears no majority, seeks votes, or hears nobody, if it does.
-fn write_hearing<W: Write>(report: &Report, out: &mut W) -> io::Result<()>
-    ensures { OnOk result (Appends (W.contents out.old) (W.contents out.new) (hearing_reason report.now)) }
+fn write_hearing<W: Write>(is_early: bool, report: &Report, out: &mut W) -> io::Result<()>
+    ensures { OnOk result (Appends (W.contents out.old) (W.contents out.new) (hearing_reason is_early report.now)) }
 {
     let leadership = &report.status.leadership;
     if !hears_enough(report) {
         write_unheard(report, out)?;
     } else if seeks_votes(report) {
-        write_candidate(report, out)?;
+        write_candidate(is_early, report, out)?;
     } else if !leadership.leads && leadership.silence >= SILENT {
         write_deaf(report.node, out)?;
     }
@@ -146,20 +179,22 @@ fn write_outside<W: Write>(node: NodeNo, out: &mut W) -> io::Result<()>
 }
 
 /// Writes that a node is not a member. Of a member it writes what it hears, but only if a majority is up: without one
-/// nobody can lead, and hearing nobody shows nothing.
+/// nobody can lead, and hearing nobody shows nothing. It does not write that a member seeks votes if the election has
+/// just begun.
 pub fn write_node<W: Write>(
     majority: bool,
+    is_early: bool,
     members: &[Member],
     report: &Report,
     out: &mut W,
 ) -> io::Result<()>
     ensures { OnOk result (Appends (W.contents out.old) (W.contents out.new)
-        (node_reason majority members.now report.now)) }
+        (node_reason majority is_early members.now report.now)) }
 {
     if !is_among(report.node, members) {
         write_outside(report.node, out)?;
     } else if majority {
-        write_hearing(report, out)?;
+        write_hearing(is_early, report, out)?;
     }
     Ok(())
 }

@@ -2,17 +2,19 @@
 ghost use Rattle.std.specs.Io.KnownBytes.{Appends};
 ghost use Rattle.std.specs.List.{list_all};
 ghost use Rattle.std.specs.Option.{option_copied};
-ghost use Rattle.std.specs.Prelude.{◌≡◌, OnOk, flat_map};
+ghost use Rattle.std.specs.Prelude.{◌≡◌, OnOk, flat_map, is_some};
 ghost use Rattle.lk_status_command.specs.Fields.{follows, followed};
 ghost use Rattle.lk_status_command.specs.Reasons.{hears, node_reasons, nobody_line, majority_line, mute_text};
-ghost use Rattle.lk_status_command.specs.Reasons.{cause_text, leaderless_line, unfollowed_line, unfollowed_reason};
+ghost use Rattle.lk_status_command.specs.Reasons.{silent_text, unless_reported, silent_in, cause_text, remedy_text};
+ghost use Rattle.lk_status_command.specs.Reasons.{leaderless_line, unfollowed_line, unfollowed_reason};
 ghost use Rattle.lk_status_command.specs.Reasons.{geneses_reason, leader_reason, leaders_reason, members_reason};
-ghost use Rattle.lk_status_command.specs.Reasons.{deaf_leader_line, reads, sends, some_send, unread_reason};
-ghost use Rattle.lk_status_command.specs.Reasons.{bundles_reason, why_text};
+ghost use Rattle.lk_status_command.specs.Reasons.{reads, sends, some_send, unread_reason, bundles_reason, why_text};
 
 use crate::node_reason::{SILENT, hears, write_node};
 use lk_probe::Report;
-use lk_status::verdict::{has_followers, has_majority, has_one_genesis, hears_enough, seeks_votes};
+use lk_status::verdict::{
+    has_followers, has_majority, has_one_genesis, has_reported, hears_enough, seeks_votes,
+};
 use lk_types::{Member, NodeNo};
 use std::io;
 use std::io::Write;
@@ -92,7 +94,8 @@ fn all_hear(reports: &[Report]) -> bool
     reports.iter().all(hears)
 }
 
-// Writes why nobody leads if that lasts: the members hear each other, or else see `write_mute`.
+// Writes why nobody leads if that lasts, where the node that is followed answers, or none is: the members hear each
+// other, or else see `write_mute`.
 fn write_cause<W: Write>(reports: &[Report], out: &mut W) -> io::Result<()>
     ensures { OnOk result (Appends (W.contents out.old) (W.contents out.new) (cause_text reports.now)) }
 {
@@ -104,13 +107,61 @@ fn write_cause<W: Write>(reports: &[Report], out: &mut W) -> io::Result<()>
     Ok(())
 }
 
-// Writes that nobody leads, and why if it lasts.
+// Returns the node, if there is one and it has not reported.
+fn unless_reported(node: Option<NodeNo>, reports: &[Report]) -> Option<NodeNo>
+    ensures { result ≡ unless_reported node reports.now }
+{
+    match node {
+        Some(node) if !has_reported(node, reports) => Some(node),
+        _ => None,
+    }
+}
+
+// Returns the node that the first of these nodes that follows one follows, if it does not answer. So it is shortly
+// after a leader has died.
+fn silent_in(reports: &[Report]) -> Option<NodeNo>
+    ensures { result ≡ silent_in reports.now }
+{
+    unless_reported(followed_in(reports), reports)
+}
+
+// Whether the election may have just begun: a node is followed that does not answer.
+fn is_early(reports: &[Report]) -> bool
+    ensures { result ≡ is_some (silent_in reports.now) }
+{
+    silent_in(reports).is_some()
+}
+
+// Writes that a node is followed and does not answer.
+fn write_silent<W: Write>(node: NodeNo, out: &mut W) -> io::Result<()>
+    ensures { OnOk result (Appends (W.contents out.old) (W.contents out.new) (silent_text node)) }
+{
+    let node = node.get();
+    writeln!(
+        out,
+        "node {node}, which others follow, does not answer: stop it, and check its --port, the hosts and the keys"
+    )?;
+    Ok(())
+}
+
+// Writes what to do if it lasts that nobody leads. `silent` is the node that is followed and does not answer.
+fn write_remedy<W: Write>(silent: Option<NodeNo>, reports: &[Report], out: &mut W) -> io::Result<()>
+    ensures { OnOk result (Appends (W.contents out.old) (W.contents out.new) (remedy_text silent reports.now)) }
+{
+    match silent {
+        Some(node) => write_silent(node, out)?,
+        None => write_cause(reports, out)?,
+    }
+    Ok(())
+}
+
+// Writes that nobody leads, and what to do if it lasts.
 #[tactic(auto, using(crate::proofs::Writing::appends_more))]
 fn write_leaderless<W: Write>(reports: &[Report], out: &mut W) -> io::Result<()>
     ensures { OnOk result (Appends (W.contents out.old) (W.contents out.new) (leaderless_line reports.now)) }
 {
     out.write_all(b"why: nobody leads: an election takes seconds; if it lasts, ")?;
-    write_cause(reports, out)?;
+    write_remedy(silent_in(reports), reports, out)?;
     Ok(())
 }
 
@@ -125,26 +176,12 @@ fn write_unfollowed_line<W: Write>(leader: NodeNo, out: &mut W) -> io::Result<()
     )
 }
 
-// Writes that a node that leads hears no majority.
-fn write_deaf_leader<W: Write>(leader: NodeNo, out: &mut W) -> io::Result<()>
-    ensures { OnOk result (Appends (W.contents out.old) (W.contents out.new) (deaf_leader_line leader)) }
-{
-    let node = leader.get();
-    writeln!(
-        out,
-        "why: node {node}, which leads, hears no majority: check what keeps the members' datagrams from it"
-    )?;
-    Ok(())
-}
-
-// Writes that no majority follows a leader, or that it hears none, if that is so.
+// Writes that no majority follows a leader that hears one, if that is so. Of one that hears none its own line says it.
 fn write_unfollowed<W: Write>(leader: &Report, reports: &[Report], out: &mut W) -> io::Result<()>
     ensures { OnOk result (Appends (W.contents out.old) (W.contents out.new)
         (unfollowed_reason leader.now reports.now)) }
 {
-    if !hears_enough(leader) {
-        write_deaf_leader(leader.node, out)?;
-    } else if !has_followers(leader, reports) {
+    if hears_enough(leader) && !has_followers(leader, reports) {
         write_unfollowed_line(leader.node, out)?;
     }
     Ok(())
@@ -166,15 +203,16 @@ fn write_unled<W: Write>(measure: &Report, reports: &[Report], out: &mut W) -> i
 // Writes the same of each of these nodes that it applies to.
 fn write_nodes<W: Write>(
     majority: bool,
+    is_early: bool,
     members: &[Member],
     reports: &[Report],
     out: &mut W,
 ) -> io::Result<()>
     ensures { OnOk result (Appends (W.contents out.old) (W.contents out.new)
-        (node_reasons majority members.now reports.now)) }
+        (node_reasons majority is_early members.now reports.now)) }
 {
     'all: for report in reports {
-        write_node(majority, members, report, out)?;
+        write_node(majority, is_early, members, report, out)?;
     }
     Ok(())
 }
@@ -204,7 +242,9 @@ fn write_reasons<W: Write>(measure: &Report, reports: &[Report], out: &mut W) ->
 {
     let majority = has_majority(measure, reports);
     write_leaders(majority, measure, reports, out)?;
-    write_nodes(majority, measure.status.members.as_slice(), reports, out)?;
+    let is_early = is_early(reports);
+    let members = measure.status.members.as_slice();
+    write_nodes(majority, is_early, members, reports, out)?;
     Ok(())
 }
 

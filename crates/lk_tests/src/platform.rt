@@ -11,6 +11,7 @@ use lk_node_setup::text_files::TextFiles;
 use lk_pacing::pace::Pace;
 use lk_program_fault::ProgramFault;
 use lk_store_format::Header;
+use lk_transport::admins::Admins;
 use lk_transport::socket::local;
 use lk_types::{Genesis, NodeNo, Port};
 use lk_word_parsers::genesis::read_genesis;
@@ -107,6 +108,7 @@ fn plan_of<'a>(port: u16, folder: &'a str, hosts: &'a str) -> Option<NodePlan<'a
             bind: None,
             key: None,
             client_key: None,
+            admins: Admins::Everyone,
         },
     })
 }

@@ -1,5 +1,6 @@
 //! What a turn logs, and a demonstration that nobody answers.
 ghost use Rattle.std.specs.Prelude.{◌≡◌, [], ⊤};
+ghost use Rattle.lk_server_replica.specs.Tables.{table_of};
 
 use crate::clocks::Stopped;
 use crate::replicas::{Locks, begun};
@@ -65,6 +66,8 @@ impl ServerReplica for NotingReplica {
 
     ghost IsRaised = { λ _ _. ⊤ };
 
+    ghost table = { λ t. table_of t.probed };
+
     fn new_group(&self, alloc: Global) -> Group {
         Group::new(alloc)
     }
@@ -99,6 +102,10 @@ impl ServerReplica for NotingReplica {
 
     fn is_raised(&self, _alloc: Global) -> Option<bool> {
         None
+    }
+
+    fn table(&self) -> &LockTable {
+        self.probed.table()
     }
 }
 

@@ -1,3 +1,4 @@
 pub mod Chaining
 pub mod Streaming
 mod Books
+mod AdminLaws

@@ -6,15 +6,17 @@ use Rattle.lk_probe.specs.Neighbours.{Entries, is_stranger}
 use Rattle.lk_auth.specs.declared.seals.Seals.{Seals}
 use Rattle.lk_hearing.specs.Probes.{HearingValue}
 use Rattle.lk_transport.specs.declared.hosts.Hosts.{Hosts}
+use Rattle.lk_transport.specs.declared.admins.Admins.{Admins}
 
--- an entry for each client, the entries of nodes that wrote, most recent first, where nodes live, the keys, what is
--- known of the genesis of the node at each address from which one wrote, the probes by which the node hears others, and
--- whether it is deaf: it hears too few
+-- an entry for each client, the entries of nodes that wrote, most recent first, where nodes live, the keys, the admins,
+-- what is known of the genesis of the node at each address from which one wrote, the probes by which the node hears
+-- others, and whether it is deaf: it hears too few
 pub record AddressBook : Type 0 where
   pub clients : List (Option SocketAddr)
   pub nodes : List (Option (ℕ × SocketAddr))
   pub hosts : Hosts
   pub seals : Seals
+  pub admins : Admins
   pub neighbours : Entries
   pub hearing : HearingValue
   pub deaf : Bool
@@ -55,19 +57,21 @@ without at entries = take at entries ++ drop (at + 1) entries
 abbrev pub moved_up : List (Option (ℕ × SocketAddr)) → ℕ → SocketAddr → List (Option (ℕ × SocketAddr))
 moved_up entries node from = Some (node, from) ∷ without (min (index_in entries node) (length entries - 1)) entries
 
--- where nodes live and the keys are the same
+-- where nodes live, the keys and the admins are the same
 abbrev pub IsSameNetwork : AddressBook → AddressBook → Type 0
-IsSameNetwork old new = (new.hosts ≡ old.hosts) × (new.seals ≡ old.seals)
+IsSameNetwork old new = (new.hosts ≡ old.hosts) × (new.seals ≡ old.seals) × (new.admins ≡ old.admins)
 
--- the filter of the datagrams that arrive at a node: its keys, the addresses at which nodes of another genesis are, and
--- whether it is deaf
+-- the filter of the datagrams that arrive at a node: its keys, the admins, the addresses at which nodes of another
+-- genesis are, and whether it is deaf
 pub record Filter : Type 0 where
   pub seals : Seals
+  pub admins : Admins
   pub strangers : SocketAddr → Bool
   pub deaf : Bool
 
 abbrev pub filter_of : AddressBook → Filter
-filter_of b = record { seals = b.seals; strangers = is_stranger b.neighbours; deaf = b.deaf }
+filter_of b =
+    record { seals = b.seals; admins = b.admins; strangers = is_stranger b.neighbours; deaf = b.deaf }
 
 -- where nodes live and what a node filters out are the same
 abbrev pub IsSameFilter : AddressBook → AddressBook → Type 0

@@ -1,4 +1,5 @@
 pub mod Chains
+pub mod Admins
 pub mod Addresses
 pub mod Hosts
 pub mod Posts
@@ -9,3 +10,4 @@ pub mod Inquiring
 pub mod Kept
 pub mod Arrivals
 pub mod Listening
+pub mod Watches

@@ -18,6 +18,7 @@ use Rattle.lk_probe.specs.Neighbours.{Meets}
 use Rattle.lk_auth.specs.Clients.{client_keys}
 use Rattle.lk_auth.specs.Seals.{key_list, to_node, replying, framed_by, heard}
 use Rattle.lk_auth.specs.declared.seals.Seals.{Seals}
+use Rattle.lk_transport.specs.Admins.{is_request, bars}
 use Rattle.lk_transport.specs.Addresses.{AddressBook, Filter, client_at, node_at, moved_up, IsSameFilter}
 use Rattle.lk_transport.specs.Hosts.{host_of}
 use Rattle.lk_transport.specs.Streams.{Stream}
@@ -65,25 +66,25 @@ abbrev pub keys_for : Seals → To → List (List ℕ)
 keys_for s (Client c) = client_keys c (key_list s.clients)
 keys_for s (Node n port) = key_list s.nodes
 
--- it begins with the letters LP, as probes and reports do, which are not part of the protocol
-abbrev pub is_probe_or_report : List ℕ → Bool
-is_probe_or_report (l ∷ p ∷ rest) = if l == 76 then p == 80 else false
-is_probe_or_report _ = false
+-- it begins with the letters LP, as probes and reports do, or LW, as watches and notices do: these are not part of the
+-- protocol
+abbrev pub is_beside_protocol : List ℕ → Bool
+is_beside_protocol (l ∷ p ∷ rest) = if l == 76 then p == 80 || p == 87 else false
+is_beside_protocol _ = false
 
 -- an arrived frame with its source, opened
 abbrev pub opened_as : Filter → SocketAddr × List ℕ → SocketAddr × List ℕ
 opened_as c d = (d.0, heard c.seals d.1)
 
--- it begins as a client's request does, with the letters LK, and has its kind
-abbrev pub is_request : List ℕ → Bool
-is_request (l ∷ k ∷ v ∷ kind ∷ rest) = if l == 76 then (if k == 75 then kind == 9 else false) else false
-is_request _ = false
+-- no replica gets it, wherever it came from: it is a client's request, and the node is deaf, or it is administrative
+-- and the client is no admin
+abbrev pub is_dropped : Filter → List ℕ → Bool
+is_dropped c datagram = (c.deaf && is_request datagram) || bars c.admins datagram
 
--- no replica gets it: it is a probe or a report, or came from a node of another genesis, or a client asks it, and the
--- node is deaf
+-- no replica gets it: it is not part of the protocol, or came from a node of another genesis, or it is dropped
 abbrev pub is_filtered_out : Filter → SocketAddr × List ℕ → Bool
 is_filtered_out c d =
-    is_probe_or_report (heard c.seals d.1) || (c.strangers d.0 || (c.deaf && is_request (heard c.seals d.1)))
+    is_beside_protocol (heard c.seals d.1) || (c.strangers d.0 || is_dropped c (heard c.seals d.1))
 
 -- an arrived frame as a replica gets it: opened, or nothing if it is filtered out
 abbrev pub filtered : Filter → SocketAddr × List ℕ → List (SocketAddr × List ℕ)

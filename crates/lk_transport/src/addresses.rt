@@ -8,6 +8,7 @@ ghost use Rattle.lk_probe.specs.Neighbours.{Meets};
 ghost use Rattle.lk_transport.specs.Addresses.{client_at, node_at, node_in, index_in, moved_up, IsSameFilter};
 ghost use Rattle.lk_transport.specs.Hosts.{host_of};
 
+use crate::admins::Admins;
 use crate::hosts::Hosts;
 use crate::network::Network;
 use lk_auth::Seals;
@@ -32,6 +33,8 @@ pub struct Addresses {
     nodes: [Option<(NodeNo, SocketAddr)>; NODES],
     hosts: Hosts,
     seals: Seals,
+    // whose administrative requests are taken
+    pub(crate) admins: Admins,
     // which genesis the node at each address from which nodes wrote was started with
     pub(crate) neighbours: Neighbours,
     // the probes by which this node hears the other members
@@ -50,6 +53,7 @@ impl Model for Addresses {
       nodes = a.nodes;
       hosts = a.hosts;
       seals = a.seals;
+      admins = a.admins;
       neighbours = a.neighbours;
       hearing = a.hearing;
       deaf = a.is_deaf;
@@ -76,15 +80,21 @@ impl Addresses {
         ensures nodes { (n : ℕ) → node_at result n ≡ None }
         ensures hosts { result.hosts ≡ network.hosts }
         ensures seals { result.seals ≡ network.seals }
+        ensures admins { result.admins ≡ network.admins }
         ensures hearing { result.hearing ≡ nothing_sent }
         ensures deaf { result.deaf ≡ false }
     {
-        let Network { hosts, seals } = network;
+        let Network {
+            hosts,
+            seals,
+            admins,
+        } = network;
         Addresses {
             clients: [None; CLIENTS],
             nodes: [None; NODES],
             hosts,
             seals,
+            admins,
             neighbours: Neighbours::new(),
             hearing: Hearing::new(),
             is_deaf: false,

@@ -3,13 +3,17 @@
 #![tactic(auto)]
 
 pub mod addresses;
+pub mod admins;
 pub mod arrival;
 pub mod hosts;
 mod inquiring;
+pub mod laws;
 mod listening;
 pub mod network;
+mod noticing;
 pub mod post;
 pub mod receive_buffer;
 pub mod received_probe;
+pub mod received_watch;
 mod sender_records;
 pub mod socket;

@@ -1,13 +1,14 @@
 //! Probes the other members, and finds out by their reports whether this node hears a majority of them.
 
-ghost use Rattle.std.specs.Prelude.{◌≡◌, ◌≤◌, ◌&&◌, length};
+ghost use Rattle.std.specs.Prelude.{◌≡◌, ◌≤◌, length};
 ghost use Rattle.lk_hearing.specs.Probes.{count_heard, hears_majority, having_begun, having_heard, having_sent};
 ghost use Rattle.lk_hearing.specs.Probes.{is_round_due};
-ghost use Rattle.lk_transport.specs.Addresses.{IsSameNetwork};
+ghost use Rattle.lk_transport.specs.Addresses.{IsSameNetwork, filter_of};
+ghost use Rattle.lk_transport.specs.Admins.{bars};
 ghost use Rattle.lk_transport.specs.Askers.{IsReplyAddress, IsReplyOf, port_among};
 ghost use Rattle.lk_transport.specs.Listening.{HearsReported, ProbesMember, ProbesMembers, ProbesRound};
 ghost use Rattle.lk_transport.specs.Listening.{SendsSealedProbe, member_probe};
-ghost use Rattle.lk_transport.specs.Posts.{is_request, send_state_of};
+ghost use Rattle.lk_transport.specs.Posts.{is_dropped, send_state_of};
 
 use crate::addresses::Addresses;
 use crate::post::{SocketPost, framed, route};
@@ -140,11 +141,19 @@ impl<S: DatagramSocket + Drop> SocketPost<S> {
         self.addresses.set_deaf(is_deaf);
     }
 
-    /// Whether a datagram is dropped: it is a client's request, and this node hears too few members.
-    pub fn drops(&self, datagram: &[u8]) -> bool
-        ensures { result ≡ (self.now.addresses.deaf && is_request datagram.now) }
+    /// Whether a datagram is an administrative request of a client that is no admin.
+    pub fn bars(&self, datagram: &[u8]) -> bool
+        ensures { result ≡ bars self.now.addresses.admins datagram.now }
     {
-        self.is_deaf() && is_request(datagram)
+        self.addresses.admins.bars(datagram)
+    }
+
+    /// Whether a datagram is dropped, wherever it came from: it is a client's request, and this node hears too few
+    /// members, or it is administrative and the client is no admin.
+    pub fn drops(&self, datagram: &[u8]) -> bool
+        ensures { result ≡ is_dropped (filter_of self.now.addresses) datagram.now }
+    {
+        (self.is_deaf() && is_request(datagram)) || self.bars(datagram)
     }
 
     /// Returns how many of these members this node hears in period `now`; itself it always hears.
@@ -162,15 +171,19 @@ impl<S: DatagramSocket + Drop> SocketPost<S> {
         self.addresses.hears_majority(self.node, members, now)
     }
 
-    /// Returns the reach to report of a node that hears this many members, or does not find that out: with what its
-    /// socket does with bundles.
-    pub fn reach(&self, heard: Option<u8>) -> Reach
-        ensures { result.heard ≡ heard }
+    /// Returns the reach to report of a node that hears this many members, or does not find that out, and keeps that
+    /// many watches and names: with what its socket does with bundles.
+    pub fn reach(&self, heard: Option<u8>, watches: u16, names: u16) -> Reach
+        ensures heard { result.heard ≡ heard }
+        ensures watches { result.watches ≡ watches }
+        ensures names { result.names ≡ names }
     {
         Reach {
             heard,
             reads_bundles: self.socket.reads_bundles(),
             sends_bundles: self.socket.sends_bundles(),
+            watches,
+            names,
         }
     }
 

@@ -11,12 +11,14 @@ ghost use Rattle.lk_hearing.specs.Probes.{nothing_sent};
 ghost use Rattle.lk_transport.specs.Posts.{IsRoute, IsBoundFor, Becomes, RecordsSender};
 ghost use Rattle.lk_transport.specs.Posts.{send_state_of, frame_of, keys_for};
 ghost use Rattle.lk_transport.specs.Askers.{BringsProbe, Replies, asker, frame_for, keys_to};
+ghost use Rattle.lk_transport.specs.Watches.{BringsWatch};
 
 use crate::addresses::Addresses;
 use crate::arrival::Arrival;
 use crate::network::Network;
 use crate::receive_buffer::ReceiveBuffer;
 use crate::received_probe::ReceivedProbe;
+use crate::received_watch::ReceivedWatch;
 use crate::socket::DatagramSocket;
 use lk_auth::{DIGEST, Seals};
 use lk_node_interface::{Letter, Post, SendFault, To};
@@ -168,7 +170,8 @@ impl<S: DatagramSocket + Drop> SocketPost<S> {
         ensures sent { result.sent ≡ S.sent socket }
         ensures socket_failures { result.socket_failures ≡ S.failures socket }
         ensures failures { result.failures ≡ 0 }
-        ensures network { (result.addresses.hosts ≡ network.hosts) × (result.addresses.seals ≡ network.seals) }
+        ensures network { (result.addresses.hosts ≡ network.hosts) × (result.addresses.seals ≡ network.seals)
+            × (result.addresses.admins ≡ network.admins) }
         ensures hearing { result.addresses.hearing ≡ nothing_sent }
         ensures incoming { result.incoming ≡ S.incoming socket }
     {
@@ -221,6 +224,7 @@ impl<S: DatagramSocket + Drop> SocketPost<S> {
         ensures comes { S.is_observable → Receives buffer.new.last self.old.incoming self.new.incoming }
         ensures asked { buffer.new.asked ≡ buffer.old.asked }
         ensures reported { buffer.new.reported ≡ buffer.old.reported }
+        ensures watched { buffer.new.watched ≡ buffer.old.watched }
         ensures others { self.new ≡ record self.old { incoming = self.new.incoming } }
     {
         buffer.receive(&mut self.socket);
@@ -231,6 +235,7 @@ impl<S: DatagramSocket + Drop> SocketPost<S> {
         ensures comes { S.is_observable → Receives buffer.new.last self.old.incoming self.new.incoming }
         ensures asked { buffer.new.asked ≡ buffer.old.asked }
         ensures reported { buffer.new.reported ≡ buffer.old.reported }
+        ensures watched { buffer.new.watched ≡ buffer.old.watched }
         ensures others { self.new ≡ record self.old { incoming = self.new.incoming } }
     {
         buffer.try_receive(&mut self.socket);
@@ -256,6 +261,20 @@ impl<S: DatagramSocket + Drop> SocketPost<S> {
         ensures { BringsProbe self.now.addresses.seals (from, frame.now) result }
     {
         ReceivedProbe::by(self.addresses.seals(), from, frame, datagram)
+    }
+
+    /// Parses the watch in a datagram, which was opened from a frame that arrived from an address; `None` if it is not
+    /// to be answered (see `ReceivedWatch::by`).
+    pub fn read_watch(
+        &self,
+        from: SocketAddr,
+        frame: &[u8],
+        datagram: &[u8],
+    ) -> Option<ReceivedWatch>
+        requires { datagram.now ≡ heard self.now.addresses.seals frame.now }
+        ensures { BringsWatch self.now.addresses.seals (from, frame.now) result }
+    {
+        ReceivedWatch::by(self.addresses.seals(), from, frame, datagram)
     }
 
     /// The digest of the genesis.

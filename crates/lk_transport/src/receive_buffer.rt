@@ -1,10 +1,11 @@
 //! The buffer into which a socket receives.
 
 ghost use Rattle.std.specs.Prelude.{◌≡◌, ◌⊎◌, Some, None, true, false, IfSome, IsSome, IsNone};
-ghost use Rattle.lk_transport.specs.ReceiveBuffers.{first_asked, first_reported};
+ghost use Rattle.lk_transport.specs.ReceiveBuffers.{first_asked, first_reported, first_watched};
 ghost use Rattle.lk_transport.specs.Streams.{Receives, next_of};
 
 use crate::received_probe::ReceivedProbe;
+use crate::received_watch::ReceivedWatch;
 use crate::socket::DatagramSocket;
 use lk_auth::OVERHEAD;
 use lk_probe::reported::Reported;
@@ -12,8 +13,8 @@ use lk_types::limits::MAX_DATAGRAM;
 use std::marker::Model;
 use std::net::SocketAddr;
 
-/// Holds the latest datagram, the first probe that waits for an answer, and the first report that waits to be read.
-/// One buffer serves all receives of a socket.
+/// Holds the latest datagram, the first probe and the first watch that wait for an answer, and the first report that
+/// waits to be read. One buffer serves all receives of a socket.
 #[derive(Drop)]
 pub struct ReceiveBuffer {
     // one byte longer than the longest frame, so a truncated datagram fails to parse
@@ -22,6 +23,7 @@ pub struct ReceiveBuffer {
     last: Option<(usize, SocketAddr)>,
     asked: Option<ReceivedProbe>,
     reported: Option<Reported>,
+    watched: Option<ReceivedWatch>,
 }
 
 impl Model for ReceiveBuffer {
@@ -33,19 +35,25 @@ impl Model for ReceiveBuffer {
 
     ghost invariant = { λ e. IfSome e.last (λ l. l.0 ≤ 8229) };
 
-    ghost view = { λ e. record { last = heard_in e.buffer e.last; asked = e.asked; reported = e.reported } };
+    ghost view = { λ e. record {
+      last = heard_in e.buffer e.last;
+      asked = e.asked;
+      reported = e.reported;
+      watched = e.watched;
+    } };
 }
 
 impl ReceiveBuffer {
     /// An empty buffer.
     pub fn new() -> ReceiveBuffer
-        ensures { result ≡ record { last = None; asked = None; reported = None } }
+        ensures { result ≡ record { last = None; asked = None; reported = None; watched = None } }
     {
         ReceiveBuffer {
             buffer: [0; MAX_DATAGRAM + OVERHEAD + 1],
             last: None,
             asked: None,
             reported: None,
+            watched: None,
         }
     }
 
@@ -56,6 +64,7 @@ impl ReceiveBuffer {
         ensures next { S.is_observable → next_of S.incoming socket.old ≡ self.new.last }
         ensures asked { self.new.asked ≡ self.old.asked }
         ensures reported { self.new.reported ≡ self.old.reported }
+        ensures watched { self.new.watched ≡ self.old.watched }
         ensures unchanged { S.sent socket.new ≡ S.sent socket.old }
         ensures spares { S.failures socket.new ≡ S.failures socket.old }
     {
@@ -68,6 +77,7 @@ impl ReceiveBuffer {
         ensures next { S.is_observable → next_of S.incoming socket.old ≡ self.new.last }
         ensures asked { self.new.asked ≡ self.old.asked }
         ensures reported { self.new.reported ≡ self.old.reported }
+        ensures watched { self.new.watched ≡ self.old.watched }
         ensures unchanged { S.sent socket.new ≡ S.sent socket.old }
         ensures spares { S.failures socket.new ≡ S.failures socket.old }
     {
@@ -103,12 +113,22 @@ impl ReceiveBuffer {
         }
     }
 
-    /// Whether it keeps a probe or a report.
-    pub fn has_kept(&self) -> bool
-        ensures some { result ≡ true → IsSome self.now.asked ⊎ IsSome self.now.reported }
-        ensures none { result ≡ false → (self.now.asked ≡ None) × (self.now.reported ≡ None) }
+    /// Keeps a watch, if given one, to answer later. If one is kept already, the new one is dropped.
+    pub fn keep_watch(&mut self, watched: Option<ReceivedWatch>)
+        ensures { self.new ≡ record self.old { watched = first_watched self.old.watched watched } }
     {
-        self.asked.is_some() || self.reported.is_some()
+        if self.watched.is_none() {
+            self.watched = watched;
+        }
+    }
+
+    /// Whether it keeps a probe, a report or a watch.
+    pub fn has_kept(&self) -> bool
+        ensures some { result ≡ true → IsSome self.now.asked ⊎ IsSome self.now.reported ⊎ IsSome self.now.watched }
+        ensures none { result ≡ false → (self.now.asked ≡ None) × (self.now.reported ≡ None)
+            × (self.now.watched ≡ None) }
+    {
+        self.asked.is_some() || self.reported.is_some() || self.watched.is_some()
     }
 
     /// Removes and returns the kept report.
@@ -125,5 +145,13 @@ impl ReceiveBuffer {
         ensures others { self.new ≡ record self.old { asked = None } }
     {
         self.asked.take()
+    }
+
+    /// Removes and returns the kept watch.
+    pub fn pop_watch(&mut self) -> Option<ReceivedWatch>
+        ensures value { result ≡ self.old.watched }
+        ensures others { self.new ≡ record self.old { watched = None } }
+    {
+        self.watched.take()
     }
 }

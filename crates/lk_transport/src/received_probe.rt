@@ -2,7 +2,8 @@
 
 ghost use Rattle.std.specs.Prelude.{◌≡◌, ◌≢◌, ◌↔◌, [], length, IsTrue, IsSome};
 ghost use Rattle.lk_auth.specs.Seals.{key_list, heard};
-ghost use Rattle.lk_transport.specs.Posts.{is_probe_or_report, is_request};
+ghost use Rattle.lk_transport.specs.Admins.{is_request};
+ghost use Rattle.lk_transport.specs.Posts.{is_beside_protocol};
 ghost use Rattle.lk_transport.specs.Askers.{asker, BringsProbe, IsSealedAsNamed};
 ghost use Rattle.lk_transport.specs.Inquiring.{is_of};
 
@@ -18,11 +19,12 @@ pub struct ReceivedProbe {
     pub probe: Probe,
 }
 
-/// Returns whether a datagram begins with the letters LP, as probes and reports do: no replica gets it.
-pub fn is_probe_or_report(datagram: &[u8]) -> bool
-    ensures { result ≡ is_probe_or_report datagram.now }
+/// Returns whether a datagram begins with the letters LP, as probes and reports do, or LW, as watches and notices do:
+/// no replica gets it.
+pub fn is_beside_protocol(datagram: &[u8]) -> bool
+    ensures { result ≡ is_beside_protocol datagram.now }
 {
-    matches!(datagram, [b'L', b'P', ..])
+    matches!(datagram, [b'L', b'P' | b'W', ..])
 }
 
 /// Returns whether a datagram begins as a client's request does: with the letters LK, and of its kind.

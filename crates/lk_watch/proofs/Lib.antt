@@ -1,4 +1,4 @@
 mod PartLaws
-mod DatagramLaws
+pub mod DatagramLaws
 mod QueueLaws
 mod OtherLaws

@@ -102,4 +102,4 @@ others_heard watch from s ws =
     let t = watch.ticket in
     either t (is_ignored_by watch from (entry t ws)) ws _ ws refl
     (either t (is_waiting (entry t ws)) (renewed_in watch ws) _ ws (others_renewed watch ws (entry t ws) refl)
-    (either t (is_kept watch s) (entered_for watch from ws) ws ws (others_entered watch from ws) refl))
+    (either t (is_kept watch s ws) (entered_for watch from ws) ws ws (others_entered watch from ws) refl))

@@ -1,24 +1,25 @@
 -- The bounds of a queue are kept.
 use Rattle.std.proofs.Common.{◌≡◌, ℕ, suc, ◌+◌, ◌<◌, ◌≤◌, Bool, true, false, cond, eqb, ltb, ◌&&◌, List, []}
 use Rattle.std.proofs.Common.{◌∷◌, ◌++◌, length, take, drop, map, get_or, Option, Some, refl, sym, ap, subst, ◌∙◌}
-use Rattle.std.proofs.Common.{arith, inl, inr}
+use Rattle.std.proofs.Common.{subst₂, arith, inl, inr}
 use Rattle.std.specs.Prelude.{slice_get, slice_set, filter}
 use Rattle.std.specs.Cmp.Lexicographic.{pointwise}
 use Rattle.std.specs.List.{All, count_by, position_or_len, remove}
-use Rattle.std.proofs.lemmas.Bool.{cases_lt, eqb-true, ltb-true}
+use Rattle.std.proofs.lemmas.Bool.{cases_lt, eqb-true, ltb-true, ltb-false}
 use Rattle.std.proofs.lemmas.Bool.Decides.{nat_tests}
 use Rattle.std.proofs.lemmas.List.{length-append, length-take, length-drop, length-map, length-set}
 use Rattle.std.proofs.lemmas.List.Elements.{All-append, All-set, All-push, All-take, All-drop, All-map, All-weaker}
 use Rattle.std.proofs.lemmas.List.Elements.{All-filter, filter_passes, All-get_or}
 use Rattle.std.proofs.lemmas.List.Sums.{sum_by-cons, sum_by_push, sum_by-set, sum_by-remove, count_by-le-length}
-use Rattle.std.proofs.lemmas.List.Sums.{length-filter}
+use Rattle.std.proofs.lemmas.List.Sums.{length-filter, passes_at_first}
 use Rattle.std.proofs.lemmas.Option.{slice_get_within, slice_get-get_or, get_or_from_slice_get}
 use Rattle.std.proofs.lemmas.Slice.Eq.{bytes_eq-Decides}
 use Rattle.lk_watch.specs.Standings.{opening, serves}
-use Rattle.lk_watch.specs.Waiters.{is_named, is_client, is_of, is_due, told, aged, newcomer, renewed, IsWaiter}
-use Rattle.lk_watch.specs.Queues.{QueueValue, IsQueue, position, has_room, without, renewed_in, ended, is_alive, lived}
+use Rattle.lk_watch.specs.Waiters.{is_named, is_client, is_of, is_due, told, refreshed, newcomer, renewed, IsWaiter}
+use Rattle.lk_watch.specs.Queues.{QueueValue, IsQueue, position, has_room, without, renewed_in, is_alive, lived}
 use Rattle.lk_watch.specs.Queues.{Table, is_due_in, is_due_at, NoneDueBefore, letter_to, TellsFirst}
 use Rattle.lk_watch.specs.declared.standing.Standing.{Standing}
+use Rattle.lk_watch.specs.declared.ticket.Ticket.{Ticket}
 use Rattle.lk_watch.specs.declared.watch.Watch.{Watch}
 use Rattle.lk_watch.specs.declared.waiter.Waiter.{Waiter}
 use Rattle.lk_watch.specs.declared.waiter.Letter.{Letter}
@@ -88,13 +89,62 @@ module _ {X : Type 0} where
         count_map p f same xs,
       )
 
+  -- an element goes that is counted
+  count_remove_one : (p : X → Bool) (xs : List X) (i : ℕ) (x : X) → slice_get xs i ≡ Some x → p x ≡ true
+      → count_by p (remove xs i) + 1 ≡ count_by p xs
+  count_remove_one p xs i x is counts =
+      let there : get_or xs i x ≡ x = get_or_from_slice_get xs i x x is in
+      let one : counted (p (get_or xs i x)) ≡ 1 = ap counted (ap p there ∙ counts) in
+      omega (arith, sum_by-remove (λ z. cond (p z) 1 0) xs i x (slice_get_within xs i x is), one)
+
+  -- none is counted if the first that is lies behind all
+  count_none : (p : X → Bool) (xs : List X) → length xs ≤ position_or_len p xs → count_by p xs ≡ 0
+  count_none p [] behind = refl
+  count_none p (x ∷ xs) behind = by (count_none p xs) (p x) refl
+    where
+      by : (length xs ≤ position_or_len p xs → count_by p xs ≡ 0) → (b : Bool) → p x ≡ b → count_by p (x ∷ xs) ≡ 0
+      by rest true e =
+          let first : position_or_len p (x ∷ xs) ≡ 0 = rw e refl in
+          absurd (omega (arith, behind, first))
+      by rest false e =
+          let next : position_or_len p (x ∷ xs) ≡ 1 + position_or_len p xs = rw e refl in
+          let none : counted (p x) ≡ 0 = rw e refl in
+          omega (arith, sum_by-cons (λ z. cond (p z) 1 0) x xs, none, rest (omega (arith, behind, next)))
+
 -- ---- the changes of a queue
+
+same_owner : (c : ℕ) (m : List ℕ) (w v : Waiter) → v.ticket.client ≡ w.ticket.client
+    → v.ticket.name ≡ w.ticket.name → is_of c m v ≡ is_of c m w
+same_owner c m w v client name = rw (client, name) refl
+
+-- without the entry of a ticket's client and name there is none
+pub none_without : (t : Ticket) (ws : List Waiter) (n : ℕ) (d : Waiter) → IsQueue (with_waiters ws n)
+    → count_by (is_of t.client t.name) (without (position t ws) ws) ≡ 0
+none_without t ws n d h = by (ltb (position t ws) (length ws)) refl
+  where
+    by : (b : Bool) → ltb (position t ws) (length ws) ≡ b
+        → count_by (is_of t.client t.name) (without (position t ws) ws) ≡ 0
+    by true e =
+        let within : position t ws < length ws = ltb-true _ _ e in
+        let there = slice_get-get_or ws (position t ws) d within in
+        let own = passes_at_first (is_of t.client t.name) ws d within in
+        rw e (omega (
+          arith,
+          h.one t.client t.name,
+          count_remove_one (is_of t.client t.name) ws (position t ws) (get_or ws (position t ws) d) there own,
+        ))
+    by false e = rw e (count_none (is_of t.client t.name) ws (ltb-false _ _ e))
 
 pub set_fits : (ws : List Waiter) (n i : ℕ) (w v : Waiter) → IsQueue (with_waiters ws n) → slice_get ws i ≡ Some w
     → v.ticket.client ≡ w.ticket.client → v.ticket.name ≡ w.ticket.name → IsWaiter v
     → IsQueue (with_waiters (slice_set ws i v) n)
 set_fits ws n i w v h is client name fits = record {
   few = omega (arith, h.few, length-set ws i v);
+  one = λ c m. omega (
+    arith,
+    h.one c m,
+    count_set (is_of c m) ws i w v is (same_owner c m w v client name),
+  );
   of_client = λ c. omega (
     arith,
     h.of_client c,
@@ -110,8 +160,9 @@ set_fits ws n i w v h is client name fits = record {
 }
 
 pub push_fits : (ws : List Waiter) (n : ℕ) (v : Waiter) → IsQueue (with_waiters ws n) → has_room v.ticket ws ≡ true
-    → IsWaiter v → IsQueue (with_waiters (ws ++ v ∷ []) n)
-push_fits ws n v h room fits =
+    → count_by (is_of v.ticket.client v.ticket.name) ws ≡ 0 → IsWaiter v
+    → IsQueue (with_waiters (ws ++ v ∷ []) n)
+push_fits ws n v h room fresh fits =
     let first = both_are _ _ room in
     let second = both_are _ _ first.0 in
     let short : length ws < 1024 = ltb-true _ _ second.0 in
@@ -119,6 +170,12 @@ push_fits ws n v h room fits =
     let names : count_by (is_named v.ticket.name) ws < 256 = ltb-true _ _ first.1 in
     record {
       few = omega (arith, short, length-append ws (v ∷ []));
+      one = λ c m. count_push (is_of c m) ws v 1 (λ e.
+          let own = both_are _ _ e in
+          let none : count_by (is_of c m) ws ≡ 0 =
+          subst₂ (λ (d : ℕ) (b : List ℕ). count_by (is_of d b) ws ≡ 0) (eqb-true _ _ own.0)
+          ((bytes_eq-Decides v.ticket.name m).0 own.1) fresh in
+          omega (arith, none)) (h.one c m);
       of_client = λ c. count_push (is_client c) ws v 4
           (λ e. subst (λ (d : ℕ). count_by (is_client d) ws < 4) (eqb-true _ _ e) clients) (h.of_client c);
       of_name = λ m. count_push (is_named m) ws v 256
@@ -139,6 +196,7 @@ remove_fits ws n i w h is = record {
     length-drop (suc i) ws,
     slice_get_within ws i w is,
   );
+  one = λ c m. omega (arith, h.one c m, count_remove (is_of c m) ws i w is);
   of_client = λ c. omega (arith, h.of_client c, count_remove (is_client c) ws i w is);
   of_name = λ m. omega (arith, h.of_name m, count_remove (is_named m) ws i w is);
   each = All-append IsWaiter (take i ws) (drop (suc i) ws) (All-take IsWaiter i ws h.each)
@@ -149,32 +207,40 @@ remove_fits ws n i w h is = record {
 abbrev IsOld : Waiter → Type 0
 IsOld w = (w.periods ≤ 20) × (w.sent ≤ 4)
 
-pub lived_fits : (ws : List Waiter) (n : ℕ) → IsQueue (with_waiters ws n) → IsQueue (with_waiters (lived ws) n)
-lived_fits ws n h =
-    let older : All IsOld (filter is_alive (map aged ws)) =
-    All-filter is_alive IsOld (map aged ws)
-    (All-map IsOld aged ws
-    (All-weaker IsWaiter (λ (w : Waiter). IsOld (aged w)) (λ w f. (omega (arith, f.expires), f.sent)) ws h.each)) in
-    let alive = filter_passes is_alive (map aged ws) in
+pub lived_fits : (holds : ℕ → List ℕ → Bool) (count : ℕ) (ws : List Waiter) (n : ℕ) → IsQueue (with_waiters ws n)
+    → IsQueue (with_waiters (lived holds count ws) n)
+lived_fits holds count ws n h =
+    let f : Waiter → Waiter = refreshed holds count in
+    let older : All IsOld (filter is_alive (map f ws)) =
+    All-filter is_alive IsOld (map f ws)
+    (All-map IsOld f ws
+    (All-weaker IsWaiter (λ (w : Waiter). IsOld (f w)) (λ w k. (omega (arith, k.expires), k.sent)) ws h.each)) in
+    let alive = filter_passes is_alive (map f ws) in
     record {
       few = omega (
         arith,
         h.few,
-        length-filter is_alive (map aged ws),
-        count_by-le-length is_alive (map aged ws),
-        length-map ws aged,
+        length-filter is_alive (map f ws),
+        count_by-le-length is_alive (map f ws),
+        length-map ws f,
+      );
+      one = λ c m. omega (
+        arith,
+        h.one c m,
+        count_filter (is_of c m) is_alive (map f ws),
+        count_map (is_of c m) f (λ w. refl) ws,
       );
       of_client = λ c. omega (
         arith,
         h.of_client c,
-        count_filter (is_client c) is_alive (map aged ws),
-        count_map (is_client c) aged (λ w. refl) ws,
+        count_filter (is_client c) is_alive (map f ws),
+        count_map (is_client c) f (λ w. refl) ws,
       );
       of_name = λ m. omega (
         arith,
         h.of_name m,
-        count_filter (is_named m) is_alive (map aged ws),
-        count_map (is_named m) aged (λ w. refl) ws,
+        count_filter (is_named m) is_alive (map f ws),
+        count_map (is_named m) f (λ w. refl) ws,
       );
       each = λ k d lt. record {
         lives = ltb-true _ _ (alive k d lt);
@@ -233,11 +299,6 @@ told_fits opening w h few = record { lives = h.lives; expires = h.expires; sent 
 
 -- ---- what the code has done is what is said
 
-pub ended_is : (ws : List Waiter) (at client : ℕ) (name : List ℕ) (w : Waiter)
-    → at ≡ position_or_len (is_of client name) ws → slice_get ws at ≡ Some w
-    → slice_set ws at (record w { waits = false }) ≡ ended client name ws
-ended_is ws at client name w e there = rw (sym e, there) refl
-
 pub renewed_is : (ws : List Waiter) (at : ℕ) (watch : Watch) (w : Waiter) → at ≡ position watch.ticket ws
     → slice_get ws at ≡ Some w → slice_set ws at (renewed watch w) ≡ renewed_in watch ws
 renewed_is ws at watch w e there = rw (sym e, there) (ap (λ (i : ℕ). slice_set ws i (renewed watch w)) e)
@@ -269,6 +330,7 @@ none_more table ws i none this k lt = elim (cases_lt k i) [
 pub fewer_left : (ws : List Waiter) (n m : ℕ) → IsQueue (with_waiters ws n) → m ≤ n → IsQueue (with_waiters ws m)
 fewer_left ws n m h fewer = record {
   few = h.few;
+  one = h.one;
   of_client = h.of_client;
   of_name = h.of_name;
   each = h.each;

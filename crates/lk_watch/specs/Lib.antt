@@ -1,5 +1,6 @@
 pub mod Grammar
 pub mod Reading
 pub mod Standings
+pub mod Tables
 pub mod Waiters
 pub mod Queues

@@ -1,11 +1,12 @@
 -- The queue of those who wait for names, in order of arrival.
-use Rattle.std.specs.Prelude.{◌≡◌, ℕ, ◌+◌, ◌≤◌, ◌<◌, Bool, true, false, not, nat_lt, ◌&&◌, ◌==◌, if◌then◌else◌}
+use Rattle.std.specs.Prelude.{◌≡◌, ◌⊎◌, ℕ, ◌+◌, ◌≤◌, ◌<◌, Bool, true, false, not, nat_le, nat_lt, ◌&&◌}
+use Rattle.std.specs.Prelude.{if◌then◌else◌}
 use Rattle.std.specs.Prelude.{List, [], ◌∷◌, ◌++◌, length, take, map, filter, slice_get, slice_set, Option, Some, None}
-use Rattle.std.specs.List.{All, count_by, position_or_len, remove}
+use Rattle.std.specs.List.{All, count_by, position_or_len, remove, sum_by}
 use Rattle.std.specs.declared.net.socket_addr.SocketAddr.{SocketAddr}
 use Rattle.lk_watch.specs.Standings.{places, opening, news}
-use Rattle.lk_watch.specs.Waiters.{is_named, is_client, is_of, waits_for, is_due, told, aged, newcomer, ignores}
-use Rattle.lk_watch.specs.Waiters.{renewed, IsWaiter}
+use Rattle.lk_watch.specs.Waiters.{is_named, is_client, is_of, waits_for, is_due, told, refreshed, newcomer, ignores}
+use Rattle.lk_watch.specs.Waiters.{renewed, load, IsWaiter}
 use Rattle.lk_watch.specs.declared.standing.Standing.{Standing}
 use Rattle.lk_watch.specs.declared.ticket.Ticket.{Ticket}
 use Rattle.lk_watch.specs.declared.watch.Watch.{Watch}
@@ -30,9 +31,10 @@ max_of_client = 4
 abbrev pub max_letters : ℕ
 max_letters = 64
 
--- the bounds of a queue
+-- the bounds of a queue, which has one entry at most for each client and name
 pub record IsQueue (q : QueueValue) : Type 0 where
   pub few : length q.waiters ≤ max_waiters
+  pub one : (client : ℕ) (name : List ℕ) → count_by (is_of client name) q.waiters ≤ 1
   pub of_client : (client : ℕ) → count_by (is_client client) q.waiters ≤ max_of_client
   pub of_name : (name : List ℕ) → count_by (is_named name) q.waiters ≤ max_of_name
   pub each : All IsWaiter q.waiters
@@ -64,9 +66,11 @@ has_room t ws = nat_lt (length ws) max_waiters && nat_lt (count_by (is_client t.
 abbrev pub entered : Watch → SocketAddr → List Waiter → List Waiter
 entered watch from ws = if has_room watch.ticket ws then ws ++ newcomer watch from ∷ [] else ws
 
--- whether a watch that has no waiter is kept: it does not withdraw, and the name is held, so that it is not free for it
-abbrev pub is_kept : Watch → Standing → Bool
-is_kept watch s = nat_lt 0 watch.periods && places watch.ticket.mode s == 0
+-- whether a watch that has no waiter is kept: it does not withdraw, and the name has no place for it, or those who wait
+-- take each place
+abbrev pub is_kept : Watch → Standing → List Waiter → Bool
+is_kept watch s ws =
+    nat_lt 0 watch.periods && nat_le (places watch.ticket.mode s) (sum_by (load s watch.ticket.name) ws)
 
 -- without the waiter there, if there is one
 abbrev pub without : ℕ → List Waiter → List Waiter
@@ -98,7 +102,7 @@ abbrev pub heard : Watch → SocketAddr → Standing → List Waiter → List Wa
 heard watch from s ws =
     if is_ignored_by watch from (entry watch.ticket ws) then ws
     else if is_waiting (entry watch.ticket ws) then renewed_in watch ws
-    else if is_kept watch s then entered_for watch from ws
+    else if is_kept watch s ws then entered_for watch from ws
     else ws
 
 -- the entries that are not of the ticket's client and name
@@ -121,21 +125,17 @@ answer_to watch from s speaks old new =
 
 -- ---- what ends and expires
 
-abbrev pub ended_at : ℕ → List Waiter → Option Waiter → List Waiter
-ended_at at ws None = ws
-ended_at at ws (Some w) = slice_set ws at (record w { waits = false })
-
--- the client waits for that name no more
-abbrev pub ended : ℕ → List ℕ → List Waiter → List Waiter
-ended client name ws =
-    let at = position_or_len (is_of client name) ws in ended_at at ws (slice_get ws at)
-
 abbrev pub is_alive : Waiter → Bool
 is_alive w = nat_lt 0 w.periods
 
--- after a period: those that have expired are gone
-abbrev pub lived : List Waiter → List Waiter
-lived ws = filter is_alive (map aged ws)
+-- after that many periods, where a table says who holds a name: whoever holds the name that it waits for waits no more,
+-- and those that have expired are gone
+abbrev pub lived : (ℕ → List ℕ → Bool) → ℕ → List Waiter → List Waiter
+lived holds count ws = filter is_alive (map (refreshed holds count) ws)
+
+-- so at the beginning of a turn, in which it may hand out all letters again
+abbrev pub begun : (ℕ → List ℕ → Bool) → ℕ → QueueValue → QueueValue
+begun holds count q = record { waiters = lived holds count q.waiters; left = max_letters }
 
 -- ---- who is told
 
@@ -174,3 +174,34 @@ pub record TellsFirst (table : Table) (old : QueueValue) (letter : Letter) (new 
   pub sent : letter ≡ letter_to old.waiters index waiter
   pub becomes : new.waiters ≡ slice_set old.waiters index (told (opening (table waiter.ticket.name)) waiter)
   pub counted : new.left + 1 ≡ old.left
+
+-- these letters are handed out, one after another
+abbrev pub TellsEach : Table → QueueValue → List Letter → QueueValue → Type 0
+TellsEach table old [] new = new ≡ old
+TellsEach table old (letter ∷ letters) new =
+    (mid : QueueValue) × TellsFirst table old letter mid × TellsEach table mid letters new
+
+-- these are, until nobody is to be told or no letter is left in this turn
+pub record TellsAll (table : Table) (old : QueueValue) (letters : List Letter) (new : QueueValue) : Type 0 where
+  pub each : TellsEach table old letters new
+  pub ends : (new.left ≡ 0) ⊎ NoneDueBefore table new.waiters (length new.waiters)
+
+-- ---- a watch as a server hears it
+
+abbrev pub listed_letter : Option Letter → List Letter
+listed_letter None = []
+listed_letter (Some letter) = letter ∷ []
+
+-- a watch that came from there was heard, and these letters are to be sent for it at once: one, or none if it is
+-- ignored
+pub record Hears (table : Table) (speaks : Bool) (watch : Watch) (from : SocketAddr) (old : QueueValue)
+    (letters : List Letter) (new : QueueValue) : Type 0 where
+  pub waiters : new.waiters ≡ heard watch from (table watch.ticket.name) old.waiters
+  pub left : new.left ≡ old.left
+  pub answer : letters
+      ≡ listed_letter (answer_to watch from (table watch.ticket.name) speaks old.waiters new.waiters)
+
+-- so, or out of memory nothing happens
+abbrev pub HearsOrNot : Table → Bool → Watch → SocketAddr → QueueValue → List Letter → QueueValue → Type 0
+HearsOrNot table speaks watch from old letters new =
+    Hears table speaks watch from old letters new ⊎ ((letters ≡ []) × (new ≡ old))

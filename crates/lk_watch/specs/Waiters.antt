@@ -99,9 +99,18 @@ aged_stage JustNow = Once
 aged_stage Once = Once
 aged_stage Twice = Twice
 
--- after a period
-abbrev pub aged : Waiter → Waiter
-aged w = record w { periods = w.periods - 1; stage = aged_stage w.stage }
+-- after that many periods
+abbrev pub aged : ℕ → Waiter → Waiter
+aged count w =
+    record w { periods = w.periods - count; stage = if nat_lt 0 count then aged_stage w.stage else w.stage }
+
+-- it waits no more if it was granted the name
+abbrev pub settled : Bool → Waiter → Waiter
+settled is_granted w = record w { waits = w.waits && not is_granted }
+
+-- after that many periods, where a table says who holds a name
+abbrev pub refreshed : (ℕ → List ℕ → Bool) → ℕ → Waiter → Waiter
+refreshed holds count w = settled (holds w.ticket.client w.ticket.name) (aged count w)
 
 -- the waiter of a watch that was answered
 abbrev pub newcomer : Watch → SocketAddr → Waiter

@@ -9,6 +9,7 @@ mod notice;
 pub mod queue;
 mod reading;
 mod standing;
+mod table;
 mod ticket;
 mod waiter;
 mod watch;

@@ -4,9 +4,9 @@ ghost use Rattle.std.specs.Prelude.{◌≡◌, ◌≤◌, ◌<◌, ◌⊎◌, []
 ghost use Rattle.std.specs.Prelude.{◌+◌, take, map, vec_len, vec_capacity};
 ghost use Rattle.std.specs.List.{sum_by, count_by, position_or_len};
 ghost use Rattle.lk_watch.specs.Standings.{serves};
-ghost use Rattle.lk_watch.specs.Waiters.{is_named, is_client, is_of, waits_for, load, is_due, aged};
+ghost use Rattle.lk_watch.specs.Waiters.{is_named, is_client, is_of, waits_for, load, is_due, refreshed};
 ghost use Rattle.lk_watch.specs.Queues.{IsQueue, max_letters, position, has_room, is_kept, is_ignored_by, is_waiting};
-ghost use Rattle.lk_watch.specs.Queues.{without, renewed_in, entered_for, heard, answer_to, place_of, ended, lived};
+ghost use Rattle.lk_watch.specs.Queues.{without, renewed_in, entered_for, heard, answer_to, place_of, begun, lived};
 ghost use Rattle.lk_watch.specs.Queues.{others, is_due_at, NoneDueBefore, TellsFirst};
 
 use crate::standing::{NameTable, Standing};
@@ -144,11 +144,13 @@ fn is_waiting_at(waiters: &[Waiter], at: usize) -> bool
     }
 }
 
-// Whether a watch that has no waiter is kept.
-fn is_kept(watch: &Watch, standing: Standing) -> bool
-    ensures { result ≡ is_kept watch.now standing }
+// Whether a watch that has no waiter is kept: it does not withdraw, and the name is held, or others wait for it.
+fn is_kept(watch: &Watch, standing: Standing, waiters: &[Waiter]) -> bool
+    requires { length waiters.now ≤ MAX_WAITERS }
+    ensures { result ≡ is_kept watch.now standing waiters.now }
 {
-    watch.periods > 0 && standing.places(watch.ticket.mode) == 0
+    let taken = load_of(standing, &watch.ticket.name, waiters);
+    watch.periods > 0 && standing.places(watch.ticket.mode) <= taken
 }
 
 // Removes the waiter at an index, if there is one.
@@ -162,12 +164,14 @@ fn remove_at(waiters: &mut Vec<Waiter>, at: usize)
     }
 }
 
-// Passes a period for each waiter.
-fn age_all(waiters: &mut [Waiter])
-    ensures { waiters.new ≡ map aged waiters.old }
+// Passes that many periods for each waiter, and ends the wait of each that holds its name by the table.
+fn refresh_all<T: NameTable>(table: &T, count: u64, waiters: &mut [Waiter])
+    ensures { waiters.new ≡ map (refreshed (T.holds table.now) count) waiters.old }
 {
     for waiter in waiters.iter_mut() {
-        waiter.age();
+        let is_granted = table.holds(waiter.ticket.client, &waiter.ticket.name);
+        waiter.age(count);
+        waiter.settle(is_granted);
     }
 }
 
@@ -284,7 +288,8 @@ impl WatchQueue {
     /// Takes a watch that came from an address, where the table says this of its name, and returns the letter that
     /// answers it. `None`, and nothing changes, if a newer watch of the client for the name came before, or if its
     /// waiter has another address. A watch that withdraws ends the wait. Any other renews it; without a waiter it is
-    /// kept if the name is held, and there is room: nobody makes place for it. Out of memory nothing changes.
+    /// kept if the name is held or others wait for it, and there is room: nobody makes place for it. Out of memory
+    /// nothing changes.
     pub fn hear(
         &mut self,
         watch: &Watch,
@@ -307,7 +312,7 @@ impl WatchQueue {
         }
         if is_waiting_at(&self.waiters, at) {
             self.renew(at, watch);
-        } else if is_kept(watch, standing) {
+        } else if is_kept(watch, standing, &self.waiters) {
             self.enter(at, watch, from)?;
         }
         Ok(Some(Letter {
@@ -318,30 +323,23 @@ impl WatchQueue {
         }))
     }
 
-    /// Ends the wait of a client for a name, which it was granted. Its number is kept until the watch expires.
-    pub fn end(&mut self, client: ClientNo, name: &Name)
-        ensures waiters { self.new.waiters ≡ ended client name.now self.old.waiters }
+    // Passes that many periods: watches that have lived for theirs expire, and whoever holds its name by the table
+    // waits no more.
+    fn refresh<T: NameTable>(&mut self, table: &T, count: u64)
+        ensures waiters { self.new.waiters ≡ lived (T.holds table.now) count self.old.waiters }
         ensures left { self.new.left ≡ self.old.left }
     {
-        let at = position_of(client, name, &self.waiters);
-        if at < self.waiters.len() {
-            self.waiters[at].waits = false;
-        }
-    }
-
-    /// Passes a period: watches that have lived for theirs expire.
-    pub fn pass_period(&mut self)
-        ensures waiters { self.new.waiters ≡ lived self.old.waiters }
-        ensures left { self.new.left ≡ self.old.left }
-    {
-        age_all(&mut self.waiters);
+        refresh_all(table, count, &mut self.waiters);
         self.waiters.retain(|waiter| waiter.periods > 0);
     }
 
-    /// Begins a turn: it may hand out 64 letters again.
-    pub fn begin_turn(&mut self)
-        ensures { self.new ≡ record { waiters = self.old.waiters; left = max_letters } }
+    /// Begins a turn, before which that many periods have passed since the last one. Watches that have lived for theirs
+    /// expire. Whoever holds the name that it waits for, by what the table says, was granted it, and waits no more: its
+    /// number is kept until its watch expires. It may hand out 64 letters again.
+    pub fn begin_turn<T: NameTable>(&mut self, table: &T, count: u64)
+        ensures { self.new ≡ begun (T.holds table.now) count self.old }
     {
+        self.refresh(table, count);
         self.left = MAX_LETTERS;
     }
 

@@ -5,6 +5,7 @@ ghost use Rattle.lk_watch.specs.Standings.{fence_in, places, opening, serves, ne
 use crate::notice::News;
 use crate::ticket::{Mode, Ticket};
 use lk_locks::Name;
+use lk_types::ClientNo;
 use lk_types::limits::MAX_SHARERS;
 
 /// What a lock table says of a name: its last fence, 0 if it was never granted, and who holds it.
@@ -20,14 +21,20 @@ pub enum Standing {
 
 /// A lock table, as a queue of watches asks it.
 pub trait NameTable {
-    ghost use Rattle.std.specs.Prelude.{ℕ, List};
+    ghost use Rattle.std.specs.Prelude.{ℕ, Bool, List};
     ghost use Rattle.lk_watch.specs.declared.standing.Standing.{Standing};
 
     ghost standing: { Self → List ℕ → Standing };
 
+    ghost holds: { Self → ℕ → List ℕ → Bool };
+
     /// Returns what it says of a name.
     fn standing(&self, name: &Name) -> Standing
         ensures { result ≡ standing self.now name.now };
+
+    /// Whether a client holds a name, alone or together with others.
+    fn holds(&self, client: ClientNo, name: &Name) -> bool
+        ensures { result ≡ holds self.now client name.now };
 }
 
 impl Standing {

@@ -1,7 +1,7 @@
 // A client in a queue, and the letters to it.
 ghost use Rattle.std.specs.Prelude.{◌≡◌, ◌<◌, IsTrue, ◌↔◌};
 ghost use Rattle.lk_watch.specs.Waiters.{is_of, waits_for, stage_at, is_passed, load, ignores, newcomer, renewed, aged};
-ghost use Rattle.lk_watch.specs.Waiters.{aged_stage, next_stage, told, weight};
+ghost use Rattle.lk_watch.specs.Waiters.{aged_stage, next_stage, settled, told, weight};
 
 use crate::notice::{News, Notice};
 use crate::standing::Standing;
@@ -61,19 +61,19 @@ pub struct Letter {
 
 impl Letter {
     /// Returns the notice of a node of that cluster.
-    pub fn notice(self, cluster: u64, node: NodeNo) -> Notice
+    pub fn notice(&self, cluster: u64, node: NodeNo) -> Notice
         ensures { result ≡ record {
           cluster = cluster;
           node = node;
-          ticket = self.ticket;
-          news = self.news;
-          place = self.place;
+          ticket = self.now.ticket;
+          news = self.now.news;
+          place = self.now.place;
         } }
     {
         Notice {
             cluster,
             node,
-            ticket: self.ticket,
+            ticket: self.ticket.copy(),
             news: self.news,
             place: self.place,
         }
@@ -222,11 +222,20 @@ impl Waiter {
         }
     }
 
-    /// Passes a period.
-    pub(crate) fn age(&mut self)
-        ensures { self.new ≡ aged self.old }
+    /// Passes that many periods.
+    pub(crate) fn age(&mut self, count: u64)
+        ensures { self.new ≡ aged count self.old }
     {
-        self.periods = self.periods.saturating_sub(1);
-        self.stage = self.stage.aged();
+        self.periods = u64::from(self.periods).saturating_sub(count) as u8;
+        if count > 0 {
+            self.stage = self.stage.aged();
+        }
+    }
+
+    /// Stops waiting if it was granted the name.
+    pub(crate) fn settle(&mut self, is_granted: bool)
+        ensures { self.new ≡ settled is_granted self.old }
+    {
+        self.waits = self.waits && !is_granted;
     }
 }

@@ -11,7 +11,7 @@ returns-in-Ok-clause-turn g c =
     on_ok_weaker c.end_turn.result (λ goes.
     turn_taken HasFollowedNoStranger t.0 c.args.buffer.now c.node_turn.new.buffer c.args.server.now
     c.node_turn.new.server
-    c.end_turn.new.server t.1 t.2 t.3 e.acts c.node_turn.ensures.network e.failure goes) e.goes_on
+    c.end_turn.new.server t.1 t.2 t.3 e.acts c.node_turn.ensures.network e.network e.failure goes) e.goes_on
 
 pub returns-in-Ok-clause-ends : goal.returns-in-Ok-clause-ends
 returns-in-Ok-clause-ends g c =
@@ -20,7 +20,7 @@ returns-in-Ok-clause-ends g c =
     on_err_weaker c.end_turn.result (λ leaves.
     inr (turn_taken HasFollowedStranger t.0 c.args.buffer.now c.node_turn.new.buffer c.args.server.now
     c.node_turn.new.server
-    c.end_turn.new.server t.1 t.2 t.3 e.acts c.node_turn.ensures.network e.failure leaves)) e.leaves
+    c.end_turn.new.server t.1 t.2 t.3 e.acts c.node_turn.ensures.network e.network e.failure leaves)) e.leaves
 
 pub returns-in-Err-clause-ends : goal.returns-in-Err-clause-ends
 returns-in-Err-clause-ends g c =

@@ -1,4 +1,4 @@
--- So many turns were taken, no probe and no report is kept between two of them, and after each the node warned where
+-- So many turns were taken, no probe, report or watch is kept between two of them, and after each the node warned where
 -- that was due.
 use Rattle.std.proofs.Common.{◌≡◌, None}
 use Rattle.lk_transport.specs.Chains.{Repeats}
@@ -10,7 +10,7 @@ use Rattle.lk_node_process.proofs.running.do_turns.Given as goal
 abbrev pub invariant-turns : goal.invariant-turns
 invariant-turns g l =
     let device = g.D.LogDisk in
-    (l.buffer.asked ≡ None) × (l.buffer.reported ≡ None)
+    (l.buffer.asked ≡ None) × (l.buffer.reported ≡ None) × (l.buffer.watched ≡ None)
     × Repeats (DoesTurn (SaysOn device.is_honest device.is_metered g.M.Machine.meaning g.M.Machine.IsText)
     g.S.DatagramSocket.is_observable) l.counter l.fn.server l.server
     × Repeats (DoesTurnAndWarns

@@ -8,6 +8,6 @@ pub returns : goal.returns
 returns g c =
     appends_more _ _ _ _ _
     (subst (λ (most : ℕ). Appends (g.W.Write.contents c.args.out.now) (g.W.Write.contents c.write_targets.new.out)
-    (target_lines c.args.first c.args.inquiry.now.targets.items c.args.reports.now most)) c.executed_of.ensures
+    (target_lines c.args.first c.args.inquiry.now c.args.reports.now most)) c.executed_of.ensures
     c.in_ok-write_targets.ensures)
     c.in_ok-write_cluster.ensures

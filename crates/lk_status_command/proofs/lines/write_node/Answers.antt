@@ -16,4 +16,5 @@ returns g c =
     (appends_more _ _ _ _ _ c.in_ok-write_hearing.ensures
     (appends_more _ _ _ _ _ c.in_ok-write_progress.ensures
     (appends_more _ _ _ _ _ members
-    (appends_more _ _ _ _ _ c.in_ok-write_traffic.ensures c.in_ok-write_all.ensures.bytes)))))
+    (appends_more _ _ _ _ _ c.in_ok-write_traffic.ensures
+    (appends_more _ _ _ _ _ c.in_ok-write_kept.ensures c.in_ok-write_all.ensures.bytes))))))

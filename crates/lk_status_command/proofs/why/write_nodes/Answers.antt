@@ -11,7 +11,7 @@ all-init g c = appends_nothing _
 
 pub all-preserved : goal.all-preserved
 all-preserved g c =
-    writes_more (node_reason c.args.majority c.args.members.now) [] _ _ _ c.args.reports.now
+    writes_more (node_reason c.args.majority c.args.is_early c.args.members.now) [] _ _ _ c.args.reports.now
     c.all.report-index c.report-item.result
     (take_more c.args.reports.now c.all.report-index c.report-item.result c.all-test.true
     ∙ ap (λ (r : Report). take c.all.report-index c.args.reports.now ++ r ∷ []) (sym c.report-item.is))
@@ -20,5 +20,5 @@ all-preserved g c =
 pub returns : goal.returns
 returns g c =
     subst (λ (l : List Report). Appends (g.W.Write.contents c.args.out.now) (g.W.Write.contents c.all.out)
-    (node_reasons c.args.majority c.args.members.now l))
+    (node_reasons c.args.majority c.args.is_early c.args.members.now l))
     (take_all c.all.report-index c.args.reports.now c.all-test.false) c.all.invariant

@@ -6,4 +6,4 @@ use Rattle.lk_status_command.proofs.why.write_nodes.Given as goal
 -- those so far were written
 abbrev pub invariant-all : goal.invariant-all
 invariant-all g l = Appends (g.W.Write.contents l.fn.out) (g.W.Write.contents l.out)
-    (node_reasons l.majority l.members (take l.report-index l.reports))
+    (node_reasons l.majority l.is_early l.members (take l.report-index l.reports))

@@ -13,6 +13,7 @@ returns c = record {
         story = story;
         quiet = c.put_times.new.self.quiet;
         lag = c.put_times.new.self.lag;
+        deaf = c.put_times.new.self.deaf;
         slots = c.observe.new.slots;
       } in w) c.observe.ensures.observed;
 }

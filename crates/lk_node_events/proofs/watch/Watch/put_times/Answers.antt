@@ -21,8 +21,16 @@ returns c = record {
     none = c.observe-lag.ensures.none;
     becomes = c.observe-lag.ensures.becomes;
   };
-  mid = c.put_some.new.self.all;
+  unheard = c.observe-deaf.result;
+  deaf = record {
+    some = c.observe-deaf.ensures.some;
+    none = c.observe-deaf.ensures.none;
+    becomes = c.observe-deaf.ensures.becomes;
+  };
+  one = c.put_some.new.self.all;
+  two = c.put_some-2.new.self.all;
   first = c.put_some.ensures;
   second = c.put_some-2.ensures;
+  third = c.put_some-3.ensures;
   story = c.forget.ensures;
 }

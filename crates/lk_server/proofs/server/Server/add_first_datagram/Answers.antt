@@ -29,9 +29,11 @@ returns-clause-adds g c =
           (ap (λ (s : ServerValue _). s.incoming) h.others) t.3,
       keeps_given c.args.self.now.addresses.seals t.0 c.args.buffer.now c.add_received.new.buffer
           (not_beside (filter_of c.args.self.now.addresses) t.0 apart)
-          (ap (λ (b : BufferValue). b.asked) same ∙ l.asked) (ap (λ (b : BufferValue). b.reported) same ∙ l.reported),
+          (ap (λ (b : BufferValue). b.asked) same ∙ l.asked) (ap (λ (b : BufferValue). b.reported) same ∙ l.reported)
+          (ap (λ (b : BufferValue). b.watched) same ∙ l.watched),
       ap (λ (b : BufferValue). b.asked) same ∙ l.asked,
       ap (λ (b : BufferValue). b.reported) same ∙ l.reported,
+      ap (λ (b : BufferValue). b.watched) same ∙ l.watched,
     )) h.adds h.rest
 
 pub returns-clause-none : goal.returns-clause-none
@@ -47,7 +49,7 @@ returns-clause-none g c =
       f.1,
       keeps_found c.args.self.now.addresses.seals
           c.receive.new.self.addresses.seals found c.args.buffer.now c.receive.new.buffer c.add_received.new.buffer
-          (ap (λ (s : ServerValue _). s.addresses.seals) l.others) l.asked l.reported
+          (ap (λ (s : ServerValue _). s.addresses.seals) l.others) l.asked l.reported l.watched
           (λ is. (none is).0) (λ is. let b = beside is in (b.0, b.1)) kept rest apart,
     )) h.none h.beside h.kept h.rest
 

@@ -38,7 +38,7 @@ returns-clause-adds g c = λ yes.
           c.add_first_datagram.new.self.addresses.seals
           (first.0 ∷ []) more.0 c.args.buffer.now c.add_first_datagram.new.buffer c.add_further_datagrams.new.buffer
           (ap (λ (c : Filter). c.seals) first.2.adds.network.1) first.3 more.3
-          (λ unasked untold. (first.4 ∙ unasked, first.5 ∙ untold)),
+          (λ unasked untold unwatched. (first.4 ∙ unasked, first.5 ∙ untold, first.6 ∙ unwatched)),
     )
 
 pub returns-in_err-found-clause-ends : goal.returns-in_err-found-clause-ends

@@ -13,7 +13,7 @@ datagrams-init g c = (
   socket_nothing g.R.ServerReplica.Gathers g.S.DatagramSocket.is_observable c.args.group.now c.args.group.now
       c.args.self.now c.args.self.now refl refl,
   refl,
-  keeps_still c.args.self.now.addresses.seals c.args.buffer.now c.args.buffer.now refl refl,
+  keeps_still c.args.self.now.addresses.seals c.args.buffer.now c.args.buffer.now refl refl refl,
 )
 
 pub datagrams-preserved : goal.datagrams-preserved
@@ -42,7 +42,7 @@ datagrams-preserved g c =
           c.datagrams.self.addresses.seals i.0
           (t.0 ∷ []) c.args.buffer.now c.datagrams.buffer c.add_next_datagram.new.buffer
           (ap (λ (c : Filter). c.seals) i.2.adds.network.1) i.4 t.2
-          (λ unasked untold. c.has_kept.ensures.none (cc c.if-has_kept.false)),
+          (λ unasked untold unwatched. c.has_kept.ensures.none (cc c.if-has_kept.false)),
     )
 
 pub returns-then-not-branch-clause-adds : goal.returns-then-not-branch-clause-adds
@@ -58,7 +58,7 @@ returns-then-not-branch-clause-adds g c =
           c.args.group.now c.datagrams.group c.add_next_datagram.new.group c.args.self.now c.datagrams.self
           c.add_next_datagram.new.self i.2 n.2 n.1 n.0),
       keeps_on c.args.self.now.addresses.seals i.0 c.args.buffer.now c.datagrams.buffer
-          c.add_next_datagram.new.buffer i.4 n.3 n.4,
+          c.add_next_datagram.new.buffer i.4 n.3 n.4 n.5,
     )
 
 pub returns-then-has_kept-clause-adds : goal.returns-then-has_kept-clause-adds

@@ -21,7 +21,8 @@ returns-in-Something-clause-adds g c = λ came.
       keeps_given c.args.self.now.addresses.seals t.0 c.args.buffer.now c.add_received.new.buffer
           (not_beside (filter_of c.args.self.now.addresses) t.0
           (still_not_out c.args.self.now c.receive_or_pause.new.self t.0 l.others t.2))
-          (ap (λ (b : BufferValue). b.asked) same ∙ l.asked) (ap (λ (b : BufferValue). b.reported) same ∙ l.reported),
+          (ap (λ (b : BufferValue). b.asked) same ∙ l.asked) (ap (λ (b : BufferValue). b.reported) same ∙ l.reported)
+          (ap (λ (b : BufferValue). b.watched) same ∙ l.watched),
     )
 
 pub returns-in-Filtered-clause-adds : goal.returns-in-Filtered-clause-adds
@@ -35,7 +36,7 @@ returns-in-Filtered-clause-adds g c = λ came.
       keeps_beside c.args.self.now.addresses.seals
           c.receive_or_pause.new.self.addresses.seals b.0 c.args.buffer.now c.receive_or_pause.new.buffer
           c.add_received.new.buffer
-          (ap (λ (s : ServerValue _). s.addresses.seals) l.others) l.asked l.reported b.1
+          (ap (λ (s : ServerValue _). s.addresses.seals) l.others) l.asked l.reported l.watched b.1
           (c.in_ok-add_received.ensures.kept (search rules)),
     )
 
@@ -51,6 +52,7 @@ returns-in-Nothing-clause-none g c = λ came.
       n.2,
       ap (λ (b : BufferValue). b.asked) same ∙ l.asked,
       ap (λ (b : BufferValue). b.reported) same ∙ l.reported,
+      ap (λ (b : BufferValue). b.watched) same ∙ l.watched,
     )
 
 pub returns-in_err-add_received-clause-ends : goal.returns-in_err-add_received-clause-ends

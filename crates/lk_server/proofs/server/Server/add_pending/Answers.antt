@@ -54,7 +54,7 @@ returns-clause-adds g c = λ yes.
           (ap (λ (s : ServerValue _). s.incoming) c.add_loopbacks.ensures.others
           ∙ ap (λ (s : ServerValue _). s.incoming) c.add_loopback.ensures.others) first.2
           c.in_ok-add_loopbacks.ensures.adds,
-      keeps_still c.args.self.now.addresses.seals c.args.buffer.now c.args.buffer.now refl refl,
+      keeps_still c.args.self.now.addresses.seals c.args.buffer.now c.args.buffer.now refl refl refl,
     )
 
 pub returns-in_err-add_loopback-clause-ends : goal.returns-in_err-add_loopback-clause-ends

@@ -2,8 +2,8 @@ use Rattle.std.proofs.Common.{rules, ◌≡◌, false}
 use Rattle.lk_probe.specs.Neighbours.{is_stranger}
 use Rattle.lk_auth.specs.Seals.{heard}
 use Rattle.lk_transport.specs.Addresses.{filter_of}
-use Rattle.lk_transport.specs.Posts.{is_filtered_out, is_probe_or_report}
-use Rattle.lk_server.proofs.FilteredOut.{is_dropped, is_not_out}
+use Rattle.lk_transport.specs.Posts.{is_filtered_out, is_beside_protocol, is_dropped}
+use Rattle.lk_server.proofs.FilteredOut.{is_not_out}
 use Rattle.lk_server.proofs.Asking.{keeps_strange}
 use Rattle.lk_server.proofs.Carrying.{on_err}
 use Rattle.lk_server.proofs.Gatherings.{heard_one, ends_heard}
@@ -11,11 +11,11 @@ use Rattle.lk_server.proofs.server.Server.add_received.Goals as goal
 
 pub returns-clause-adds : goal.returns-clause-adds
 returns-clause-adds g c = λ yes.
-    let beside : is_probe_or_report (heard c.args.self.now.addresses.seals c.in-Some.frame.now) ≡ false =
+    let beside : is_beside_protocol (heard c.args.self.now.addresses.seals c.in-Some.frame.now) ≡ false =
     search rules in
     let known : is_stranger c.args.self.now.addresses.neighbours c.in-Some.from ≡ false = search rules in
-    let taken : is_dropped (filter_of c.args.self.now.addresses) (c.in-Some.from, c.in-Some.frame.now) ≡ false =
-    search rules in
+    let taken : is_dropped (filter_of c.args.self.now.addresses)
+    (heard c.args.self.now.addresses.seals c.in-Some.frame.now) ≡ false = search rules in
     let apart : is_filtered_out (filter_of c.args.self.now.addresses) (c.in-Some.from, c.in-Some.frame.now) ≡ false =
     is_not_out (filter_of c.args.self.now.addresses) (c.in-Some.from, c.in-Some.frame.now) beside known taken in (
       (c.in-Some.from, c.in-Some.frame.now),
@@ -30,11 +30,11 @@ returns-clause-adds g c = λ yes.
 
 pub returns-in_err-add_datagram-clause-ends : goal.returns-in_err-add_datagram-clause-ends
 returns-in_err-add_datagram-clause-ends g c =
-    let beside : is_probe_or_report (heard c.args.self.now.addresses.seals c.in-Some.frame.now) ≡ false =
+    let beside : is_beside_protocol (heard c.args.self.now.addresses.seals c.in-Some.frame.now) ≡ false =
     search rules in
     let known : is_stranger c.args.self.now.addresses.neighbours c.in-Some.from ≡ false = search rules in
-    let taken : is_dropped (filter_of c.args.self.now.addresses) (c.in-Some.from, c.in-Some.frame.now) ≡ false =
-    search rules in
+    let taken : is_dropped (filter_of c.args.self.now.addresses)
+    (heard c.args.self.now.addresses.seals c.in-Some.frame.now) ≡ false = search rules in
     let apart : is_filtered_out (filter_of c.args.self.now.addresses) (c.in-Some.from, c.in-Some.frame.now) ≡ false =
     is_not_out (filter_of c.args.self.now.addresses) (c.in-Some.from, c.in-Some.frame.now) beside known taken in
     on_err c.from_residual.result (
@@ -50,14 +50,14 @@ returns-in_err-add_datagram-clause-ends g c =
 
 pub returns-in-Some-stranger-clause-kept : goal.returns-in-Some-stranger-clause-kept
 returns-in-Some-stranger-clause-kept g c = λ found.
-    let beside : is_probe_or_report (heard c.args.self.now.addresses.seals c.in-Some.frame.now) ≡ false =
+    let beside : is_beside_protocol (heard c.args.self.now.addresses.seals c.in-Some.frame.now) ≡ false =
     search rules in
     keeps_strange c.args.self.now.addresses.seals
     (c.in-Some.from, c.in-Some.frame.now) c.args.buffer.now c.in-Some.ensures.some beside
 
 pub returns-then-drops-clause-kept : goal.returns-then-drops-clause-kept
 returns-then-drops-clause-kept g c = λ found.
-    let beside : is_probe_or_report (heard c.args.self.now.addresses.seals c.in-Some.frame.now) ≡ false =
+    let beside : is_beside_protocol (heard c.args.self.now.addresses.seals c.in-Some.frame.now) ≡ false =
     search rules in
     keeps_strange c.args.self.now.addresses.seals
     (c.in-Some.from, c.in-Some.frame.now) c.args.buffer.now c.in-Some.ensures.some beside

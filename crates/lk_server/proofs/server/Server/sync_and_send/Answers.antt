@@ -22,6 +22,8 @@ returns-clause-same g c =
           ∙ (same_post g.S.DatagramSocket.is_observable c.release-released.result _ c.start_group.new.self
           c.release-released.new.post e.hands e.unsent).0 ∙ begun;
       pace = search rules;
+      queue = search rules;
+      aged = search rules;
     }
 
 pub returns-clause-still : goal.returns-clause-still

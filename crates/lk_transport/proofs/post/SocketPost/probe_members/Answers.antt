@@ -9,7 +9,7 @@ same : (n : ℕ) → suc n ≡ n + 1
 same n = omega arith
 
 pub members-init : goal.members-init
-members-init g c = (λ book state p. p, (refl, refl), λ t. refl, refl)
+members-init g c = (λ book state p. p, (refl, refl, refl), λ t. refl, refl)
 
 pub members-preserved : goal.members-preserved
 members-preserved g c =
@@ -30,7 +30,7 @@ members-preserved g c =
           (subst (λ (l : List Member). ProbesMembers observable c.args.self.now.node l old.addresses book
           (send_state_of old) state) (sym next)
           (c.draw.result, new.addresses, send_state_of new, probes, rest)),
-      (p.network.0 ∙ i.1.0, p.network.1 ∙ i.1.1),
+      (p.network.0 ∙ i.1.0, p.network.1 ∙ i.1.1, p.network.2 ∙ i.1.2),
       λ t. p.still t ∙ i.2 t,
       p.others ∙ ap (λ (s : SocketPostValue). record s {
         addresses = new.addresses;

@@ -1,0 +1,249 @@
+-- A server handles watches: it hears one, and tells those who wait.
+use Rattle.std.proofs.Common.{◌≡◌, ◌⊎◌, ℕ, ◌+◌, Bool, true, List, [], ◌∷◌, ◌++◌, length, Option, Some, refl, sym, ap}
+use Rattle.std.proofs.Common.{subst, subst₂, ◌∙◌, arith}
+use Rattle.lk_locks.specs.Plain.{Table}
+use Rattle.lk_auth.specs.declared.seals.Seals.{Seals}
+use Rattle.lk_watch.specs.Tables.{standing_in}
+use Rattle.lk_watch.specs.Queues.{QueueValue, Table as Standings, HearsOrNot, NoneDueBefore, TellsFirst}
+use Rattle.lk_watch.specs.Queues.{TellsEach}
+use Rattle.lk_watch.specs.declared.waiter.Letter.{Letter}
+use Rattle.lk_transport.specs.Posts.{SendState}
+use Rattle.lk_transport.specs.Watches.{SendsNotice, SendsNotices}
+use Rattle.lk_transport.specs.declared.received_watch.ReceivedWatch.{ReceivedWatch}
+use Rattle.lk_server.specs.Servers.{ServerValue, periods, send_state_at}
+use Rattle.lk_server.specs.WatchHandling.{Speaks, ServesWaiters, AnswersWatch, TellsNext, TellsWaiters}
+use Rattle.lk_server.specs.WatchHandling.{ChangesByNotices, begun_at}
+use Rattle.lk_server_replica.specs.declared.probed_state.ProbedState.{ProbedState}
+
+-- ---- one letter after another
+
+tells_more : (table : Standings) (letters : List Letter) (letter : Letter) (old mid new : QueueValue)
+    → TellsEach table old letters mid → TellsFirst table mid letter new
+    → TellsEach table old (letters ++ letter ∷ []) new
+tells_more table [] letter old mid new each one =
+    (new, subst (λ (q : QueueValue). TellsFirst table q letter new) each one, refl)
+tells_more table (l ∷ letters) letter old mid new each one =
+    (each.0, each.1, tells_more table letters letter each.0 mid new each.2 one)
+
+pub sends_both : (observable : Type 0) (s : Seals) (node : ℕ) (xs ys : List Letter) (old mid new : SendState)
+    → SendsNotices observable s node xs old mid → SendsNotices observable s node ys mid new
+    → SendsNotices observable s node (xs ++ ys) old new
+sends_both observable s node [] ys old mid new none two =
+    subst (λ (t : SendState). SendsNotices observable s node ys t new) none two
+sends_both observable s node (x ∷ xs) ys old mid new one two =
+    (one.0, one.1, sends_both observable s node xs ys one.0 mid new one.2 two)
+
+-- each letter is counted
+pub letters_left : (table : Standings) (letters : List Letter) (old new : QueueValue) → TellsEach table old letters new
+    → new.left + length letters ≡ old.left
+letters_left table [] old new same = let left : new.left ≡ old.left = ap (λ (q : QueueValue). q.left) same in
+    omega (arith, left)
+letters_left table (l ∷ letters) old new each =
+    omega (arith, each.1.counted, letters_left table letters each.0 new each.2)
+
+module _ {R : Type 0} (T : R → Table) (observable : Type 0) where
+  -- those so far were told
+  abbrev pub HasTold : List Letter → ServerValue R → ServerValue R → Type 0
+  HasTold letters old new =
+      TellsEach (standing_in (T old.replica)) old.queue letters new.queue
+      × SendsNotices observable old.addresses.seals old.node letters (send_state_at old.loopback old)
+      (send_state_at new.loopback new)
+      × (observable → new.incoming ≡ old.incoming)
+      × ChangesByNotices old new
+
+  -- the next one
+  pub tells_next : (letter : Letter) (mid one new : ServerValue R)
+      → TellsFirst (standing_in (T mid.replica)) mid.queue letter one.queue
+      → one ≡ record mid { queue = one.queue }
+      → SendsNotice observable one.addresses.seals one.node letter (send_state_at one.loopback one)
+      (send_state_at new.loopback new)
+      → new ≡ record one {
+        sent = new.sent;
+        socket_failures = new.socket_failures;
+        incoming = new.incoming;
+      }
+      → TellsNext (T mid.replica) observable mid new
+  tells_next letter mid one new tells one_is sends new_is =
+      let seals : one.addresses.seals ≡ mid.addresses.seals =
+      ap (λ (s : ServerValue R). s.addresses.seals) one_is in
+      let node : one.node ≡ mid.node = ap (λ (s : ServerValue R). s.node) one_is in
+      let before : send_state_at one.loopback one ≡ send_state_at mid.loopback mid =
+      ap (λ (s : ServerValue R). send_state_at s.loopback s) one_is in
+      let queue : one.queue ≡ new.queue = sym (ap (λ (s : ServerValue R). s.queue) new_is) in
+      let after = send_state_at new.loopback new in
+      let by_keys : SendsNotice observable mid.addresses.seals mid.node letter (send_state_at one.loopback one) after =
+      subst₂ (λ (s : Seals) (n : ℕ). SendsNotice observable s n letter (send_state_at one.loopback one) after)
+      seals node sends in
+      record {
+        letter = letter;
+        tells = subst (λ (q : QueueValue). TellsFirst (standing_in (T mid.replica)) mid.queue letter q) queue tells;
+        sends = subst (λ (t : SendState). SendsNotice observable mid.addresses.seals mid.node letter t after) before
+            by_keys;
+      }
+
+  -- and one more
+  pub told_more : (letters : List Letter) (old mid new : ServerValue R) → HasTold letters old mid
+      → (next : TellsNext (T mid.replica) observable mid new)
+      → (observable → new.incoming ≡ mid.incoming) → ChangesByNotices mid new
+      → HasTold (letters ++ next.letter ∷ []) old new
+  told_more letters old mid new so_far next still new_is =
+      let changes = so_far.3 in
+      let letter = next.letter in
+      let replica : mid.replica ≡ old.replica = ap (λ (s : ServerValue R). s.replica) changes in
+      let seals : mid.addresses.seals ≡ old.addresses.seals =
+      ap (λ (s : ServerValue R). s.addresses.seals) changes in
+      let node : mid.node ≡ old.node = ap (λ (s : ServerValue R). s.node) changes in
+      let told : TellsFirst (standing_in (T old.replica)) mid.queue letter new.queue =
+      subst (λ (r : R). TellsFirst (standing_in (T r)) mid.queue letter new.queue) replica next.tells in
+      let after = send_state_at new.loopback new in
+      let sent : SendsNotice observable old.addresses.seals old.node letter (send_state_at mid.loopback mid) after =
+      subst₂ (λ (s : Seals) (n : ℕ). SendsNotice observable s n letter (send_state_at mid.loopback mid) after)
+      seals node next.sends in (
+        tells_more (standing_in (T old.replica)) letters letter old.queue mid.queue new.queue so_far.0 told,
+        sends_both observable old.addresses.seals old.node letters (letter ∷ []) (send_state_at old.loopback old)
+            (send_state_at mid.loopback mid) after so_far.1 (after, sent, refl),
+        λ t. still t ∙ so_far.2 t,
+        new_is ∙ ap (λ (s : ServerValue R). record s {
+          queue = new.queue;
+          sent = new.sent;
+          socket_failures = new.socket_failures;
+          incoming = new.incoming;
+        }) changes,
+      )
+
+module _ {R : Type 0} (T : R → Table) (observable : Type 0) where
+  -- those who were to be told are
+  pub told_all : (letters : List Letter) (old mid new : ServerValue R) → HasTold T observable letters old mid
+      → ((mid.queue.left ≡ 0) ⊎ NoneDueBefore (standing_in (T mid.replica)) mid.queue.waiters
+      (length mid.queue.waiters))
+      → new ≡ mid → TellsWaiters (T old.replica) observable true old new
+  told_all letters old mid new so_far ends same =
+      let replica : mid.replica ≡ old.replica = ap (λ (s : ServerValue R). s.replica) so_far.3 in
+      let told : TellsWaiters (T old.replica) observable true old mid = record {
+        letters = letters;
+        tells = record {
+          each = so_far.0;
+          ends = subst (λ (r : R). (mid.queue.left ≡ 0) ⊎ NoneDueBefore (standing_in (T r)) mid.queue.waiters
+              (length mid.queue.waiters)) replica ends;
+        };
+        sends = so_far.1;
+      } in
+      subst (λ (s : ServerValue R). TellsWaiters (T old.replica) observable true old s) (sym same) told
+
+-- ---- a watch is answered
+
+module _ {R : Type 0} (table : Table) (observable : Type 0) (speaks : Bool) (r : ReceivedWatch) where
+  -- by a letter
+  pub answered : (letter : Letter) (old mid new : ServerValue R)
+      → HearsOrNot (standing_in table) speaks r.watch r.from old.queue (letter ∷ []) mid.queue
+      → mid ≡ record old { queue = mid.queue }
+      → SendsNotice observable mid.addresses.seals mid.node letter (send_state_at mid.loopback mid)
+      (send_state_at new.loopback new)
+      → new ≡ record mid {
+        sent = new.sent;
+        socket_failures = new.socket_failures;
+        incoming = new.incoming;
+      }
+      → AnswersWatch table observable speaks (Some r) old new
+  answered letter old mid new hears mid_is sends new_is =
+      let seals : mid.addresses.seals ≡ old.addresses.seals =
+      ap (λ (s : ServerValue R). s.addresses.seals) mid_is in
+      let node : mid.node ≡ old.node = ap (λ (s : ServerValue R). s.node) mid_is in
+      let before : send_state_at mid.loopback mid ≡ send_state_at old.loopback old =
+      ap (λ (s : ServerValue R). send_state_at s.loopback s) mid_is in
+      let queue : mid.queue ≡ new.queue = sym (ap (λ (s : ServerValue R). s.queue) new_is) in
+      let after = send_state_at new.loopback new in
+      let by_keys : SendsNotice observable old.addresses.seals old.node letter (send_state_at mid.loopback mid) after =
+      subst₂ (λ (s : Seals) (n : ℕ). SendsNotice observable s n letter (send_state_at mid.loopback mid) after)
+      seals node sends in
+      record {
+        letters = letter ∷ [];
+        hears = subst (λ (q : QueueValue). HearsOrNot (standing_in table) speaks r.watch r.from old.queue
+            (letter ∷ []) q) queue hears;
+        sends = (
+          after,
+          subst (λ (t : SendState). SendsNotice observable old.addresses.seals old.node letter t after) before by_keys,
+          refl,
+        );
+      }
+
+  -- or by none
+  pub unanswered : (old new : ServerValue R)
+      → HearsOrNot (standing_in table) speaks r.watch r.from old.queue [] new.queue
+      → new ≡ record old { queue = new.queue } → AnswersWatch table observable speaks (Some r) old new
+  unanswered old new hears new_is = record {
+    letters = [];
+    hears = hears;
+    sends = ap (λ (s : ServerValue R). send_state_at s.loopback s) new_is;
+  }
+
+-- ---- a whole turn of the queue
+
+module _ {R : Type 0} (T : R → Table) (Shows : R → ProbedState → Type 0) (observable : Type 0)
+    (watched : Option ReceivedWatch) (speaks : Bool) (old first mid new : ServerValue R) where
+  -- it begins, hears the watch that is kept, and tells those who wait
+  pub served : first ≡ record old { queue = begun_at (T old.replica) old; aged = periods old }
+      → Speaks Shows first speaks → AnswersWatch (T first.replica) observable speaks watched first mid
+      → (observable → mid.incoming ≡ first.incoming) → ChangesByNotices first mid
+      → TellsWaiters (T mid.replica) observable speaks mid new → (observable → new.incoming ≡ mid.incoming)
+      → ChangesByNotices mid new → ServesWaiters (T old.replica) Shows observable watched old new
+  served first_is says answers quiet mid_is tells still new_is =
+      let mid_so : mid ≡ record old {
+        queue = mid.queue;
+        aged = periods old;
+        sent = mid.sent;
+        socket_failures = mid.socket_failures;
+        incoming = mid.incoming;
+      } =
+      mid_is ∙ ap (λ (s : ServerValue R). record s {
+        queue = mid.queue;
+        sent = mid.sent;
+        socket_failures = mid.socket_failures;
+        incoming = mid.incoming;
+      }) first_is in
+      let new_so : new ≡ record old {
+        queue = new.queue;
+        aged = periods old;
+        sent = new.sent;
+        socket_failures = new.socket_failures;
+        incoming = new.incoming;
+      } =
+      new_is ∙ ap (λ (s : ServerValue R). record s {
+        queue = new.queue;
+        sent = new.sent;
+        socket_failures = new.socket_failures;
+        incoming = new.incoming;
+      }) mid_so in
+      let aged : new.aged ≡ periods old = ap (λ (s : ServerValue R). s.aged) new_so in
+      let heard : AnswersWatch (T old.replica) observable speaks watched
+      (record old { queue = begun_at (T old.replica) old; aged = periods old }) mid =
+      subst (λ (s : ServerValue R). AnswersWatch (T s.replica) observable speaks watched s mid) first_is answers in
+      let replica : mid.replica ≡ old.replica = ap (λ (s : ServerValue R). s.replica) mid_so in
+      let seals : mid.addresses.seals ≡ old.addresses.seals =
+      ap (λ (s : ServerValue R). s.addresses.seals) mid_so in
+      let node : mid.node ≡ old.node = ap (λ (s : ServerValue R). s.node) mid_so in
+      let after = send_state_at new.loopback new in
+      let told : TellsWaiters (T old.replica) observable speaks mid new =
+      subst (λ (r : R). TellsWaiters (T r) observable speaks mid new) replica tells in
+      record {
+        speaks = speaks;
+        says = subst (λ (s : ServerValue R). Speaks Shows s speaks) first_is says;
+        answers = heard.letters;
+        heard = mid.queue;
+        hears = heard.hears;
+        told = told.letters;
+        tells = told.tells;
+        sends = sends_both observable old.addresses.seals old.node heard.letters told.letters
+            (send_state_at old.loopback old) (send_state_at mid.loopback mid) after heard.sends
+            (subst₂ (λ (s : Seals) (n : ℕ). SendsNotices observable s n told.letters (send_state_at mid.loopback mid)
+            after) seals node told.sends);
+        still = λ t. still t ∙ quiet t ∙ ap (λ (s : ServerValue R). s.incoming) first_is;
+        aged = aged;
+        same = new_so ∙ ap (λ (n : ℕ). record old {
+          queue = new.queue;
+          aged = n;
+          sent = new.sent;
+          socket_failures = new.socket_failures;
+          incoming = new.incoming;
+        }) (sym aged);
+      }

@@ -1,0 +1,10 @@
+-- So many were told, in order.
+use Rattle.std.proofs.Common.{◌≡◌, ◌≤◌, List, length}
+use Rattle.lk_watch.specs.declared.waiter.Letter.{Letter}
+use Rattle.lk_server.proofs.Telling.{HasTold}
+use Rattle.lk_server.proofs.server.Server.tell_waiters.Given as goal
+
+abbrev pub invariant-letters : goal.invariant-letters
+invariant-letters g l =
+    (letters : List Letter) × (length letters ≡ l.counter) × (l.fn.self.queue.left ≤ 64)
+    × HasTold g.R.ServerReplica.table g.S.DatagramSocket.is_observable letters l.fn.self l.self

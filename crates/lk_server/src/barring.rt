@@ -1,0 +1,26 @@
+//! Reports clients' requests that the server dropped since only an admin may ask for them.
+
+ghost use Rattle.std.specs.Prelude.{◌≡◌};
+
+use crate::server::Server;
+use lk_server_replica::ServerReplica;
+use lk_transport::admins::client_in;
+use lk_transport::socket::DatagramSocket;
+use log::Log;
+
+impl<R: ServerReplica, S: DatagramSocket + Drop> Server<R, S> {
+    // Counts a datagram that was dropped if it is an administrative request of a client that is no admin, and records
+    // an event of it: once in 600 periods at most.
+    pub(crate) fn note_dropped<L: Log>(&mut self, datagram: &[u8], log: &L)
+        ensures { self.new ≡ self.old }
+    {
+        if !self.post.bars(datagram) {
+            return;
+        }
+        self.ignored.count_barred(log);
+        if self.is_minute_past(self.barred_noted) {
+            self.barred_noted = Some(self.now());
+            self.events.barred = Some(client_in(datagram));
+        }
+    }
+}
