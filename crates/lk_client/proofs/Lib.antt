@@ -1,4 +1,7 @@
 mod Keeping
+mod Lasting
 mod Receiving
 mod Replying
+mod Sending
+mod Spreading
 mod Trying
