@@ -1,7 +1,4 @@
 mod Keeping
-mod Lasting
 mod Receiving
 mod Replying
-mod Sending
-mod Spreading
 mod Trying

@@ -1,5 +1,3 @@
 pub mod Questions
 pub mod Replies
 pub mod Rules
-pub mod Waits
-pub mod Watches

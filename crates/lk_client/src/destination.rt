@@ -6,28 +6,13 @@ ghost use Rattle.lk_client.specs.Questions.{destination_place};
 use lk_auth::{AskerSeals, Keys};
 use lk_transport::hosts::Hosts;
 use lk_types::{Member, Port};
-use std::net::{IpAddr, Ipv4Addr, SocketAddr};
+use std::net::{IpAddr, Ipv4Addr};
 
 /// A port of an address, at which a node is asked.
-#[derive(Clone, Copy, PartialEq, Eq)]
+#[derive(Clone, Copy)]
 pub struct Place {
     pub address: IpAddr,
     pub port: Port,
-}
-
-impl Place {
-    /// Returns the place of a source of datagrams. `None` for port 0, from which none comes.
-    pub fn of(source: SocketAddr) -> Option<Place> {
-        Some(Place {
-            address: source.ip(),
-            port: Port::of(source.port())?,
-        })
-    }
-
-    /// Whether a datagram from that source comes from this place.
-    pub fn is_source(&self, source: SocketAddr) -> bool {
-        self.address == source.ip() && self.port.get() == source.port()
-    }
 }
 
 /// The address of the node that is asked first, the addresses of the others, and the keys.

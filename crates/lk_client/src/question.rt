@@ -38,8 +38,8 @@ pub struct Question {
 }
 
 impl Question {
-    /// Where it is sent first.
-    pub(crate) fn place(&self) -> Place
+    // Where it is sent first.
+    fn place(&self) -> Place
         ensures { result ≡ own_place self.now }
     {
         Place {
@@ -111,7 +111,7 @@ pub fn next_reply<S: DatagramSocket>(
 
 // Returns the bytes to send for the request: its datagram, in a frame if the client has a key. Fails only when out of
 // memory.
-pub(crate) fn bytes_to_send(alloc: Global, question: &Question) -> Result<Vec<u8>, ProgramFault>
+fn bytes_to_send(alloc: Global, question: &Question) -> Result<Vec<u8>, ProgramFault>
     ensures asks { IfOk result (λ bytes. IsAsked question.now bytes.items) }
     ensures only { IfErr result (λ f. f ≡ ProgramFault.NoMemory) }
 {
@@ -126,7 +126,7 @@ pub(crate) fn bytes_to_send(alloc: Global, question: &Question) -> Result<Vec<u8
 }
 
 // Sends bytes to a place. A failed send is ignored, as if the datagram were lost.
-pub(crate) fn send<S: DatagramSocket>(socket: &mut S, place: Place, bytes: &[u8])
+fn send<S: DatagramSocket>(socket: &mut S, place: Place, bytes: &[u8])
     ensures { S.is_observable → SendsOnce (place.address, place.port) bytes.now (S.sent socket.old)
         (S.failures socket.old) (S.sent socket.new) (S.failures socket.new) }
 {
@@ -136,7 +136,7 @@ pub(crate) fn send<S: DatagramSocket>(socket: &mut S, place: Place, bytes: &[u8]
 
 // Receives once, and returns an Answer or a Passed. For an Elsewhere it resends the bytes to the member named there, if
 // fewer than 20 were followed, and counts it in `followed`.
-pub(crate) fn receive_next<S: DatagramSocket>(
+fn receive_next<S: DatagramSocket>(
     buffer: &mut ReceiveBuffer,
     socket: &mut S,
     question: &Question,
