@@ -1,13 +1,8 @@
--- The fields of a report that a status prints, with their names, kinds and help, and the node that others follow.
-use Rattle.std.specs.Prelude.{ℕ, nat_lt, ◌==◌, not, ◌&&◌, Bool, true, false, is_some, Option, Some, None, List, []}
-use Rattle.std.specs.Prelude.{◌∷◌}
-use Rattle.std.specs.Prelude.{length, codes, if◌then◌else◌}
-use Rattle.std.specs.List.{list_any}
-use Rattle.lk_types.specs.declared.member.Member.{Member}
+-- The fields of a report that a status prints, with their names, kinds and help.
+use Rattle.std.specs.Prelude.{ℕ, Bool, true, false, Option, Some, None, List, [], ◌∷◌, length, codes, if◌then◌else◌}
 use Rattle.lk_probe.specs.Grammar.{flag, heard_of, or_zero}
 use Rattle.lk_probe.specs.declared.probe.Report.{Report}
 use Rattle.lk_probe.specs.declared.reach.Reach.{Reach}
-use Rattle.lk_status.specs.Verdicts.{seeks_votes}
 use Rattle.lk_status_command.specs.declared.field.Field.{Field}
 use Rattle.lk_status_command.specs.declared.field.Field.TheVariants.{Leads, Leader, Silence, Promised, Executed}
 use Rattle.lk_status_command.specs.declared.field.Field.TheVariants.{Snapshot}
@@ -125,16 +120,3 @@ all_fields =
     Leads ∷ Leader ∷ Silence ∷ Promised ∷ Executed ∷ Snapshot ∷ Members ∷ Pending
     ∷ Waiting ∷ Unread ∷ Unsent ∷ Ticks ∷ Format ∷ Table ∷ Heard ∷ ReadsBundles ∷ SendsBundles
     ∷ Watches ∷ Names ∷ []
-
--- the node is one of these members
-abbrev pub is_member : ℕ → List Member → Bool
-is_member node members = list_any (λ m. m.node == node) members
-
--- it follows a leader, of which it has heard in the last 28 ticks
-abbrev pub follows : Report → Bool
-follows r = is_some r.status.leadership.leader && nat_lt r.status.leadership.silence 28 && not (seeks_votes r)
-
--- the leader that the first of these reports follows
-abbrev pub followed : List Report → Option ℕ
-followed [] = None
-followed (r ∷ rs) = if follows r then r.status.leadership.leader else followed rs

@@ -18,8 +18,9 @@ use Rattle.lk_status.specs.Targets.{target_address}
 use Rattle.lk_status.specs.Verdicts.{seeks_votes, count_reporting, one_genesis}
 use Rattle.lk_status.specs.declared.target.Inquiry.{Inquiry}
 use Rattle.lk_status.specs.declared.target.Target.{Target}
-use Rattle.lk_status_command.specs.Fields.{is_member, names_in, watches_in}
+use Rattle.lk_status_command.specs.Fields.{names_in, watches_in}
 use Rattle.lk_status_command.specs.Tokens.{by_token}
+use Rattle.lk_status_reasons.specs.Reasons.{is_member}
 
 -- ---- counts
 

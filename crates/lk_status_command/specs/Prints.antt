@@ -7,7 +7,7 @@ use Rattle.lk_status.specs.declared.target.Inquiry.{Inquiry}
 use Rattle.lk_status_command.specs.Json.{json_text}
 use Rattle.lk_status_command.specs.Lines.{status_text}
 use Rattle.lk_status_command.specs.Metrics.{metrics_text}
-use Rattle.lk_status_command.specs.Reasons.{why_text}
+use Rattle.lk_status_reasons.specs.Reasons.{why_text}
 use Rattle.lk_status_command.specs.declared.status.Form.{Form}
 use Rattle.lk_status_command.specs.declared.status.Form.TheVariants as form
 

@@ -47,7 +47,7 @@ fn write_more_numbers<W: Write>(members: &[Member], out: &mut W) -> io::Result<(
 }
 
 // Writes the node numbers of these members, with commas between them.
-#[tactic(auto, using(crate::proofs::Writing::appends_more, crate::proofs::Writing::appends_nothing))]
+#[tactic(auto, using(lk_types::proofs::Appending::appends_more, lk_types::proofs::Appending::appends_nothing))]
 fn write_numbers<W: Write>(members: &[Member], out: &mut W) -> io::Result<()>
     ensures { OnOk result (Appends (W.contents out.old) (W.contents out.new) (numbers members.now)) }
 {
@@ -60,7 +60,7 @@ fn write_numbers<W: Write>(members: &[Member], out: &mut W) -> io::Result<()>
 }
 
 // Writes the members in an array.
-#[tactic(auto, using(crate::proofs::Writing::appends_more))]
+#[tactic(auto, using(lk_types::proofs::Appending::appends_more))]
 fn write_members<W: Write>(members: &[Member], out: &mut W) -> io::Result<()>
     ensures { OnOk result (Appends (W.contents out.old) (W.contents out.new) (members_part members.now)) }
 {
@@ -147,7 +147,7 @@ fn write_target<W: Write>(port: u16, report: Option<&Report>, out: &mut W) -> io
 }
 
 // Writes a comma, then the object of the target.
-#[tactic(auto, using(crate::proofs::Writing::appends_more))]
+#[tactic(auto, using(lk_types::proofs::Appending::appends_more))]
 fn write_next<W: Write>(port: u16, report: Option<&Report>, out: &mut W) -> io::Result<()>
     ensures { OnOk result (Appends (W.contents out.old) (W.contents out.new)
         (44 ∷ target_object port (option_copied report.entry))) }

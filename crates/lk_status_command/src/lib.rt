@@ -4,8 +4,6 @@
 mod field;
 mod json;
 mod lines;
-mod node_reason;
 mod prometheus;
 pub mod status;
-mod why;
 pub mod withheld;

@@ -15,11 +15,11 @@ ghost use Rattle.lk_status_command.specs.Lines.{status_text};
 ghost use Rattle.lk_status.specs.Targets.{target_address};
 
 use crate::field::{names_kept, watches_kept};
-use crate::node_reason::is_among;
 use lk_probe::Report;
 use lk_status::measure::executed_of;
 use lk_status::target::{Inquiry, Target, report_with};
 use lk_status::verdict::{count_reporting, has_one_genesis, seeks_votes};
+use lk_status_reasons::node_reason::is_among;
 use lk_types::limits::MAX_NAMES;
 use lk_types::{Ballot, Member, NodeNo};
 use std::io;

@@ -29,7 +29,7 @@ fn write_head<W: Write>(name: &str, kind: &str, help: &str, out: &mut W) -> io::
 }
 
 // Writes a gauge of the whole cluster: its HELP and TYPE lines, and its one sample.
-#[tactic(auto, using(crate::proofs::Writing::appends_more))]
+#[tactic(auto, using(lk_types::proofs::Appending::appends_more))]
 fn write_gauge<W: Write>(
     cluster: u64,
     name: &str,
@@ -110,7 +110,7 @@ fn write_members_up<W: Write>(
 }
 
 // Writes the gauges of the cluster: whether it is served and has one genesis, and how many members are up.
-#[tactic(auto, using(crate::proofs::Writing::appends_more))]
+#[tactic(auto, using(lk_types::proofs::Appending::appends_more))]
 fn write_verdict<W: Write>(
     cluster: u64,
     measure: Option<&Report>,
@@ -147,7 +147,7 @@ fn write_place<W: Write>(inquiry: &Inquiry, target: &Target, out: &mut W) -> io:
 }
 
 // Writes the sample of a metric for a target, with the label of its node, if the number is known.
-#[tactic(auto, using(crate::proofs::Writing::appends_more))]
+#[tactic(auto, using(lk_types::proofs::Appending::appends_more))]
 fn write_sample<W: Write>(
     name: &str,
     inquiry: &Inquiry,
@@ -200,7 +200,7 @@ fn write_up_lines<W: Write>(
 }
 
 // Writes the metric `locks_up`: whether each target has reported.
-#[tactic(auto, using(crate::proofs::Writing::appends_more))]
+#[tactic(auto, using(lk_types::proofs::Appending::appends_more))]
 fn write_up<W: Write>(
     inquiry: &Inquiry,
     first: u64,
@@ -274,7 +274,7 @@ fn write_samples<W: Write>(
 }
 
 // Writes the metric of a field: its HELP and TYPE lines, and a sample for each target that has reported it.
-#[tactic(auto, using(crate::proofs::Writing::appends_more))]
+#[tactic(auto, using(lk_types::proofs::Appending::appends_more))]
 fn write_field<W: Write>(
     field: Field,
     inquiry: &Inquiry,

@@ -11,13 +11,13 @@ ghost use Rattle.lk_status_command.specs.Outcomes.{IsReady, Shows, IsShownServed
 use crate::json::write_json;
 use crate::lines::write_lines;
 use crate::prometheus::write_metrics;
-use crate::why::write_why;
 use lk_probe::Report;
 use lk_program_fault::ProgramFault;
 use lk_status::asking::{TOKENS, pause, probe_all};
 use lk_status::measure::reference_report;
 use lk_status::target::Inquiry;
 use lk_status::verdict::{is_ready, is_served};
+use lk_status_reasons::why::write_why;
 use lk_transport::socket::DatagramSocket;
 use std::alloc::Global;
 use std::io;
@@ -53,7 +53,7 @@ struct Round {
 }
 
 // Writes the lines of a round, and why requests may not be answered.
-#[tactic(auto, using(crate::proofs::Writing::appends_more))]
+#[tactic(auto, using(lk_types::proofs::Appending::appends_more))]
 fn write_text<W: Write>(
     inquiry: &Inquiry,
     first: u64,

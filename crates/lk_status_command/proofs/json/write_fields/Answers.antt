@@ -4,7 +4,8 @@ use Rattle.std.specs.Io.KnownBytes.{Appends}
 use Rattle.std.specs.Prelude.{flat_map}
 use Rattle.lk_status_command.specs.Json.{field_part}
 use Rattle.lk_status_command.specs.declared.field.Field.{Field}
-use Rattle.lk_status_command.proofs.Writing.{appends_nothing, writes_more}
+use Rattle.lk_types.proofs.Appending.{appends_nothing}
+use Rattle.lk_status_reasons.proofs.Writing.{writes_more}
 use Rattle.lk_status_command.proofs.json.write_fields.Goals as goal
 
 pub all-init : goal.all-init

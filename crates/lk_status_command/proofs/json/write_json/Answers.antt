@@ -2,7 +2,7 @@ use Rattle.std.proofs.Common.{List, subst}
 use Rattle.std.specs.Io.KnownBytes.{Appends}
 use Rattle.lk_status.specs.declared.target.Target.{Target}
 use Rattle.lk_status_command.specs.Json.{objects}
-use Rattle.lk_status_command.proofs.Writing.{appends_more}
+use Rattle.lk_types.proofs.Appending.{appends_more}
 use Rattle.lk_status_command.proofs.json.write_json.Goals as goal
 
 pub returns : goal.returns

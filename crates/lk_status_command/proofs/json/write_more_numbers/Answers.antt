@@ -1,4 +1,4 @@
-use Rattle.lk_status_command.proofs.Writing.{appends_nothing}
+use Rattle.lk_types.proofs.Appending.{appends_nothing}
 use Rattle.lk_status_command.proofs.json.write_more_numbers.Goals as goal
 
 pub members-init : goal.members-init

@@ -2,7 +2,8 @@ use Rattle.std.proofs.Common.{rules, ◌∷◌, [], ℕ, refl}
 use Rattle.std.specs.Io.KnownBytes.{Appends}
 use Rattle.lk_status.specs.declared.target.Target.{Target}
 use Rattle.lk_status_command.specs.Json.{object_of}
-use Rattle.lk_status_command.proofs.Writing.{appends_nothing, next_target, targets_more, targets_done}
+use Rattle.lk_types.proofs.Appending.{appends_nothing}
+use Rattle.lk_status_command.proofs.Writing.{next_target, targets_more, targets_done}
 use Rattle.lk_status_command.proofs.json.write_more_targets.Goals as goal
 
 pub targets-init : goal.targets-init

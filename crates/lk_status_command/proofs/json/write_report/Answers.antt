@@ -2,7 +2,7 @@ use Rattle.std.proofs.Common.{List, subst}
 use Rattle.std.specs.Io.KnownBytes.{Appends}
 use Rattle.lk_types.specs.declared.member.Member.{Member}
 use Rattle.lk_status_command.specs.Json.{fields_part, members_part}
-use Rattle.lk_status_command.proofs.Writing.{appends_more}
+use Rattle.lk_types.proofs.Appending.{appends_more}
 use Rattle.lk_status_command.proofs.json.write_report.Goals as goal
 
 pub returns : goal.returns

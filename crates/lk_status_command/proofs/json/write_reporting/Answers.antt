@@ -1,7 +1,7 @@
 use Rattle.std.proofs.Common.{rules}
 use Rattle.std.specs.Io.KnownBytes.{Appends}
 use Rattle.lk_status_command.specs.Json.{up_part}
-use Rattle.lk_status_command.proofs.Writing.{appends_more}
+use Rattle.lk_types.proofs.Appending.{appends_more}
 use Rattle.lk_status_command.proofs.json.write_reporting.Goals as goal
 
 pub returns : goal.returns

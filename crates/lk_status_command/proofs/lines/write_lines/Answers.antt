@@ -1,7 +1,7 @@
 use Rattle.std.proofs.Common.{ℕ, subst}
 use Rattle.std.specs.Io.KnownBytes.{Appends}
 use Rattle.lk_status_command.specs.Lines.{target_lines}
-use Rattle.lk_status_command.proofs.Writing.{appends_more}
+use Rattle.lk_types.proofs.Appending.{appends_more}
 use Rattle.lk_status_command.proofs.lines.write_lines.Goals as goal
 
 pub returns : goal.returns

@@ -1,7 +1,7 @@
 use Rattle.std.proofs.Common.{ℕ, subst}
 use Rattle.std.specs.Io.KnownBytes.{Appends}
 use Rattle.lk_status_command.specs.Lines.{behind_text}
-use Rattle.lk_status_command.proofs.Writing.{appends_more}
+use Rattle.lk_types.proofs.Appending.{appends_more}
 use Rattle.lk_status_command.proofs.lines.write_progress.Goals as goal
 
 pub returns : goal.returns

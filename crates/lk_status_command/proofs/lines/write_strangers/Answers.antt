@@ -4,7 +4,8 @@ use Rattle.std.specs.Prelude.{codes}
 use Rattle.lk_probe.specs.declared.probe.Report.{Report}
 use Rattle.lk_status.specs.Verdicts.{one_genesis}
 use Rattle.lk_status_command.specs.Lines.{stranger_word}
-use Rattle.lk_status_command.proofs.Writing.{writes_more, strangers_as}
+use Rattle.lk_status_reasons.proofs.Writing.{writes_more}
+use Rattle.lk_status_command.proofs.Writing.{strangers_as}
 use Rattle.lk_status_command.proofs.lines.write_strangers.Goals as goal
 
 pub all-preserved : goal.all-preserved

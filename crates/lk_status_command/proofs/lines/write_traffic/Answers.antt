@@ -1,5 +1,6 @@
 use Rattle.std.proofs.Common.{rules}
-use Rattle.lk_status_command.proofs.Writing.{appends_more, traffic_as}
+use Rattle.lk_types.proofs.Appending.{appends_more}
+use Rattle.lk_status_command.proofs.Writing.{traffic_as}
 use Rattle.lk_status_command.proofs.lines.write_traffic.Goals as goal
 
 pub returns : goal.returns

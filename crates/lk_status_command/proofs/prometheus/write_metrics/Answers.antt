@@ -1,6 +1,6 @@
 use Rattle.std.specs.Io.KnownBytes.{Appends}
 use Rattle.lk_status_command.specs.Metrics.{fields_text}
-use Rattle.lk_status_command.proofs.Writing.{appends_more}
+use Rattle.lk_types.proofs.Appending.{appends_more}
 use Rattle.lk_status_command.proofs.prometheus.write_metrics.Goals as goal
 
 pub returns : goal.returns

@@ -5,7 +5,8 @@ use Rattle.lk_status.specs.Rounds.{report_of}
 use Rattle.lk_status.specs.declared.target.Target.{Target}
 use Rattle.lk_status_command.specs.Metrics.{sample_line}
 use Rattle.lk_status_command.specs.Tokens.{by_token}
-use Rattle.lk_status_command.proofs.Writing.{appends_nothing, next_target, targets_more, targets_done}
+use Rattle.lk_types.proofs.Appending.{appends_nothing}
+use Rattle.lk_status_command.proofs.Writing.{next_target, targets_more, targets_done}
 use Rattle.lk_status_command.proofs.prometheus.write_samples.Goals as goal
 
 pub targets-init : goal.targets-init

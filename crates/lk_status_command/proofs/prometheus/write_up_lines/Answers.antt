@@ -4,7 +4,8 @@ use Rattle.lk_status.specs.Rounds.{has_token}
 use Rattle.lk_status.specs.declared.target.Target.{Target}
 use Rattle.lk_status_command.specs.Metrics.{up_line}
 use Rattle.lk_status_command.specs.Tokens.{by_token}
-use Rattle.lk_status_command.proofs.Writing.{appends_nothing, next_target, targets_more, targets_done}
+use Rattle.lk_types.proofs.Appending.{appends_nothing}
+use Rattle.lk_status_command.proofs.Writing.{next_target, targets_more, targets_done}
 use Rattle.lk_status_command.proofs.prometheus.write_up_lines.Goals as goal
 
 pub targets-init : goal.targets-init

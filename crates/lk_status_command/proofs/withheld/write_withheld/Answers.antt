@@ -4,7 +4,7 @@ use Rattle.std.specs.Option.{option_copied}
 use Rattle.lk_probe.specs.declared.probe.Report.{Report}
 use Rattle.lk_status.specs.Measures.{IsFurthestNamedOf}
 use Rattle.lk_status_command.specs.Withheld.{known_lines}
-use Rattle.lk_status_command.proofs.Writing.{appends_more}
+use Rattle.lk_types.proofs.Appending.{appends_more}
 use Rattle.lk_status_command.proofs.withheld.write_withheld.Goals as goal
 
 pub returns : goal.returns

@@ -1,8 +1,8 @@
 use Rattle.std.proofs.Common.{take}
 use Rattle.std.specs.Io.KnownBytes.{Appends}
 use Rattle.std.specs.Prelude.{flat_map}
-use Rattle.lk_status_command.specs.Reasons.{unread_reason}
-use Rattle.lk_status_command.proofs.why.write_all_unread.Given as goal
+use Rattle.lk_status_reasons.specs.Reasons.{unread_reason}
+use Rattle.lk_status_reasons.proofs.why.write_all_unread.Given as goal
 
 -- those so far were written
 abbrev pub invariant-all : goal.invariant-all

@@ -1,6 +1,6 @@
 -- The line has the number of the node.
 use Rattle.std.proofs.Common.{sym}
-use Rattle.lk_status_command.proofs.why.write_unfollowed_line.Goals as goal
+use Rattle.lk_status_reasons.proofs.why.write_unfollowed_line.Goals as goal
 
 pub returns : goal.returns
 returns g c = rw (sym c.get-node.ensures.value) c.writeln.ensures.bytes

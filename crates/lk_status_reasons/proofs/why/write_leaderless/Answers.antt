@@ -1,9 +1,9 @@
 -- First the line, and then what to do.
 use Rattle.std.proofs.Common.{ℕ, Option, subst}
 use Rattle.std.specs.Io.KnownBytes.{Appends}
-use Rattle.lk_status_command.specs.Reasons.{remedy_text, silent_in}
-use Rattle.lk_status_command.proofs.Writing.{appends_more}
-use Rattle.lk_status_command.proofs.why.write_leaderless.Goals as goal
+use Rattle.lk_status_reasons.specs.Reasons.{remedy_text, silent_in}
+use Rattle.lk_types.proofs.Appending.{appends_more}
+use Rattle.lk_status_reasons.proofs.why.write_leaderless.Goals as goal
 
 pub returns : goal.returns
 returns g c =

@@ -1,11 +1,10 @@
 // The lines `why: ..` of a single node: that it is no member, hears no majority, seeks votes or hears nobody.
 ghost use Rattle.std.specs.Io.KnownBytes.{Appends};
 ghost use Rattle.std.specs.Prelude.{◌≡◌, OnOk};
-ghost use Rattle.lk_status_command.specs.Fields.{is_member};
-ghost use Rattle.lk_status_command.specs.Reasons.{deaf_line, seeking_line, hears, fragments_line, seeking_reason};
-ghost use Rattle.lk_status_command.specs.Reasons.{other_key_line, cut_off_line, unheard_reason, hearing_reason};
-ghost use Rattle.lk_status_command.specs.Reasons.{candidate_reason, deaf_leader_line, follower_reason, outside_line};
-ghost use Rattle.lk_status_command.specs.Reasons.{node_reason};
+ghost use Rattle.lk_status_reasons.specs.Reasons.{is_member, deaf_line, seeking_line, hears, fragments_line};
+ghost use Rattle.lk_status_reasons.specs.Reasons.{seeking_reason, other_key_line, cut_off_line, unheard_reason};
+ghost use Rattle.lk_status_reasons.specs.Reasons.{hearing_reason, candidate_reason, deaf_leader_line, follower_reason};
+ghost use Rattle.lk_status_reasons.specs.Reasons.{outside_line, node_reason};
 
 use lk_probe::Report;
 use lk_status::verdict::{hears_enough, seeks_votes};

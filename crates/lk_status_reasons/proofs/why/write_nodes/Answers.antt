@@ -2,9 +2,10 @@ use Rattle.std.proofs.Common.{◌∙◌, ◌∷◌, ◌++◌, [], List, sym, ap,
 use Rattle.std.proofs.lemmas.List.{take_more, take_all}
 use Rattle.std.specs.Io.KnownBytes.{Appends}
 use Rattle.lk_probe.specs.declared.probe.Report.{Report}
-use Rattle.lk_status_command.specs.Reasons.{node_reason, node_reasons}
-use Rattle.lk_status_command.proofs.Writing.{appends_nothing, writes_more}
-use Rattle.lk_status_command.proofs.why.write_nodes.Goals as goal
+use Rattle.lk_status_reasons.specs.Reasons.{node_reason, node_reasons}
+use Rattle.lk_types.proofs.Appending.{appends_nothing}
+use Rattle.lk_status_reasons.proofs.Writing.{writes_more}
+use Rattle.lk_status_reasons.proofs.why.write_nodes.Goals as goal
 
 pub all-init : goal.all-init
 all-init g c = appends_nothing _

@@ -3,12 +3,11 @@ ghost use Rattle.std.specs.Io.KnownBytes.{Appends};
 ghost use Rattle.std.specs.List.{list_all};
 ghost use Rattle.std.specs.Option.{option_copied};
 ghost use Rattle.std.specs.Prelude.{◌≡◌, OnOk, flat_map, is_some};
-ghost use Rattle.lk_status_command.specs.Fields.{follows, followed};
-ghost use Rattle.lk_status_command.specs.Reasons.{hears, node_reasons, nobody_line, majority_line, mute_text};
-ghost use Rattle.lk_status_command.specs.Reasons.{silent_text, unless_reported, silent_in, cause_text, remedy_text};
-ghost use Rattle.lk_status_command.specs.Reasons.{leaderless_line, unfollowed_line, unfollowed_reason};
-ghost use Rattle.lk_status_command.specs.Reasons.{geneses_reason, leader_reason, leaders_reason, members_reason};
-ghost use Rattle.lk_status_command.specs.Reasons.{reads, sends, some_send, unread_reason, bundles_reason, why_text};
+ghost use Rattle.lk_status_reasons.specs.Reasons.{follows, followed, hears, node_reasons, nobody_line, majority_line};
+ghost use Rattle.lk_status_reasons.specs.Reasons.{mute_text, silent_text, unless_reported, silent_in, cause_text};
+ghost use Rattle.lk_status_reasons.specs.Reasons.{remedy_text, leaderless_line, unfollowed_line, unfollowed_reason};
+ghost use Rattle.lk_status_reasons.specs.Reasons.{geneses_reason, leader_reason, leaders_reason, members_reason, reads};
+ghost use Rattle.lk_status_reasons.specs.Reasons.{sends, some_send, unread_reason, bundles_reason, why_text};
 
 use crate::node_reason::{SILENT, hears, write_node};
 use lk_probe::Report;
@@ -156,7 +155,7 @@ fn write_remedy<W: Write>(silent: Option<NodeNo>, reports: &[Report], out: &mut 
 }
 
 // Writes that nobody leads, and what to do if it lasts.
-#[tactic(auto, using(crate::proofs::Writing::appends_more))]
+#[tactic(auto, using(lk_types::proofs::Appending::appends_more))]
 fn write_leaderless<W: Write>(reports: &[Report], out: &mut W) -> io::Result<()>
     ensures { OnOk result (Appends (W.contents out.old) (W.contents out.new) (leaderless_line reports.now)) }
 {
@@ -236,7 +235,7 @@ fn write_leaders<W: Write>(
 }
 
 // Writes what the reports show about majority and leader, then about single nodes, by the members of the measure.
-#[tactic(auto, using(crate::proofs::Writing::appends_more))]
+#[tactic(auto, using(lk_types::proofs::Appending::appends_more))]
 fn write_reasons<W: Write>(measure: &Report, reports: &[Report], out: &mut W) -> io::Result<()>
     ensures { OnOk result (Appends (W.contents out.old) (W.contents out.new) (members_reason measure.now reports.now)) }
 {
@@ -315,7 +314,7 @@ fn write_bundles<W: Write>(reports: &[Report], out: &mut W) -> io::Result<()>
 }
 
 /// Writes in words why requests may not be answered, if the reports show it.
-#[tactic(auto, using(crate::proofs::Writing::appends_more))]
+#[tactic(auto, using(lk_types::proofs::Appending::appends_more))]
 pub fn write_why<W: Write>(
     measure: Option<&Report>,
     reports: &[Report],

@@ -1,6 +1,6 @@
 use Rattle.std.proofs.Common.{◌≡◌, drop}
-use Rattle.lk_status_command.specs.Reasons.{some_send}
-use Rattle.lk_status_command.proofs.why.some_send.Given as goal
+use Rattle.lk_status_reasons.specs.Reasons.{some_send}
+use Rattle.lk_status_reasons.proofs.why.some_send.Given as goal
 
 -- one of those that are left sends exactly where one of all does
 abbrev pub invariant-loop-report : goal.invariant-loop-report

@@ -1,14 +1,28 @@
 -- Why requests may not be answered, in words.
-use Rattle.std.specs.Prelude.{ℕ, Bool, false, nat_le, not, ◌&&◌, ◌||◌, Option, Some, None, List, [], ◌∷◌, ◌++◌, codes}
-use Rattle.std.specs.Prelude.{flat_map, is_some, ◌==◌, if◌then◌else◌}
-use Rattle.std.specs.List.{list_all}
+use Rattle.std.specs.Prelude.{ℕ, Bool, false, nat_le, nat_lt, not, ◌&&◌, ◌||◌, ◌==◌, if◌then◌else◌, Option, Some, None}
+use Rattle.std.specs.Prelude.{List, [], ◌∷◌, ◌++◌, codes, flat_map, is_some}
+use Rattle.std.specs.List.{list_all, list_any}
 use Rattle.std.specs.Fmt.{decimal}
 use Rattle.lk_types.specs.declared.member.Member.{Member}
 use Rattle.lk_probe.specs.Grammar.{heard_of}
 use Rattle.lk_probe.specs.declared.probe.Report.{Report}
 use Rattle.lk_probe.specs.declared.reach.Reach.{Reach}
 use Rattle.lk_status.specs.Verdicts.{seeks_votes, one_genesis, has_followers, has_majority, has_reported, hears_enough}
-use Rattle.lk_status_command.specs.Fields.{is_member, followed}
+
+-- ---- whom a node follows
+
+-- the node is one of these members
+abbrev pub is_member : ℕ → List Member → Bool
+is_member node members = list_any (λ m. m.node == node) members
+
+-- it follows a leader, of which it has heard in the last 28 ticks
+abbrev pub follows : Report → Bool
+follows r = is_some r.status.leadership.leader && nat_lt r.status.leadership.silence 28 && not (seeks_votes r)
+
+-- the leader that the first of these reports follows
+abbrev pub followed : List Report → Option ℕ
+followed [] = None
+followed (r ∷ rs) = if follows r then r.status.leadership.leader else followed rs
 
 -- ---- a leader that does not answer
 

@@ -1,6 +1,6 @@
 use Rattle.std.proofs.Common.{◌≡◌, drop}
-use Rattle.lk_status_command.specs.Fields.{followed}
-use Rattle.lk_status_command.proofs.why.followed_in.Given as goal
+use Rattle.lk_status_reasons.specs.Reasons.{followed}
+use Rattle.lk_status_reasons.proofs.why.followed_in.Given as goal
 
 -- the first of those that are left is the first of all
 abbrev pub invariant-loop-report : goal.invariant-loop-report

@@ -1,7 +1,7 @@
 use Rattle.std.proofs.Common.{take}
 use Rattle.std.specs.Io.KnownBytes.{Appends}
-use Rattle.lk_status_command.specs.Reasons.{node_reasons}
-use Rattle.lk_status_command.proofs.why.write_nodes.Given as goal
+use Rattle.lk_status_reasons.specs.Reasons.{node_reasons}
+use Rattle.lk_status_reasons.proofs.why.write_nodes.Given as goal
 
 -- those so far were written
 abbrev pub invariant-all : goal.invariant-all

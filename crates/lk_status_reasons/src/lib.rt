@@ -1,0 +1,5 @@
+//! Why requests may not be answered: the lines `why: ..` of `locks status`.
+#![tactic(auto)]
+
+pub mod node_reason;
+pub mod why;
