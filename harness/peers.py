@@ -6,12 +6,13 @@ from harness.by_bytes import bytes_of
 
 # A probe of cluster 5 by nobody's key, but for its form, its token and the zeros behind.
 PROBE = "4c50{:02x}09 0000000000000005 00000000 0000 {:016x}"
-LENGTH, LONG = 174, 182
+LENGTH, LONG = 174, 206
 
-# The last bytes of a report of form 2: how many members are heard, plus 1, whether bundles are read and sent, and how
-# many watches and names the node keeps.
+# What a report of form 2 has more: how many members are heard, plus 1, whether bundles are read and sent, how many
+# watches and names the node keeps, and a position with the digest of its state there, zeros for none.
 UNKNOWN = "0000 01 00 0000 0000"
 SENDS = "0000 01 01 0000 0000"
+NO_STATE = "00" * 24
 
 GENESIS = "11" * 32
 OTHER_GENESIS = "22" * 32
@@ -39,6 +40,7 @@ def report(
     client=0,
     cluster=5,
     reach=None,
+    state=NO_STATE,
 ):
     """A report, field by field: the numbers are as in docs/WIRE.md. With a reach it has form 2."""
     form = 1 if reach is None else 2
@@ -46,12 +48,18 @@ def report(
     leadership = f"{leads:02x} {leader:08x} {silence:016x} {promised:016x} {1:08x}"
     progress = f"{executed:016x} {4:016x} {pending:02x}"
     traffic = f"{waiting:04x} {unread:016x} {unsent:016x} {100:016x}"
-    return bytes_of(head, leadership, progress, traffic, members).ljust(LENGTH, b"\0") + bytes_of(reach or "")
+    tail = "" if reach is None else reach + state
+    return bytes_of(head, leadership, progress, traffic, members).ljust(LENGTH, b"\0") + bytes_of(tail)
 
 
 def heard(count, watches=0, names=0):
     """The reach of a node that hears so many members, reads bundles, and keeps so many watches and names."""
     return f"{count + 1:04x} 01 00 {watches:04x} {names:04x}"
+
+
+def state(position, digit):
+    """The digest of a state at that position, of which each hex digit is this one."""
+    return f"{position:016x} {digit * 32}"
 
 
 def probe(form, token=0):

@@ -12,7 +12,7 @@ from harness.cluster import Cluster, free_ports
 
 PROGRAM = os.environ.get("LOCKS_PROGRAM")
 
-LENGTH, LONG = 174, 182
+LENGTH, LONG = 174, 206
 REPORT = struct.Struct(">4sQIHQ32s3sBBBIQQIQQB")
 CLUSTER = 5
 
@@ -72,7 +72,8 @@ class ProbesTest(unittest.TestCase):
     def test_a_report_of_form_2_tells_what_its_node_reads(self):
         for node in self.cluster.ports:
             answer = self.awaited(node, probe(token=node, form=2))
-            self.assertEqual((len(answer), answer[:4], answer[174:].hex()), (LONG, b"LP\x02\x0a", "0000010000000000"))
+            self.assertEqual((len(answer), answer[:4]), (LONG, b"LP\x02\x0a"))
+            self.assertEqual(answer[174:].hex(), "0000010000000000" + "00" * 24)
             short = self.awaited(node, probe(token=node))
             self.assertEqual((short[:4], short[4:58]), (b"LP\x01\x0a", answer[4:58]))
 
@@ -108,6 +109,8 @@ class ProbesTest(unittest.TestCase):
             b"LP\x01\x0a" + probe()[4:],
             probe(form=2)[:LENGTH],
             probe() + bytes(4),
+            probe() + bytes(8),
+            probe(form=2)[:182],
             probe(form=2)[:-1] + b"\1",
             probe(form=2) + b"\0",
             probe(form=3),
@@ -147,8 +150,8 @@ class ReportTest(unittest.TestCase):
         report = it.recv(9000)
         self.assertEqual((len(report), report[:26].hex()), (LONG, bytes_of(FRONT.replace("4c5001", "4c5002")).hex()))
         self.assertEqual(report[131:174].hex(), node.bytes_of(NEXT).hex().ljust(2 * (LENGTH - 131), "0"))
-        # It hears itself alone, reads bundles and sends them, and keeps no watch and no name.
-        self.assertEqual(report[174:].hex(), "0002010100000000")
+        # It hears itself alone, reads bundles and sends them, keeps no watch and no name, and has no digest yet.
+        self.assertEqual(report[174:].hex(), "0002010100000000" + "00" * 24)
 
 
 if __name__ == "__main__":

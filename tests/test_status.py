@@ -10,7 +10,7 @@ import time
 import unittest
 
 from harness.peers import GENESIS, LONG, OTHER_GENESIS, RAISED, SENDS, Peers, heard, node, older, probe, report, silent
-from harness.peers import token_of
+from harness.peers import state, token_of
 
 PROGRAM = os.environ.get("LOCKS_PROGRAM")
 
@@ -75,6 +75,41 @@ class StatusTest(unittest.TestCase):
         self.tells([node(1, leads=1, reach=SENDS), node(2, reach="0000 00 00 0000 0000"), node(3)], 0, why)
         lines = self.tells([node(1, leads=1), older(2), node(3)], 0)
         self.assertNotIn("why:", "\n".join(lines))
+
+    def test_who_has_executed_other_commands_is_named(self):
+        odd = node(1, leader=2, state=state(64, "a"))
+        others = [node(2, leads=1, state=state(64, "b")), node(3, leader=2, state=state(64, "b"))]
+        why = "why: node 1 has executed other commands than nodes 2 3: stop it"
+        lines = self.tells([odd, *others], 1, why)
+        self.assertEqual("\n".join(lines).count("why:"), 1, lines)
+        self.tells([odd, odd, *others], 1, why)
+        status, [told] = self.asks([odd, *others], "--json")
+        told = json.loads(re.sub(r'"port":([a-z])', r'"port":"\1"', told))
+        self.assertEqual((status, told["served"], told["one_state"]), (1, False, False))
+        self.assertEqual([it["state_differs"] for it in told["nodes"]], [True, False, False])
+        self.assertEqual([it["state_position"] for it in told["nodes"]], [64, 64, 64])
+        status, lines = self.asks([odd, *others], "--prometheus")
+        self.assertEqual(status, 1)
+        self.assertIn('locks_one_state{cluster="5"} 0', lines)
+        for number, port, differs in ((1, "a", 1), (2, "b", 0), (3, "c", 0)):
+            labels = f'cluster="5",node="{number}",address="127.0.0.1",port="{port}"'
+            self.assertIn(f"locks_state_differs{{{labels}}} {differs}", lines)
+        self.assertEqual(self.asks([odd, *others], "--until", "ready", "1")[0], 1)
+
+    def test_of_as_many_nodes_each_is_named(self):
+        answers = [node(1, leads=1, state=state(64, "a")), node(2, state=state(64, "b"))]
+        answers.append(node(3, state=state(128, "c")))
+        tail = ", as many nodes: decide which state is right, and stop the others"
+        first, second = (f"why: node {it} has executed other commands than {o}{tail}" for it, o in ((1, 2), (2, 1)))
+        lines = self.tells(answers, 1, first, second)
+        self.assertEqual("\n".join(lines).count("why:"), 2, lines)
+
+    def test_states_of_several_positions_are_not_compared(self):
+        answers = [node(1, leads=1, state=state(64, "a")), node(2, state=state(128, "b")), node(3)]
+        lines = self.tells(answers, 0)
+        self.assertNotIn("why:", "\n".join(lines))
+        self.tells([node(1, leads=1, state=state(64, "a")), node(2, state=state(64, "a")), older(3)], 0)
+        self.tells([node(1, leads=1, state=state(0, "a")), node(2, state=state(0, "b")), node(3)], 0)
 
     def test_three_nodes_are_a_line_each(self):
         lines = self.tells([node(1, leads=1, silence=0, executed=12), node(2), node(3, executed=12)], 0)
@@ -229,7 +264,7 @@ class StatusTest(unittest.TestCase):
                     good[place] = byte
                     return [bytes(good)]
                 self.assertEqual(self.asks([spoiled], "--wait", "100")[1][0], "port a: no answer from 127.0.0.1")
-        for place, byte in ((2, 1), (3, 9), (173, 1), (174, 2), (176, 2), (177, 2)):
+        for place, byte in ((2, 1), (3, 9), (173, 1), (174, 2), (176, 2), (177, 2), (182, 2)):
             with self.subTest(place=place, form=2):
                 def spoiled(probe):
                     good = bytearray(report(1, token_of(probe), leads=1, reach="0100 01 01 ffff ffff"))
@@ -261,14 +296,15 @@ class StatusTest(unittest.TestCase):
         told = json.loads(re.sub(r'"port":([a-z])', r'"port":"\1"', lines[0]))
         self.assertEqual(
             {key: told[key] for key in told if key != "nodes"},
-            {"cluster": 5, "served": True, "one_genesis": True, "members_up": 2, "members": 3},
+            {"cluster": 5, "served": True, "one_genesis": True, "one_state": True, "members_up": 2, "members": 3},
         )
         first, second, third = told["nodes"]
         self.assertEqual(second, {"port": "b", "up": False})
         self.assertEqual((first["leads"], third["leads"], third["leader"]), (1, 0, 1))
         self.assertEqual((first["members_heard"], first["reads_bundles"], first["sends_bundles"]), (2, 1, 0))
         self.assertEqual((first["watches"], first["names"]), (0, 7))
-        for name in ("members_heard", "reads_bundles", "watches", "names"):
+        self.assertEqual((first["state_position"], first["state_differs"], third["state_differs"]), (0, False, False))
+        for name in ("members_heard", "reads_bundles", "watches", "names", "state_position"):
             self.assertNotIn(name, third)
         self.assertEqual((first["genesis"], first["program"], first["member_nodes"]), (GENESIS, "0.1.0", [1, 2, 3]))
         self.assertEqual(
@@ -287,6 +323,7 @@ class StatusTest(unittest.TestCase):
         self.assertEqual(len(metrics), len(set(line.rpartition(" ")[0] for line in metrics)))
         expected = [
             'locks_served{cluster="5"} 1',
+            'locks_one_state{cluster="5"} 1',
             'locks_members_up{cluster="5"} 2',
             'locks_up{cluster="5",address="127.0.0.1",port="b"} 0',
             'locks_failed_sends_total{cluster="5",node="3",address="127.0.0.1",port="c"} 6',
@@ -296,6 +333,8 @@ class StatusTest(unittest.TestCase):
             'locks_sends_bundles{cluster="5",node="3",address="127.0.0.1",port="c"} 1',
             'locks_watches{cluster="5",node="1",address="127.0.0.1",port="a"} 4',
             'locks_names{cluster="5",node="1",address="127.0.0.1",port="a"} 461',
+            'locks_state_position{cluster="5",node="1",address="127.0.0.1",port="a"} 0',
+            'locks_state_differs{cluster="5",node="1",address="127.0.0.1",port="a"} 0',
         ]
         for line in expected:
             self.assertIn(line, metrics)

@@ -111,9 +111,9 @@ probe_length_is p bytes s is =
     ap length s.1 ∙ omega (arith, spelled_probe p s.0, none)
 
 pub long_probe_length_is : (p : Probe) (bytes : List ℕ) → SpellsProbe p bytes → p.asks_reach ≡ true
-    → length bytes ≡ 182
+    → length bytes ≡ 206
 long_probe_length_is p bytes s is =
-    let more : length (blank p.asks_reach) ≡ 8 = ap (λ (b : Bool). length (blank b)) is in
+    let more : length (blank p.asks_reach) ≡ 32 = ap (λ (b : Bool). length (blank b)) is in
     ap length s.1 ∙ omega (arith, spelled_probe p s.0, more)
 
 spelled_report : (r : Report) → IsReport r → length (report_spelling r) ≡ 174 + length (reach_in r.reach)
@@ -124,21 +124,22 @@ spelled_report r f =
       length-padded (front (form (is_some r.reach)) 10 (report r)) (length-report (form (is_some r.reach)) r f),
     )
 
-length-tail : (o : Option Reach) (is : Bool) → is_some o ≡ is → length (reach_in o) ≡ length (blank is)
-length-tail None false e = refl
-length-tail None true e = absurd cc
-length-tail (Some t) true e = length-reach t
-length-tail (Some t) false e = absurd cc
+length-tail : (o : Option Reach) (is : Bool) → IfSome o IsReach → is_some o ≡ is
+    → length (reach_in o) ≡ length (blank is)
+length-tail None false f e = refl
+length-tail None true f e = absurd cc
+length-tail (Some t) true f e = length-reach t f
+length-tail (Some t) false f e = absurd cc
 
 pub report_length_is : (r : Report) (bytes : List ℕ) → SpellsReport r bytes → is_some r.reach ≡ false
     → length bytes ≡ 174
 report_length_is r bytes s is =
-    ap length s.1 ∙ omega (arith, spelled_report r s.0, length-tail r.reach false is)
+    ap length s.1 ∙ omega (arith, spelled_report r s.0, length-tail r.reach false s.0.5 is)
 
 pub long_report_length_is : (r : Report) (bytes : List ℕ) → SpellsReport r bytes → is_some r.reach ≡ true
-    → length bytes ≡ 182
+    → length bytes ≡ 206
 long_report_length_is r bytes s is =
-    ap length s.1 ∙ omega (arith, spelled_report r s.0, length-tail r.reach true is)
+    ap length s.1 ∙ omega (arith, spelled_report r s.0, length-tail r.reach true s.0.5 is)
 
 -- the second letter, and which of both it is
 

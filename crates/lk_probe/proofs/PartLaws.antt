@@ -19,18 +19,20 @@ use Rattle.lk_codec.specs.FieldReading.{read_members}
 use Rattle.lk_codec.proofs.Spellings.{IsBytes, IsBytes-drop, chosen, some_is, Took, Reads, fitting, both_reads}
 use Rattle.lk_codec.proofs.Spellings.{made_reads, byte_reads, two_reads, four_reads, eight_reads, limited_reads}
 use Rattle.lk_codec.proofs.Spellings.{tested_reads, node_reads, total_reads, mark_reads, members_reads, bind_ok}
-use Rattle.lk_codec.proofs.Spellings.{whole_again, whole_takes, length-two}
+use Rattle.lk_codec.proofs.Spellings.{whole_again, whole_takes, length-two, length-eight}
 use Rattle.lk_auth.specs.Seals.{no_genesis}
 use Rattle.lk_probe.specs.Grammar.{or_zero, node_in, genesis_in, flag, version, identity, leadership, progress, traffic}
 use Rattle.lk_probe.specs.Grammar.{status, probe, report, IsByte, IsVersion, IsIdentity, IsLeadership, IsProgress}
 use Rattle.lk_probe.specs.Grammar.{IsTraffic, IsStatus, IsProbe, IsReport, IsReach, heard_number, reach, reach_in}
-use Rattle.lk_probe.specs.Grammar.{blank}
+use Rattle.lk_probe.specs.Grammar.{blank, state_digest, IsStateDigest}
 use Rattle.lk_probe.specs.Reading.{or_none, is_with_node, origin_of, optional, read_maybe_node, read_maybe_client}
 use Rattle.lk_probe.specs.Reading.{read_flag, read_digest, read_version, read_identity, read_leadership, read_progress}
 use Rattle.lk_probe.specs.Reading.{read_traffic, read_status, read_probe_fields, read_report_fields, are_zeros}
-use Rattle.lk_probe.specs.Reading.{heard_in, read_heard, read_reach, read_tail, read_blank}
+use Rattle.lk_probe.specs.Reading.{heard_in, read_heard, read_reach, read_tail, read_blank, read_first}
+use Rattle.lk_probe.specs.Reading.{read_state_digest}
 use Rattle.lk_probe.specs.declared.neighbours.Origin.{Origin}
 use Rattle.lk_probe.specs.declared.reach.Reach.{Reach}
+use Rattle.lk_probe.specs.declared.state_digest.StateDigest.{StateDigest}
 use Rattle.lk_probe.specs.declared.status.Version.{Version}
 use Rattle.lk_probe.specs.declared.status.Identity.{Identity}
 use Rattle.lk_probe.specs.declared.status.Leadership.{Leadership}
@@ -91,32 +93,39 @@ flag_reads = remade_reads (λ n. eqb n 1) flag (tested (λ n. leb n 1) read_byte
 
 -- ---- the digest
 
-digest_takes : (bytes digest rest : List ℕ) → IsBytes bytes → read_digest bytes ≡ Some (digest, rest)
-    → Took (λ (d : List ℕ). d) (λ (d : List ℕ). length d ≡ 32) bytes digest rest
-unfolding read_digest
-digest_takes bytes digest rest h e =
-    elim (chosen (ltb (length bytes) 32) None (Some (take 32 bytes, drop 32 bytes)) (Some (digest, rest)) e) [
-      | inl short ↦ let bad = short.1 in absurd cc
-      | inr long ↦
-          let enough : 32 ≤ length bytes = ltb-false _ _ long.0 in
-          let cut : List ℕ × List ℕ = (take 32 bytes, drop 32 bytes) in
-          subst (λ (z : List ℕ × List ℕ). Took (λ (d : List ℕ). d) (λ (d : List ℕ). length d ≡ 32) bytes z.0 z.1)
-          (some_is cut (digest, rest) long.1)
-          (record {
-            parts = sym (take-append-drop 32 bytes);
-            rest_fits = IsBytes-drop 32 bytes h;
-            fits = omega (arith, length-take 32 bytes);
-          })
-    ]
+module _ (n : ℕ) where
+  -- a list of so many bytes
+  abbrev IsLong : List ℕ → Type 0
+  IsLong d = length d ≡ n
 
-digest_again : (digest rest : List ℕ) → length digest ≡ 32 → read_digest (digest ++ rest) ≡ Some (digest, rest)
-unfolding read_digest
-digest_again digest rest len =
-    let long : ltb (length (digest ++ rest)) 32 ≡ false = le-ltb _ _ (omega (arith, length-append digest rest)) in
-    rw (long, take_at digest rest 32 len, drop_at digest rest 32 len) refl
+  first_takes : (bytes digest rest : List ℕ) → IsBytes bytes → read_first n bytes ≡ Some (digest, rest)
+      → Took (λ (d : List ℕ). d) IsLong bytes digest rest
+  first_takes bytes digest rest h e =
+      elim (chosen (ltb (length bytes) n) None (Some (take n bytes, drop n bytes)) (Some (digest, rest)) e) [
+        | inl short ↦ let bad = short.1 in absurd cc
+        | inr long ↦
+            let enough : n ≤ length bytes = ltb-false _ _ long.0 in
+            let cut : List ℕ × List ℕ = (take n bytes, drop n bytes) in
+            subst (λ (z : List ℕ × List ℕ). Took (λ (d : List ℕ). d) IsLong bytes z.0 z.1)
+            (some_is cut (digest, rest) long.1)
+            (record {
+              parts = sym (take-append-drop n bytes);
+              rest_fits = IsBytes-drop n bytes h;
+              fits = omega (arith, enough, length-take n bytes);
+            })
+      ]
+
+  first_again : (digest rest : List ℕ) → length digest ≡ n → read_first n (digest ++ rest) ≡ Some (digest, rest)
+  first_again digest rest len =
+      let long : ltb (length (digest ++ rest)) n ≡ false = le-ltb _ _ (omega (arith, len, length-append digest rest)) in
+      rw (long, take_at digest rest n len, drop_at digest rest n len) refl
+
+  first_reads : Reads (read_first n) (λ (d : List ℕ). d) (λ (d : List ℕ). length d ≡ n)
+  first_reads = record { takes = first_takes; again = first_again }
 
 digest_reads : Reads read_digest (λ (d : List ℕ). d) (λ (d : List ℕ). length d ≡ 32)
-digest_reads = record { takes = digest_takes; again = digest_again }
+unfolding read_digest
+digest_reads = first_reads 32
 
 -- ---- the parts
 
@@ -344,20 +353,40 @@ heard_reads = remade_reads heard_in heard_number (tested (λ n. leb n 256) read_
     (λ (o : Option ℕ). IfSome o IsByte) number_of of_number
     (limited_reads 256 (2 ^ 16) (omega arith) read_two two two_reads)
 
+state_digest_reads : Reads read_state_digest state_digest IsStateDigest
+unfolding read_state_digest
+state_digest_reads = fitting read_state_digest state_digest
+    (λ (d : StateDigest). IsTotal d.position × (length d.digest ≡ 16)) IsStateDigest (λ d f. (f.0, f.1))
+    (λ d f. (f.0, f.1))
+    (made_reads (λ (d : ℕ × List ℕ). let x : StateDigest = record { position = d.0; digest = d.1 } in x)
+    (λ (d : StateDigest). (d.position, d.digest)) (λ x. refl) (λ y. refl) _ _ _
+    (both_reads read_total eight IsTotal (read_first 16) (λ (d : List ℕ). d) (λ (d : List ℕ). length d ≡ 16)
+    total_reads (first_reads 16)))
+
 reach_reads : Reads read_reach reach IsReach
 unfolding read_reach
 reach_reads = fitting read_reach reach
     (λ (t : Reach). IfSome t.heard IsByte
-    × (Unit {0} × (Unit {0} × ((t.watches < 2 ^ 16) × (t.names < 2 ^ 16))))) IsReach
-    (λ t f. (f.0, f.1.1.1.0, f.1.1.1.1)) (λ t f. (f.0, (tt, (tt, (f.1, f.2)))))
-    (made_reads (λ (t : Option ℕ × (Bool × (Bool × (ℕ × ℕ)))). let x : Reach =
-    record { heard = t.0; reads_bundles = t.1.0; sends_bundles = t.1.1.0; watches = t.1.1.1.0; names = t.1.1.1.1 } in x)
-    (λ (t : Reach). (t.heard, (t.reads_bundles, (t.sends_bundles, (t.watches, t.names))))) (λ x. refl) (λ y. refl) _ _ _
+    × (Unit {0} × (Unit {0} × ((t.watches < 2 ^ 16) × ((t.names < 2 ^ 16) × IsStateDigest t.state))))) IsReach
+    (λ t f. (f.0, f.1.1.1.0, f.1.1.1.1.0, f.1.1.1.1.1)) (λ t f. (f.0, (tt, (tt, (f.1, (f.2, f.3))))))
+    (made_reads (λ (t : Option ℕ × (Bool × (Bool × (ℕ × (ℕ × StateDigest))))). let x : Reach =
+    record {
+      heard = t.0;
+      reads_bundles = t.1.0;
+      sends_bundles = t.1.1.0;
+      watches = t.1.1.1.0;
+      names = t.1.1.1.1.0;
+      state = t.1.1.1.1.1;
+    } in x)
+    (λ (t : Reach). (t.heard, (t.reads_bundles, (t.sends_bundles, (t.watches, (t.names, t.state))))))
+    (λ x. refl) (λ y. refl) _ _ _
     (both_reads read_heard (λ (o : Option ℕ). two (heard_number o)) (λ (o : Option ℕ). IfSome o IsByte)
     _ _ _ heard_reads
     (both_reads read_flag (λ (b : Bool). one (flag b)) (λ (b : Bool). Unit {0}) _ _ _ flag_reads
     (both_reads read_flag (λ (b : Bool). one (flag b)) (λ (b : Bool). Unit {0}) _ _ _ flag_reads
-    (both_reads read_two two (λ n. n < 2 ^ 16) read_two two (λ n. n < 2 ^ 16) two_reads two_reads)))))
+    (both_reads read_two two (λ n. n < 2 ^ 16) _ _ _ two_reads
+    (both_reads read_two two (λ n. n < 2 ^ 16) read_state_digest state_digest IsStateDigest two_reads
+    state_digest_reads))))))
 
 none : (bytes : List ℕ) → length bytes ≡ 0 → bytes ≡ []
 none [] e = refl
@@ -377,14 +406,14 @@ tail_takes bytes o h e =
           subst (λ (z : Option Reach). IfSome z IsReach × (bytes ≡ reach_in z)) (some_is (Some a.0) o a.2) (t.0, t.1)
     ]
 
-pub length-reach : (t : Reach) → length (reach t) ≡ 8
-length-reach t = simp (length-append, length-two) (omega arith)
+pub length-reach : (t : Reach) → IsReach t → length (reach t) ≡ 32
+length-reach t fits = simp (length-append, length-two, length-eight) (omega (arith, fits.3.1))
 
 pub tail_again : (o : Option Reach) → IfSome o IsReach → read_tail (reach_in o) ≡ Some o
 unfolding read_tail
 tail_again None fits = refl
 tail_again (Some t) fits =
-    let long : eqb (length (reach t)) 0 ≡ false = rw (length-reach t) refl in
+    let long : eqb (length (reach t)) 0 ≡ false = rw (length-reach t fits) refl in
     rw (long, whole_again read_reach reach IsReach reach_reads t fits) refl
 
 -- nothing follows, or zeros
@@ -392,13 +421,13 @@ pub blank_takes : (bytes : List ℕ) (asks : Bool) → read_blank bytes ≡ Some
 unfolding read_blank
 blank_takes bytes asks e =
     elim (chosen (eqb (length bytes) 0) (Some false)
-    (cond (eqb (length bytes) 8 && are_zeros bytes) (Some true) None) (Some asks) e) [
+    (cond (eqb (length bytes) 32 && are_zeros bytes) (Some true) None) (Some asks) e) [
       | inl short ↦ subst (λ (z : Bool). bytes ≡ blank z) (some_is false asks short.1)
           (none bytes (eqb-true _ _ short.0))
-      | inr long ↦ elim (chosen (eqb (length bytes) 8 && are_zeros bytes) (Some true) None (Some asks) long.1) [
+      | inr long ↦ elim (chosen (eqb (length bytes) 32 && are_zeros bytes) (Some true) None (Some asks) long.1) [
         | inr bad ↦ let no = bad.1 in absurd cc
         | inl good ↦
-            let are = both_are (eqb (length bytes) 8) (are_zeros bytes) good.0 in
+            let are = both_are (eqb (length bytes) 32) (are_zeros bytes) good.0 in
             subst (λ (z : Bool). bytes ≡ blank z) (some_is true asks good.1)
             (zeros bytes are.1 ∙ ap (λ (n : ℕ). replicate n 0) (eqb-true _ _ are.0))
       ]

@@ -9,6 +9,7 @@ use Rattle.lk_codec.specs.Fields.{one, two, four, eight, ballot, members}
 use Rattle.lk_auth.specs.Seals.{no_genesis}
 use Rattle.lk_probe.specs.declared.neighbours.Origin.{Origin}
 use Rattle.lk_probe.specs.declared.reach.Reach.{Reach}
+use Rattle.lk_probe.specs.declared.state_digest.StateDigest.{StateDigest}
 use Rattle.lk_probe.specs.declared.status.Version.{Version}
 use Rattle.lk_probe.specs.declared.status.Identity.{Identity}
 use Rattle.lk_probe.specs.declared.status.Leadership.{Leadership}
@@ -24,7 +25,7 @@ probe_length = 174
 
 -- how many more form 2 has
 abbrev pub reach_length : ℕ
-reach_length = 8
+reach_length = 32
 
 -- a number that may not be there: 0 where it is not
 abbrev pub or_zero : Option ℕ → ℕ
@@ -60,9 +61,14 @@ abbrev pub heard_number : Option ℕ → ℕ
 heard_number None = 0
 heard_number (Some n) = n + 1
 
+-- the position, and the digest of the state there
+abbrev pub state_digest : StateDigest → List ℕ
+state_digest d = eight d.position ++ d.digest
+
 abbrev pub reach : Reach → List ℕ
 reach t = two (heard_number t.heard)
-    ++ (one (flag t.reads_bundles) ++ (one (flag t.sends_bundles) ++ (two t.watches ++ two t.names)))
+    ++ (one (flag t.reads_bundles)
+    ++ (one (flag t.sends_bundles) ++ (two t.watches ++ (two t.names ++ state_digest t.state))))
 
 -- the number of the form: the second has a reach, or asks for one
 abbrev pub form : Bool → ℕ
@@ -142,8 +148,11 @@ IsOrigin o = IsNode o.node × (length o.genesis ≡ 32)
 abbrev pub IsProbe : Probe → Type 0
 IsProbe p = (p.cluster < 2 ^ 64) × IfSome p.origin IsOrigin × IfSome p.client IsClient × (p.token < 2 ^ 64)
 
+abbrev pub IsStateDigest : StateDigest → Type 0
+IsStateDigest d = IsTotal d.position × (length d.digest ≡ 16)
+
 abbrev pub IsReach : Reach → Type 0
-IsReach t = IfSome t.heard IsByte × (t.watches < 2 ^ 16) × (t.names < 2 ^ 16)
+IsReach t = IfSome t.heard IsByte × (t.watches < 2 ^ 16) × (t.names < 2 ^ 16) × IsStateDigest t.state
 
 abbrev pub IsReport : Report → Type 0
 IsReport r = (r.cluster < 2 ^ 64) × IsNode r.node × IfSome r.client IsClient × (r.token < 2 ^ 64) × IsStatus r.status
@@ -159,10 +168,19 @@ SpellsReport r bytes = IsReport r × (bytes ≡ report_spelling r)
 
 -- ---- what belongs together
 
+-- no digest was taken yet
+abbrev pub no_digest : StateDigest
+no_digest = record { position = 0; digest = replicate 16 0 }
+
 -- how many members a node hears, if that is said
 abbrev pub heard_of : Option Reach → Option ℕ
 heard_of None = None
 heard_of (Some t) = t.heard
+
+-- the digest of its state that a report tells; none without a reach
+abbrev pub digest_in : Option Reach → StateDigest
+digest_in None = no_digest
+digest_in (Some t) = t.state
 
 -- the report answers that probe
 pub record IsReportFor (p : Probe) (r : Report) : Type 0 where

@@ -9,6 +9,7 @@ use Rattle.lk_codec.specs.FieldReading.{read_members}
 use Rattle.lk_probe.specs.Grammar.{form, probe_length, reach_length}
 use Rattle.lk_probe.specs.declared.neighbours.Origin.{Origin}
 use Rattle.lk_probe.specs.declared.reach.Reach.{Reach}
+use Rattle.lk_probe.specs.declared.state_digest.StateDigest.{StateDigest}
 use Rattle.lk_probe.specs.declared.status.Version.{Version}
 use Rattle.lk_probe.specs.declared.status.Identity.{Identity}
 use Rattle.lk_probe.specs.declared.status.Leadership.{Leadership}
@@ -35,8 +36,12 @@ read_maybe_client = optional max_client read_two
 unfoldable pub read_flag : List ℕ → Option (Bool × List ℕ)
 read_flag = made (λ n. n == 1) (tested (λ n. nat_le n 1) read_byte)
 
+-- so many bytes
+abbrev pub read_first : ℕ → List ℕ → Option (List ℕ × List ℕ)
+read_first n bytes = if nat_lt (length bytes) n then None else Some (take n bytes, drop n bytes)
+
 unfoldable pub read_digest : List ℕ → Option (List ℕ × List ℕ)
-read_digest bytes = if nat_lt (length bytes) 32 then None else Some (take 32 bytes, drop 32 bytes)
+read_digest = read_first 32
 
 unfoldable pub read_version : List ℕ → Option (Version × List ℕ)
 read_version =
@@ -120,15 +125,20 @@ heard_in n = if n == 0 then None else Some (n - 1)
 unfoldable pub read_heard : List ℕ → Option (Option ℕ × List ℕ)
 read_heard = made heard_in (tested (λ n. nat_le n 256) read_two)
 
+unfoldable pub read_state_digest : List ℕ → Option (StateDigest × List ℕ)
+read_state_digest =
+    made (λ d. record { position = d.0; digest = d.1 }) (both read_total (read_first 16))
+
 unfoldable pub read_reach : List ℕ → Option (Reach × List ℕ)
 read_reach = made (λ t. record {
   heard = t.0;
   reads_bundles = t.1.0;
   sends_bundles = t.1.1.0;
   watches = t.1.1.1.0;
-  names = t.1.1.1.1;
+  names = t.1.1.1.1.0;
+  state = t.1.1.1.1.1;
 })
-    (both read_heard (both read_flag (both read_flag (both read_two read_two))))
+    (both read_heard (both read_flag (both read_flag (both read_two (both read_two read_state_digest)))))
 
 -- what follows the bytes of form 1 in a report: nothing, or a reach
 unfoldable pub read_tail : List ℕ → Option (Option Reach)

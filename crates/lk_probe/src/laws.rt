@@ -15,15 +15,15 @@ pub fn one_meaning()
     ensures report { (r s : Report) (bytes : List ℕ) → SpellsReport r bytes → SpellsReport s bytes → r ≡ s }
 {}
 
-/// In form 1 each probe and each report has 174 bytes, and in form 2 eight more.
+/// In form 1 each probe and each report has 174 bytes, and in form 2 thirty-two more.
 pub fn lengths()
     ensures probe { (p : Probe) (bytes : List ℕ) → SpellsProbe p bytes → p.asks_reach ≡ false → length bytes ≡ 174 }
     ensures report { (r : Report) (bytes : List ℕ) → SpellsReport r bytes → is_some r.reach ≡ false
         → length bytes ≡ 174 }
     ensures long_probe { (p : Probe) (bytes : List ℕ) → SpellsProbe p bytes → p.asks_reach ≡ true
-        → length bytes ≡ 182 }
+        → length bytes ≡ 206 }
     ensures long_report { (r : Report) (bytes : List ℕ) → SpellsReport r bytes → is_some r.reach ≡ true
-        → length bytes ≡ 182 }
+        → length bytes ≡ 206 }
 {}
 
 /// No datagram of the protocol is a probe or a report, and no probe is a report.

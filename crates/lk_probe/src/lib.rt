@@ -10,12 +10,14 @@ mod probe;
 mod reach;
 mod reading;
 pub mod reported;
+mod state_digest;
 mod status;
 mod writing;
 
 pub use datagram::ProbeDatagram;
 pub use probe::{Probe, Report};
 pub use reach::Reach;
+pub use state_digest::StateDigest;
 pub use status::{
-    DIGEST, Identity, LENGTH, Leadership, PROGRAM, Progress, Status, Traffic, Version,
+    DIGEST, Identity, LENGTH, Leadership, PROGRAM, Progress, STATE_DIGEST, Status, Traffic, Version,
 };

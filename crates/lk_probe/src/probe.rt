@@ -2,11 +2,12 @@
 ghost use Rattle.std.specs.Prelude.{◌≡◌, ◌↔◌, IsTrue, IfSome, Some, None, if◌then◌else◌};
 ghost use Rattle.lk_types.specs.Ranges.{IsClient};
 ghost use Rattle.lk_probe.specs.Grammar.{IsOrigin, IsProbe, IsReport, IsReportFor, SpellsProbe, SpellsReport, heard_of};
-ghost use Rattle.lk_probe.specs.Grammar.{node_in};
+ghost use Rattle.lk_probe.specs.Grammar.{digest_in, node_in};
 
 use crate::datagram::ProbeDatagram;
 use crate::neighbours::Origin;
 use crate::reach::{Reach, reach_facts};
+use crate::state_digest::StateDigest;
 use crate::status::Status;
 use crate::writing::{write_probe, write_report};
 use lk_types::{ClientNo, NodeNo};
@@ -145,6 +146,16 @@ impl Report {
         match &self.reach {
             Some(reach) => reach.heard,
             None => None,
+        }
+    }
+
+    /// Returns the digest of its node's state, that of none if it has no reach.
+    pub fn state_digest(&self) -> StateDigest
+        ensures { result ≡ digest_in self.now.reach }
+    {
+        match &self.reach {
+            Some(reach) => reach.state,
+            None => StateDigest::none(),
         }
     }
 

@@ -2,8 +2,10 @@
 ghost use Rattle.std.specs.Prelude.{IfSome};
 ghost use Rattle.lk_probe.specs.Grammar.{IsReach};
 
-/// What a report of form 2 has beside the status: whom its node hears, what its socket does with bundles, and how many
-/// watches and names it keeps.
+use crate::state_digest::StateDigest;
+
+/// What a report of form 2 has beside the status: whom its node hears, what its socket does with bundles, how many
+/// watches and names it keeps, and a digest of its state.
 #[derive(Clone, Copy)]
 pub struct Reach {
     /// How many of the members of the next position it hears, itself included. `None` if it does not find that out.
@@ -16,6 +18,8 @@ pub struct Reach {
     pub watches: u16,
     /// How many names its lock table has, 65535 if there are more.
     pub names: u16,
+    /// The digest that it took last of its state.
+    pub state: StateDigest,
 }
 
 impl Reach {
@@ -28,6 +32,7 @@ impl Reach {
         }
         let _watches = self.watches;
         let _names = self.names;
+        self.state.facts();
     }
 }
 

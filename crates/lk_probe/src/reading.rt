@@ -7,7 +7,7 @@ ghost use Rattle.lk_probe.specs.Reading.{are_zeros, read_origin, read_maybe_node
 ghost use Rattle.lk_probe.specs.Reading.{read_digest, read_version, read_identity, read_leadership, read_progress};
 ghost use Rattle.lk_probe.specs.Reading.{read_traffic, read_status, read_probe_fields, read_report_fields, fronted};
 ghost use Rattle.lk_probe.specs.Reading.{read_heard, read_reach, read_tail, read_blank, probe_in, probe_of, report_in};
-ghost use Rattle.lk_probe.specs.Reading.{report_of};
+ghost use Rattle.lk_probe.specs.Reading.{read_state_digest, report_of};
 ghost use Rattle.lk_probe.specs.declared.probe.Probe.{Probe as ProbeValue};
 ghost use Rattle.lk_probe.specs.declared.probe.Report.{Report as ReportValue};
 
@@ -15,8 +15,9 @@ use crate::datagram::form_number;
 use crate::neighbours::Origin;
 use crate::probe::{Probe, Report};
 use crate::reach::Reach;
+use crate::state_digest::StateDigest;
 use crate::status::{
-    DIGEST, Identity, LENGTH, Leadership, Progress, REACH, Status, Traffic, Version,
+    DIGEST, Identity, LENGTH, Leadership, Progress, REACH, STATE_DIGEST, Status, Traffic, Version,
 };
 use lk_codec::{
     read_any_ballot, read_executed, read_members, read_node, read_u8, read_u16, read_u32, read_u64,
@@ -265,23 +266,45 @@ fn read_heard(bytes: &[u8]) -> Option<(Option<u8>, &[u8])>
     Some((Some((number - 1) as u8), rest))
 }
 
+// Reads the digest of a state, after its position.
+#[tactic(auto, unfolding(crate::specs::Reading::read_state_digest))]
+fn read_state_digest(bytes: &[u8]) -> Option<(StateDigest, &[u8])>
+    ensures { Finds (λ x. (x.0, x.1.now)) result (read_state_digest bytes.now) }
+{
+    if let Some((position, rest)) = read_executed(bytes)
+        && let Some((digest, rest)) = rest.split_first_chunk::<STATE_DIGEST>()
+    {
+        let state = StateDigest {
+            position,
+            digest: *digest,
+        };
+        return Some((state, rest));
+    }
+    None
+}
+
 #[tactic(auto, unfolding(crate::specs::Reading::read_reach))]
 fn read_reach(bytes: &[u8]) -> Option<(Reach, &[u8])>
     ensures { Finds (λ x. (x.0, x.1.now)) result (read_reach bytes.now) }
 {
-    let (heard, rest) = read_heard(bytes)?;
-    let (reads_bundles, rest) = read_flag(rest)?;
-    let (sends_bundles, rest) = read_flag(rest)?;
-    let (watches, rest) = read_u16(rest)?;
-    let (names, rest) = read_u16(rest)?;
-    let reach = Reach {
-        heard,
-        reads_bundles,
-        sends_bundles,
-        watches,
-        names,
-    };
-    Some((reach, rest))
+    if let Some((heard, rest)) = read_heard(bytes)
+        && let Some((reads_bundles, rest)) = read_flag(rest)
+        && let Some((sends_bundles, rest)) = read_flag(rest)
+        && let Some((watches, rest)) = read_u16(rest)
+        && let Some((names, rest)) = read_u16(rest)
+        && let Some((state, rest)) = read_state_digest(rest)
+    {
+        let reach = Reach {
+            heard,
+            reads_bundles,
+            sends_bundles,
+            watches,
+            names,
+            state,
+        };
+        return Some((reach, rest));
+    }
+    None
 }
 
 // Reads what a report has after the bytes of form 1: no reach if nothing follows. `None` if anything but a reach does.
@@ -292,7 +315,9 @@ fn read_tail(bytes: &[u8]) -> Option<Option<Reach>>
     if bytes.len() == 0 {
         return Some(None);
     }
-    let (reach, rest) = read_reach(bytes)?;
+    let Some((reach, rest)) = read_reach(bytes) else {
+        return None;
+    };
     if rest.len() > 0 {
         return None;
     }

@@ -12,7 +12,10 @@ pub const DIGEST: usize = 32;
 pub const LENGTH: usize = 174;
 
 /// How many bytes form 2 has after these.
-pub const REACH: usize = 8;
+pub const REACH: usize = 32;
+
+/// The length of the digest of a state, in bytes.
+pub const STATE_DIGEST: usize = 16;
 
 /// The version of a program.
 #[derive(Clone, Copy, PartialEq, Eq)]

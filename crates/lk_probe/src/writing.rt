@@ -6,11 +6,13 @@ ghost use Rattle.lk_codec.specs.Fields.{one, two, four, eight, ballot, member, m
 ghost use Rattle.lk_probe.specs.Grammar.{probe_length, flag, genesis_in, or_zero, version, identity, leadership};
 ghost use Rattle.lk_probe.specs.Grammar.{progress, traffic, status, form, front, probe, report, padded, probe_spelling};
 ghost use Rattle.lk_probe.specs.Grammar.{report_spelling, blank, heard_number, reach, reach_in, reach_length};
+ghost use Rattle.lk_probe.specs.Grammar.{state_digest};
 
 use crate::datagram::{ProbeDatagram, form_number};
 use crate::neighbours::Origin;
 use crate::probe::{Probe, Report};
 use crate::reach::Reach;
+use crate::state_digest::StateDigest;
 use crate::status::{
     DIGEST, Identity, LENGTH, Leadership, Progress, REACH, Status, Traffic, Version,
 };
@@ -220,6 +222,16 @@ fn put_heard(out: &mut Bytes, heard: Option<u8>)
     }
 }
 
+// Appends the digest of a state, after its position.
+fn put_state_digest(out: &mut Bytes, value: &StateDigest)
+    requires { array_vec_len out.old + 24 ≤ probe_length }
+    ensures items { out.new.items ≡ out.old.items ++ state_digest value.now }
+    ensures len { array_vec_len out.new ≡ array_vec_len out.old + 24 }
+{
+    put_u64(out, value.position.get());
+    put(out, &value.digest);
+}
+
 // Returns the bytes of a reach.
 fn reach_bytes(value: &Reach) -> Bytes
     ensures items { result.items ≡ reach value.now }
@@ -231,6 +243,7 @@ fn reach_bytes(value: &Reach) -> Bytes
     put_flag(&mut out, value.sends_bundles);
     put_u16(&mut out, value.watches);
     put_u16(&mut out, value.names);
+    put_state_digest(&mut out, &value.state);
     out
 }
 

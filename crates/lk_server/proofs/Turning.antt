@@ -137,6 +137,7 @@ pub same_by : {R : Type 0} (old new : ServerValue R)
     → new ≡ record old {
       replica = new.replica;
       failed = new.failed;
+      digest = new.digest;
       received = new.received;
       ticks = new.ticks;
       withheld = new.withheld;
@@ -394,7 +395,12 @@ module _ {R : Type 0} (S : Sayings R) (G : Gatherings R) (observable : Type 0) w
   module _ (frames : List (SocketAddr × List ℕ)) (group one : GroupValue) (old mid new : ServerValue R)
       (clock : old.pace ≡ Clock) (t : AddsWaiting G observable frames group one old mid)
       (kept : mid.withheld ≡ old.withheld) (none : MayWithhold mid → ⊥)
-      (same : new ≡ record mid { replica = new.replica; failed = new.failed; ticks = new.ticks }) where
+      (same : new ≡ record mid {
+        replica = new.replica;
+        failed = new.failed;
+        digest = new.digest;
+        ticks = new.ticks;
+      }) where
     abbrev waited : List (List ℕ)
     waited = datagrams_in (take 64 old.loopback) (all_filtered (filter_of old.addresses) frames)
 
@@ -476,7 +482,12 @@ module _ {R : Type 0} (S : Sayings R) (G : Gatherings R) (observable : Type 0) w
   module _ (found : TurnInput) (frames : List (SocketAddr × List ℕ)) (group one : GroupValue)
       (old mid new : ServerValue R) (loopback : old.loopback ≡ []) (f : Finds observable found frames old mid)
       (begun : one ≡ group) (none : MayWithhold mid → ⊥)
-      (same : new ≡ record mid { replica = new.replica; failed = new.failed; ticks = new.ticks }) where
+      (same : new ≡ record mid {
+        replica = new.replica;
+        failed = new.failed;
+        digest = new.digest;
+        ticks = new.ticks;
+      }) where
     none_taken : all_filtered (filter_of old.addresses) frames ≡ []
     none_taken = found_none (filter_of old.addresses) found frames f.are
 
@@ -651,7 +662,12 @@ module _ {R : Type 0} (S : Sayings R) (G : Gatherings R) (observable : Type 0) w
     -- one is
     module _ (due : Bool) (group one : GroupValue) (old mid new : ServerValue R) (pace : mid.pace ≡ old.pace)
         (is_so : due ≡ true) (kept : mid.withheld ≡ old.withheld) (unheld : MayWithhold mid → ⊥)
-        (same : new ≡ record mid { replica = new.replica; failed = new.failed; ticks = new.ticks })
+        (same : new ≡ record mid {
+          replica = new.replica;
+          failed = new.failed;
+          digest = new.digest;
+          ticks = new.ticks;
+        })
         (timed : new.ticks ≡ one_more_tick mid.ticks) where
       pub tick_turn : (found : TurnInput) (now : GroupValue) → (found ≡ Something → HasWaiting group one old mid)
           → ((found ≡ Something → ⊥) → HasFound found group one old mid)

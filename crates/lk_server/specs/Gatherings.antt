@@ -31,13 +31,20 @@ pub record Finds {R : Type 0} (observable : Type 0) (found : TurnInput) (frames 
 
 abbrev pub ChangesAtDatagram : {R : Type 0} → ServerValue R → ServerValue R → Type 0
 ChangesAtDatagram old new =
-    new ≡ record old { replica = new.replica; failed = new.failed; received = new.received; ticks = new.ticks }
+    new ≡ record old {
+      replica = new.replica;
+      failed = new.failed;
+      digest = new.digest;
+      received = new.received;
+      ticks = new.ticks;
+    }
 
 abbrev pub ChangesAtLetter : {R : Type 0} → ServerValue R → ServerValue R → Type 0
 ChangesAtLetter old new =
     new ≡ record old {
       replica = new.replica;
       failed = new.failed;
+      digest = new.digest;
       received = new.received;
       ticks = new.ticks;
       loopback = new.loopback;
@@ -48,6 +55,7 @@ ChangesAtFrame old new =
     new ≡ record old {
       replica = new.replica;
       failed = new.failed;
+      digest = new.digest;
       received = new.received;
       ticks = new.ticks;
       addresses = new.addresses;
@@ -58,6 +66,7 @@ ChangesAtSocket old new =
     new ≡ record old {
       replica = new.replica;
       failed = new.failed;
+      digest = new.digest;
       received = new.received;
       ticks = new.ticks;
       addresses = new.addresses;
@@ -69,6 +78,7 @@ ChangesInGroup old new =
     new ≡ record old {
       replica = new.replica;
       failed = new.failed;
+      digest = new.digest;
       received = new.received;
       ticks = new.ticks;
       loopback = new.loopback;
@@ -81,6 +91,7 @@ ChangesInTurn old new =
     new ≡ record old {
       replica = new.replica;
       failed = new.failed;
+      digest = new.digest;
       received = new.received;
       ticks = new.ticks;
       withheld = new.withheld;

@@ -4,6 +4,7 @@ use Rattle.lk_probe.specs.Grammar.{SpellsReport, IsReportFor}
 use Rattle.lk_probe.specs.declared.probe.Probe.{Probe}
 use Rattle.lk_probe.specs.declared.probe.Report.{Report}
 use Rattle.lk_probe.specs.declared.reach.Reach.{Reach}
+use Rattle.lk_probe.specs.declared.state_digest.StateDigest.{StateDigest}
 use Rattle.lk_probe.specs.declared.status.Status.{Status}
 use Rattle.lk_server.specs.Servers.{ServerValue, heard_by, periods, send_state_at}
 use Rattle.lk_transport.specs.declared.received_probe.ReceivedProbe.{ReceivedProbe}
@@ -27,37 +28,38 @@ pub record ReportsStatus (digest : List ℕ) (count : ℕ) (shown : ProbedState)
 -- ---- how it answers
 
 -- a report has a reach exactly if the probe asks for one, and it tells this count of members that are heard, so many
--- watches, and the names that the replica shows
-pub record ReportsReach (asks : Bool) (heard : Option ℕ) (watches : ℕ) (shown : ProbedState) (reach : Option Reach)
-    : Type 0 where
+-- watches, the names that the replica shows, and this digest of its state
+pub record ReportsReach (asks : Bool) (heard : Option ℕ) (watches : ℕ) (digest : StateDigest) (shown : ProbedState)
+    (reach : Option Reach) : Type 0 where
   pub told : Reach
   pub count : told.heard ≡ heard
   pub watches_told : told.watches ≡ watches
   pub names_told : told.names ≡ shown.names
+  pub digest_told : told.state ≡ digest
   pub is : reach ≡ (if asks then Some told else None)
 
 -- these bytes are a report of that node that answers the probe in its form, and tells what the replica shows, that
--- count of ticks, this count of members that are heard, and so many watches. By the laws of lk_probe it is as long as
--- the probe
-pub record IsReportTo (node : ℕ) (genesis : List ℕ) (count : ℕ) (heard : Option ℕ) (watches : ℕ) (shown : ProbedState)
-    (p : Probe) (bytes : List ℕ) : Type 0 where
+-- count of ticks, this count of members that are heard, so many watches, and this digest of its state. By the laws of
+-- lk_probe it is as long as the probe
+pub record IsReportTo (node : ℕ) (genesis : List ℕ) (count : ℕ) (heard : Option ℕ) (watches : ℕ) (digest : StateDigest)
+    (shown : ProbedState) (p : Probe) (bytes : List ℕ) : Type 0 where
   pub report : Report
   pub spelled : SpellsReport report bytes
   pub is_for : IsReportFor p report
   pub node_told : report.node ≡ node
   pub told : ReportsStatus genesis count shown report.status
-  pub reached : ReportsReach p.asks_reach heard watches shown report.reach
+  pub reached : ReportsReach p.asks_reach heard watches digest shown report.reach
 
--- the probe was answered, by the server's own count of periods, with whom it hears in this one and how many watches it
--- keeps, where a member gets its letters, or else where the probe came from; nothing else is sent or changed, nor is
--- what is to come, if the socket tells that. `Shows` is what a replica shows
+-- the probe was answered, by the server's own count of periods, with whom it hears in this one, how many watches it
+-- keeps and the digest that it took last, where a member gets its letters, or else where the probe came from; nothing
+-- else is sent or changed, nor is what is to come, if the socket tells that. `Shows` is what a replica shows
 pub record RepliesToProbe {R : Type 0} (Shows : R → ProbedState → Type 0) (observable : Type 0) (a : ReceivedProbe)
     (old new : ServerValue R) : Type 0 where
   pub shown : ProbedState
   pub shows : Shows old.replica shown
   pub bytes : List ℕ
   pub reports : IsReportTo old.node old.addresses.seals.genesis (periods old) (heard_by shown.members old)
-      (length old.queue.waiters) shown a.probe bytes
+      (length old.queue.waiters) old.digest shown a.probe bytes
   pub located : ProbedState
   pub locates : Shows old.replica located
   pub address : SocketAddr

@@ -16,6 +16,8 @@ use Rattle.lk_transport.specs.Posts.{RecordsSenders, SendState, Becomes, all_fil
 use Rattle.lk_transport.specs.Streams.{Stream, Receives, ReceivesOne, ComeWithin, frames_in}
 use Rattle.lk_transport.specs.declared.network.Network.{Network}
 use Rattle.lk_watch.specs.Queues.{QueueValue}
+use Rattle.lk_probe.specs.Grammar.{no_digest}
+use Rattle.lk_probe.specs.declared.state_digest.StateDigest.{StateDigest}
 use Rattle.lk_pacing.specs.declared.pace.Pace.{Pace}
 use Rattle.lk_pacing.specs.declared.pace.Pace.TheVariants.{Clock}
 
@@ -36,6 +38,8 @@ pub record ServerValue (R : Type 0) : Type 0 where
   pub withheld : ℕ
   -- whether a call has ended the replica
   pub failed : Bool
+  -- the digest that it took last of its replica's state
+  pub digest : StateDigest
   -- what its socket has sent, and how many of its sends failed
   pub sent : List (SocketAddr × List ℕ)
   pub socket_failures : ℕ
@@ -54,13 +58,14 @@ pub record IsConfiguredAs {R : Type 0} (c n : ℕ) (p : Pace) (known : Network) 
   pub seals : s.addresses.seals ≡ known.seals
   pub admins : s.addresses.admins ≡ known.admins
 
--- nobody has written to it yet, not even itself, and nobody waits; it has counted no tick and probed nobody, and is
--- deaf if its ticks go by the clock
+-- nobody has written to it yet, not even itself, and nobody waits; it has counted no tick, taken no digest and probed
+-- nobody, and is deaf if its ticks go by the clock
 pub record HasHeardNobody {R : Type 0} (s : ServerValue R) : Type 0 where
   pub loopback : s.loopback ≡ []
   pub received : s.received ≡ 0
   pub ticks : s.ticks ≡ 0
   pub withheld : s.withheld ≡ 0
+  pub digest : s.digest ≡ no_digest
   pub hearing : s.addresses.hearing ≡ nothing_sent
   pub deaf : s.addresses.deaf ≡ is_clock s.pace
   pub clients : (c : ℕ) → IsClient c → client_at s.addresses c ≡ None
@@ -240,11 +245,12 @@ pub record TakesLetters (count : ℕ) (loopback : List LetterValue) : Type 0 whe
   pub at_most : count ≤ 64
   pub some : count ≡ 0 → loopback ≡ []
 
--- it has counted no datagram and no tick, given or withheld
+-- it has counted no datagram and no tick, given or withheld, and taken no digest
 pub record KeepsCounts {R : Type 0} (old new : ServerValue R) : Type 0 where
   pub received : new.received ≡ old.received
   pub ticks : new.ticks ≡ old.ticks
   pub withheld : new.withheld ≡ old.withheld
+  pub digest : new.digest ≡ old.digest
 
 -- it is the server of the same node, its ticks go by the same, and the same wait as before
 pub record IsSameServer {R : Type 0} (old new : ServerValue R) : Type 0 where

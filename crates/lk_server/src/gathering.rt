@@ -58,8 +58,8 @@ impl<R: ServerReplica, S: DatagramSocket + Drop> Server<R, S> {
         self.tokens.stir(tick_timer.reading());
     }
 
-    // Gives a tick, a nudge or a datagram to the replica as a part of the group. Logs what changed, and records an
-    // installed snapshot for the events.
+    // Gives a tick, a nudge or a datagram to the replica as a part of the group. Takes the digest of its state, if one
+    // is due. Logs what changed, and records an installed snapshot for the events.
     fn add_input<L: Log>(
         &mut self,
         input: Input,
@@ -73,12 +73,16 @@ impl<R: ServerReplica, S: DatagramSocket + Drop> Server<R, S> {
             (R.Takes self.old.replica group.old input.entry self.new.replica group.new) }
         ensures silent { OnErr result
             (SaysNoMore R.Says R.Gathers (heard_by input.entry ∷ []) group.old self.old.replica self.new.replica) }
-        ensures others { self.new ≡ record self.old { replica = self.new.replica; failed = self.new.failed } }
+        // However it ends, the digest of the state is taken then, if one is due.
+        ensures digests { R.KeepsDigest self.new.replica self.old.digest self.new.digest }
+        ensures others { self.new
+            ≡ record self.old { replica = self.new.replica; failed = self.new.failed; digest = self.new.digest } }
         ensures broken { OnErr result (self.new.failed ≡ true) }
     {
         let before = self.replica.status();
         let said = group.letters().len();
         let gathered = self.replica.gather(input, group);
+        self.note_digest();
         let after = self.replica.status();
         self.events.note_installed(came, &before, &after);
         self.table = self.table.after_step(&before, &after);
@@ -121,7 +125,12 @@ impl<R: ServerReplica, S: DatagramSocket + Drop> Server<R, S> {
         // However it ends, that is counted.
         ensures ticks { self.new.ticks ≡ one_more_tick self.old.ticks }
         ensures others { self.new
-            ≡ record self.old { replica = self.new.replica; failed = self.new.failed; ticks = self.new.ticks } }
+            ≡ record self.old {
+              replica = self.new.replica;
+              failed = self.new.failed;
+              digest = self.new.digest;
+              ticks = self.new.ticks;
+            } }
         ensures broken { OnErr result (self.new.failed ≡ true) }
     {
         self.ticks = self.ticks.saturating_add(1);

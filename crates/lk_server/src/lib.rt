@@ -13,6 +13,7 @@ mod pausing;
 mod probing;
 pub mod server;
 mod socket_input;
+mod state_digests;
 pub mod turn_events;
 mod watch_handling;
 pub mod watching;

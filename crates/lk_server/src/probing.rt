@@ -69,16 +69,18 @@ impl<R: ServerReplica, S: DatagramSocket + Drop> Server<R, S> {
         self.watches.len() as u16
     }
 
-    // Returns whom it hears of the members that its replica shows, what its socket does with bundles, and how many
-    // watches and names it keeps.
+    // Returns whom it hears of the members that its replica shows, what its socket does with bundles, how many watches
+    // and names it keeps, and the digest that it took last.
     fn reach_of(&self, shown: &ProbedState) -> Reach
         ensures heard { result.heard ≡ heard_by shown.now.members self.now }
         ensures watches { result.watches ≡ length self.now.queue.waiters }
         ensures names { result.names ≡ shown.now.names }
+        ensures state { result.state ≡ self.now.digest }
     {
         shown.members.facts();
         let heard = self.heard_of(shown.members.as_slice());
-        self.post.reach(heard, self.count_watches(), shown.names)
+        let watches = self.count_watches();
+        self.post.reach(heard, watches, shown.names, self.digest)
     }
 
     // Returns the version of the lock table, which it reads if that is unknown.
@@ -90,11 +92,12 @@ impl<R: ServerReplica, S: DatagramSocket + Drop> Server<R, S> {
     }
 
     // Returns the report that replies to a probe: the server's status, with what its replica shows now, and whom it
-    // hears and how many watches and names it keeps now, if the probe asks for that.
+    // hears, how many watches and names it keeps now and the digest that it took last, if the probe asks for that.
     fn report(&self, asked: &ReceivedProbe) -> ProbeDatagram
         ensures { (shown : ProbedStateValue) × R.Shows self.now.replica shown
             × IsReportTo self.now.node self.now.addresses.seals.genesis (periods self.now)
-            (heard_by shown.members self.now) (length self.now.queue.waiters) shown asked.now.probe result }
+            (heard_by shown.members self.now) (length self.now.queue.waiters) self.now.digest shown asked.now.probe
+            result }
     {
         let shown = self.replica.show();
         let reach = self.reach_of(&shown);

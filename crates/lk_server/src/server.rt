@@ -22,6 +22,7 @@ use lk_pacing::pace::Pace;
 use lk_pacing::sync_pause::SyncPause;
 use lk_pacing::tick_timer::{FrozenClock, TickTimer};
 use lk_pacing::turn_input::TurnInput;
+use lk_probe::StateDigest;
 use lk_replica::Group;
 use lk_server_replica::{ServerReplica, TableVersion};
 use lk_transport::network::Network;
@@ -59,6 +60,8 @@ pub struct Server<R: ServerReplica, S: DatagramSocket + Drop> {
     pub(crate) table: TableVersion,
     // its recent syncs, which decide how long it pauses before the next
     pub(crate) sync_pause: SyncPause,
+    // the digest that it took last of its replica's state
+    pub(crate) digest: StateDigest,
     // it draws the tokens of its probes
     pub(crate) tokens: TokenSource,
     // the count of periods at its last warning of a node of another genesis
@@ -86,6 +89,7 @@ impl<R: ServerReplica, S: DatagramSocket + Drop> Model for Server<R, S> {
       ticks = s.ticks;
       withheld = s.withheld;
       failed = R.failed s.replica;
+      digest = s.digest;
       sent = s.post.sent;
       socket_failures = s.post.socket_failures;
       incoming = s.post.incoming;
@@ -126,6 +130,7 @@ impl<R: ServerReplica, S: DatagramSocket + Drop> Server<R, S> {
             withheld: 0,
             unsent: 0,
             table: TableVersion::Unread,
+            digest: StateDigest::none(),
             sync_pause: SyncPause::NONE,
             tokens: TokenSource::new(),
             stranger_warned: None,

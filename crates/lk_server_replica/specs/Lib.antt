@@ -5,3 +5,4 @@ pub mod Statuses
 pub mod TableVersions
 pub mod Refusals
 pub mod Tables
+pub mod StateDigests

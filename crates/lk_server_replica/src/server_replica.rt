@@ -8,22 +8,26 @@ ghost use Rattle.lk_locks.specs.Plain.{Table};
 ghost use Rattle.lk_replica.specs.Groups.{GroupValue, IsGathered};
 ghost use Rattle.lk_replica.specs.Posts.{GivesLetters, TellsSends};
 ghost use Rattle.lk_state.specs.Packed.{packed};
+ghost use Rattle.lk_probe.specs.declared.state_digest.StateDigest.{StateDigest as StateDigestValue};
 ghost use Rattle.lk_server_replica.specs.Sayings.{GathersOf, SaysOf};
 ghost use Rattle.lk_server_replica.specs.Groups.{GathersMore, SaysNoMore};
 ghost use Rattle.lk_server_replica.specs.Showing.{IsShown};
 ghost use Rattle.lk_server_replica.specs.Refusals.{IsOfGroups};
 ghost use Rattle.lk_server_replica.specs.Statuses.{IsStatusOf};
+ghost use Rattle.lk_server_replica.specs.StateDigests.{KeepsDigestOf};
 ghost use Rattle.lk_server_replica.specs.Tables.{table_of};
 ghost use Rattle.lk_server_replica.specs.TableVersions.{TellsRaised};
 ghost use Rattle.lk_server_replica.specs.declared.probed_state.ProbedState.{ProbedState as ProbedStateValue};
 
 use crate::probed_state::ProbedState;
 use crate::replica_status::ReplicaStatus;
+use crate::state_digests::next_digest;
 use crate::table_machine::TableMachine;
 use crate::table_version::is_raised;
 use lk_disk::LogDisk;
 use lk_locks::LockTable;
 use lk_node_interface::{Input, Post, ReplicaFault};
+use lk_probe::StateDigest;
 use lk_replica::{Group, Replica};
 use std::alloc::Global;
 
@@ -51,6 +55,9 @@ pub trait ServerReplica: Sized + Drop {
 
     /// The lock table that it has executed.
     ghost table: { Self → Table };
+
+    /// Whether its server, which kept the first of these digests, may now keep the second.
+    ghost KeepsDigest: { Self → StateDigestValue → StateDigestValue → Type 0 };
 
     /// Returns an empty group, for `gather` and `release`.
     fn new_group(&self, alloc: Global) -> Group
@@ -103,6 +110,11 @@ pub trait ServerReplica: Sized + Drop {
     /// Returns the lock table that it has executed.
     fn table(&self) -> &LockTable
         ensures { result.now ≡ table self.now };
+
+    /// Returns the digest that its server keeps after a step: that of its state at each multiple of 64 positions, else
+    /// `kept`. Out of memory it returns `kept`, and takes the digest at the next step, unless that executes more.
+    fn next_digest(&self, kept: StateDigest) -> StateDigest
+        ensures { KeepsDigest self.now kept result };
 }
 
 impl<M: TableMachine, D: LogDisk + Drop> ServerReplica for Replica<M, D> {
@@ -122,6 +134,8 @@ impl<M: TableMachine, D: LogDisk + Drop> ServerReplica for Replica<M, D> {
     ghost IsRaised = { λ r. TellsRaised M.meaning M.IsText (packed r.node.learner.whole) };
 
     ghost table = { table_of };
+
+    ghost KeepsDigest = { KeepsDigestOf };
 
     fn new_group(&self, alloc: Global) -> Group {
         Group::new(alloc)
@@ -159,5 +173,9 @@ impl<M: TableMachine, D: LogDisk + Drop> ServerReplica for Replica<M, D> {
 
     fn table(&self) -> &LockTable {
         self.node().machine().table()
+    }
+
+    fn next_digest(&self, kept: StateDigest) -> StateDigest {
+        next_digest(self.node(), kept)
     }
 }

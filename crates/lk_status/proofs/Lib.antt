@@ -1,3 +1,4 @@
+mod Agreeing
 mod Serving
 mod Gathered
 mod Measuring

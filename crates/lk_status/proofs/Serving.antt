@@ -10,6 +10,8 @@ use Rattle.lk_probe.specs.declared.probe.Report.{Report}
 use Rattle.lk_probe.specs.Grammar.{heard_of}
 use Rattle.lk_status.specs.Verdicts.{IsAmong, has_followers, IsServed, some_leads, all_name, one_genesis, is_served}
 use Rattle.lk_status.specs.Verdicts.{hears_enough, HearsMajority, is_enough}
+use Rattle.lk_status.specs.States.{one_state}
+use Rattle.lk_status.proofs.Agreeing.{agree_to, agree_from}
 
 both_true : (a b : Bool) → (a && b) ≡ true → (a ≡ true) × (b ≡ true)
 both_true true b e = (refl, e)
@@ -119,7 +121,8 @@ one_from (r ∷ rs) leader all =
 
 pub is_right : (rs : List Report) → is_served rs ≡ true → IsServed rs
 is_right rs e =
-    let both = both_true (some_leads rs rs) (one_genesis rs) e in
+    let all = both_true (some_leads rs rs && one_genesis rs) (one_state rs) e in
+    let both = both_true (some_leads rs rs) (one_genesis rs) all.0 in
     let it = leads_to rs rs both.0 in
     record {
       leader = it.leader;
@@ -128,6 +131,7 @@ is_right rs e =
       majority = ltb-true _ _ it.majority;
       hears = heard_to it.leader it.hears;
       one_genesis = one_to rs it.leader it.is_there both.1;
+      one_state = agree_to rs all.1;
     }
 
 pub is_shown : (rs : List Report) → IsServed rs → is_served rs ≡ true
@@ -135,4 +139,5 @@ is_shown rs s =
     rw (
       leads_from rs rs s.leader s.is_there s.leads (heard_from s.leader s.hears) (lt-ltb _ _ s.majority),
       one_from rs s.leader s.one_genesis,
+      agree_from rs s.one_state,
     ) refl

@@ -1,4 +1,5 @@
 pub mod Verdicts
+pub mod States
 pub mod Rounds
 pub mod Measures
 pub mod Targets

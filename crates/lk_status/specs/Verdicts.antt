@@ -6,6 +6,7 @@ use Rattle.std.specs.List.{AllByRecursion}
 use Rattle.lk_types.specs.declared.member.Member.{Member}
 use Rattle.lk_probe.specs.Grammar.{heard_of}
 use Rattle.lk_probe.specs.declared.probe.Report.{Report}
+use Rattle.lk_status.specs.States.{AgreeAll, one_state}
 
 -- it is one of the reports
 abbrev pub IsAmong : Report → List Report → Type 0
@@ -94,7 +95,8 @@ abbrev pub HearsMajority : Report → Type 0
 HearsMajority r = (heard : ℕ) → heard_of r.reach ≡ Some heard → length r.status.members < 2 * heard
 
 -- the cluster is served: a node leads, a majority of the members that it names follow it, it hears a majority where its
--- report says whom it hears, and all reports name its genesis
+-- report says whom it hears, all reports name its genesis, and those that tell a digest of their states at one position
+-- tell the same
 pub record IsServed (rs : List Report) : Type 0 where
   pub leader : Report
   pub is_there : IsAmong leader rs
@@ -102,6 +104,7 @@ pub record IsServed (rs : List Report) : Type 0 where
   pub majority : length leader.status.members < 2 * count_followers leader leader.status.members rs
   pub hears : HearsMajority leader
   pub one_genesis : AllByRecursion (λ (r : Report). r.status.identity.genesis ≡ leader.status.identity.genesis) rs
+  pub one_state : AgreeAll rs
 
 -- ---- the same as a test
 
@@ -120,7 +123,7 @@ one_genesis [] = true
 one_genesis (r ∷ rs) = all_name r.status.identity.genesis (r ∷ rs)
 
 abbrev pub is_served : List Report → Bool
-is_served rs = some_leads rs rs && one_genesis rs
+is_served rs = some_leads rs rs && one_genesis rs && one_state rs
 
 -- each has executed at least so many positions
 abbrev pub all_have : ℕ → List Report → Bool

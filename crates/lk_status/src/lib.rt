@@ -5,5 +5,6 @@ pub mod asking;
 pub mod change;
 pub mod look;
 pub mod measure;
+pub mod states;
 pub mod target;
 pub mod verdict;

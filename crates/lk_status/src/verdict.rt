@@ -6,6 +6,7 @@ ghost use Rattle.lk_status.specs.Verdicts.{all_follow, count_followers, follows,
 ghost use Rattle.lk_status.specs.Verdicts.{hears_enough, is_enough, is_led_by, is_same_ballot, leads_all, names};
 ghost use Rattle.lk_status.specs.Verdicts.{some_leads, all_name, one_genesis, is_served, all_have, is_ready};
 
+use crate::states::has_one_state;
 use lk_probe::{DIGEST, Report};
 use lk_types::{Member, NodeNo};
 
@@ -206,15 +207,16 @@ pub fn has_one_genesis(reports: &[Report]) -> bool
     }
 }
 
-// Whether one leads with a majority, and all name one genesis: the test of `is_served`.
+// Whether one leads with a majority, all name one genesis, and no two hold different states: the test of `is_served`.
 fn is_quorate(reports: &[Report]) -> bool
     ensures { result ≡ is_served reports.now }
 {
-    some_leads(reports, reports) && has_one_genesis(reports)
+    some_leads(reports, reports) && has_one_genesis(reports) && has_one_state(reports)
 }
 
-/// Whether a node leads that hears a majority, a majority of the members that it names follow it, and all reports name
-/// one genesis. A report that does not say whom its node hears counts as one of a node that hears a majority.
+/// Whether a node leads that hears a majority, a majority of the members that it names follow it, all reports name one
+/// genesis, and no two tell different states at one position. A report that does not say whom its node hears counts as
+/// one of a node that hears a majority, and one without a digest differs from none.
 pub fn is_served(reports: &[Report]) -> bool
     ensures value { result ≡ is_served reports.now }
     ensures served { IsTrue result ↔ IsServed reports.now }

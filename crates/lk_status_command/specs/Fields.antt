@@ -7,7 +7,7 @@ use Rattle.lk_status_command.specs.declared.field.Field.{Field}
 use Rattle.lk_status_command.specs.declared.field.Field.TheVariants.{Leads, Leader, Silence, Promised, Executed}
 use Rattle.lk_status_command.specs.declared.field.Field.TheVariants.{Snapshot}
 use Rattle.lk_status_command.specs.declared.field.Field.TheVariants.{Members, Pending, Waiting, Unread, Unsent, Ticks}
-use Rattle.lk_status_command.specs.declared.field.Field.TheVariants.{Format, Watches, Names}
+use Rattle.lk_status_command.specs.declared.field.Field.TheVariants.{Format, Watches, Names, State}
 use Rattle.lk_status_command.specs.declared.field.Field.TheVariants.{Table, Heard, ReadsBundles, SendsBundles}
 
 -- the node that a report takes for the leader, or 0: a leader takes itself for it
@@ -31,6 +31,11 @@ watches_in (Some t) = Some t.watches
 abbrev pub names_in : Option Reach → Option ℕ
 names_in None = None
 names_in (Some t) = Some t.names
+
+-- the position of the digest of a node's state, if that is said
+abbrev pub state_in : Option Reach → Option ℕ
+state_in None = None
+state_in (Some t) = Some t.state.position
 
 -- the number of a field that each report has
 abbrev pub field_number : Field → Report → ℕ
@@ -57,6 +62,7 @@ field_value ReadsBundles r = reads_in r.reach
 field_value SendsBundles r = sends_in r.reach
 field_value Watches r = watches_in r.reach
 field_value Names r = names_in r.reach
+field_value State r = state_in r.reach
 field_value field r = Some (field_number field r)
 
 -- its name in JSON, and in a metric
@@ -80,6 +86,7 @@ field_name ReadsBundles = codes "reads_bundles"
 field_name SendsBundles = codes "sends_bundles"
 field_name Watches = codes "watches"
 field_name Names = codes "names"
+field_name State = codes "state_position"
 
 -- it only grows until the node restarts
 abbrev pub is_counter : Field → Bool
@@ -113,10 +120,11 @@ field_help ReadsBundles = codes "Whether it reads bundles."
 field_help SendsBundles = codes "Whether it sends bundles."
 field_help Watches = codes "Watches that it keeps."
 field_help Names = codes "Names that its lock table has, free ones too: 512 at most."
+field_help State = codes "Position at which it took the last digest of its state, 0 for none."
 
 -- all of them, in the order in which they are printed
 abbrev pub all_fields : List Field
 all_fields =
     Leads ∷ Leader ∷ Silence ∷ Promised ∷ Executed ∷ Snapshot ∷ Members ∷ Pending
     ∷ Waiting ∷ Unread ∷ Unsent ∷ Ticks ∷ Format ∷ Table ∷ Heard ∷ ReadsBundles ∷ SendsBundles
-    ∷ Watches ∷ Names ∷ []
+    ∷ Watches ∷ Names ∷ State ∷ []

@@ -7,6 +7,7 @@ use Rattle.lk_types.specs.declared.member.Member.{Member}
 use Rattle.lk_probe.specs.declared.probe.Report.{Report}
 use Rattle.lk_probe.specs.declared.status.Version.{Version}
 use Rattle.lk_status.specs.Rounds.{report_of}
+use Rattle.lk_status.specs.States.{is_rivalled, one_state}
 use Rattle.lk_status.specs.Verdicts.{count_reporting, is_served, one_genesis}
 use Rattle.lk_status.specs.declared.target.Target.{Target}
 use Rattle.lk_status_command.specs.Fields.{field_name, field_value, all_fields}
@@ -35,6 +36,10 @@ abbrev pub number_part : List ℕ → Option ℕ → List ℕ
 number_part name None = []
 number_part name (Some n) = codes ",\"" ++ (name ++ (codes "\":" ++ decimal n))
 
+-- a named truth value
+abbrev pub truth_part : List ℕ → Bool → List ℕ
+truth_part name is = codes ",\"" ++ (name ++ (codes "\":" ++ truth is))
+
 abbrev pub field_part : Report → Field → List ℕ
 field_part r field = number_part (field_name field) (field_value field r)
 
@@ -53,10 +58,15 @@ numbers (m ∷ ms) = decimal m.node ++ more_numbers ms
 abbrev pub members_part : List Member → List ℕ
 members_part ms = codes ",\"member_nodes\":[" ++ (numbers ms ++ 93 ∷ [])
 
-abbrev pub report_part : Report → List ℕ
-report_part r =
+-- whether at least as many of the nodes hold another state
+abbrev pub differs_part : List Report → Report → List ℕ
+differs_part rs r = truth_part (codes "state_differs") (is_rivalled rs r)
+
+abbrev pub report_part : List Report → Report → List ℕ
+report_part rs r =
     program_part r.node r.status.identity.program
-    ++ (genesis_part r.status.identity.genesis ++ (fields_part r ++ members_part r.status.members))
+    ++ (genesis_part r.status.identity.genesis
+    ++ (fields_part r ++ (differs_part rs r ++ members_part r.status.members)))
 
 -- ---- of the targets
 
@@ -64,14 +74,14 @@ report_part r =
 abbrev pub up_part : ℕ → List ℕ
 up_part port = codes "{\"port\":" ++ (decimal port ++ codes ",\"up\":true")
 
--- the target at this port, by its report
-abbrev pub target_object : ℕ → Option Report → List ℕ
-target_object port None = codes "{\"port\":" ++ (decimal port ++ codes ",\"up\":false}")
-target_object port (Some r) = up_part port ++ (report_part r ++ 125 ∷ [])
+-- the target at this port, by its report among those of all
+abbrev pub target_object : List Report → ℕ → Option Report → List ℕ
+target_object rs port None = codes "{\"port\":" ++ (decimal port ++ codes ",\"up\":false}")
+target_object rs port (Some r) = up_part port ++ (report_part rs r ++ 125 ∷ [])
 
 -- the target whose probe carries this token
 abbrev pub object_of : List Report → ℕ → Target → List ℕ
-object_of rs token t = target_object t.port (report_of token rs)
+object_of rs token t = target_object rs t.port (report_of token rs)
 
 -- these targets, each after a comma
 abbrev pub more_objects : ℕ → List Target → List Report → List ℕ
@@ -93,6 +103,10 @@ head_part cluster served one =
 abbrev pub verdict_part : ℕ → List Report → List ℕ
 verdict_part cluster rs = head_part cluster (is_served rs) (one_genesis rs)
 
+-- whether no two nodes hold different states at one position
+abbrev pub one_state_part : List Report → List ℕ
+one_state_part rs = truth_part (codes "one_state") (one_state rs)
+
 -- so many of so many members report
 abbrev pub counts_part : ℕ → ℕ → List ℕ
 counts_part reporting count =
@@ -107,4 +121,5 @@ majority_part (Some measure) rs =
 abbrev pub json_text : ℕ → ℕ → List Target → List Report → Option Report → List ℕ
 json_text cluster first ts rs measure =
     verdict_part cluster rs
-    ++ (majority_part measure rs ++ (codes ",\"nodes\":[" ++ (objects first ts rs ++ codes "]}\n")))
+    ++ (one_state_part rs
+    ++ (majority_part measure rs ++ (codes ",\"nodes\":[" ++ (objects first ts rs ++ codes "]}\n"))))

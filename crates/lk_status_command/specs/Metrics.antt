@@ -7,6 +7,7 @@ use Rattle.lk_probe.specs.Grammar.{flag}
 use Rattle.lk_probe.specs.declared.probe.Report.{Report}
 use Rattle.lk_status.specs.Rounds.{has_token, report_of}
 use Rattle.lk_status.specs.Targets.{target_address}
+use Rattle.lk_status.specs.States.{is_rivalled, one_state}
 use Rattle.lk_status.specs.Verdicts.{count_reporting, is_served, one_genesis}
 use Rattle.lk_status.specs.declared.target.Inquiry.{Inquiry}
 use Rattle.lk_status.specs.declared.target.Target.{Target}
@@ -38,6 +39,11 @@ abbrev pub genesis_text : ℕ → List Report → List ℕ
 genesis_text cluster rs =
     gauge_text cluster (codes "one_genesis") (codes "Whether all nodes tell one genesis.") (flag (one_genesis rs))
 
+abbrev pub one_state_text : ℕ → List Report → List ℕ
+one_state_text cluster rs =
+    gauge_text cluster (codes "one_state") (codes "Whether no two nodes hold different states at one position.")
+    (flag (one_state rs))
+
 -- how many members of the measure report
 abbrev pub members_up : Option Report → List Report → ℕ
 members_up None rs = 0
@@ -49,7 +55,8 @@ members_up_text cluster measure rs =
 
 abbrev pub verdict_text : ℕ → Option Report → List Report → List ℕ
 verdict_text cluster measure rs =
-    served_text cluster rs ++ (genesis_text cluster rs ++ members_up_text cluster measure rs)
+    served_text cluster rs
+    ++ (genesis_text cluster rs ++ (one_state_text cluster rs ++ members_up_text cluster measure rs))
 
 -- ---- of the targets and their nodes
 
@@ -86,6 +93,22 @@ up_text first i rs =
     head_text (codes "up") (codes "gauge") (codes "Whether the node at this address and port answers.")
     ++ up_lines first i rs
 
+abbrev pub differs_sample : Inquiry → ℕ → Target → Bool → List ℕ
+differs_sample i node t differs = sample_text (codes "state_differs") i (Some node) t (flag differs)
+
+-- whether at least as many nodes hold another state than that of a target's report, if there is one
+abbrev pub differs_line : Inquiry → List Report → Target → Option Report → List ℕ
+differs_line i rs t None = []
+differs_line i rs t (Some r) = differs_sample i r.node t (is_rivalled rs r)
+
+abbrev pub differs_lines : ℕ → Inquiry → List Report → List ℕ
+differs_lines first i rs = by_token (λ token t. differs_line i rs t (report_of token rs)) first i.targets.items
+
+abbrev pub differs_text : ℕ → Inquiry → List Report → List ℕ
+differs_text first i rs =
+    head_text (codes "state_differs") (codes "gauge")
+    (codes "Whether as many nodes or more hold another state at its position.") ++ differs_lines first i rs
+
 -- the sample of a target's node, if it has a value
 abbrev pub value_line : List ℕ → Inquiry → ℕ → Target → Option ℕ → List ℕ
 value_line name i node t None = []
@@ -112,4 +135,4 @@ fields_text first i rs = flat_map (field_text first i rs) all_fields
 
 abbrev pub metrics_text : ℕ → Inquiry → List Report → Option Report → List ℕ
 metrics_text first i rs measure =
-    verdict_text i.cluster measure rs ++ (up_text first i rs ++ fields_text first i rs)
+    verdict_text i.cluster measure rs ++ (up_text first i rs ++ (differs_text first i rs ++ fields_text first i rs))

@@ -2,7 +2,7 @@
 ghost use Rattle.std.specs.Prelude.{◌≡◌};
 ghost use Rattle.lk_probe.specs.Grammar.{heard_of, or_zero};
 ghost use Rattle.lk_status_command.specs.Fields.{field_name, field_kind, field_help, field_value, reads_in, sends_in};
-ghost use Rattle.lk_status_command.specs.Fields.{field_number, names_in, presumed_in, watches_in};
+ghost use Rattle.lk_status_command.specs.Fields.{field_number, names_in, presumed_in, state_in, watches_in};
 
 use lk_probe::{Reach, Report};
 use lk_types::NodeNo;
@@ -29,10 +29,11 @@ pub enum Field {
     SendsBundles,
     Watches,
     Names,
+    State,
 }
 
 /// All of them, in the order in which they are printed.
-pub const FIELDS: [Field; 19] = [
+pub const FIELDS: [Field; 20] = [
     Field::Leads,
     Field::Leader,
     Field::Silence,
@@ -52,6 +53,7 @@ pub const FIELDS: [Field; 19] = [
     Field::SendsBundles,
     Field::Watches,
     Field::Names,
+    Field::State,
 ];
 
 // The number of a node, or 0.
@@ -115,6 +117,16 @@ pub fn names_kept(reach: &Option<Reach>) -> Option<u64>
     }
 }
 
+// Returns the position of the digest of a node's state, 0 if it has none yet; `None` if it does not say it.
+fn state_position(reach: &Option<Reach>) -> Option<u64>
+    ensures { result ≡ state_in reach.now }
+{
+    match reach {
+        Some(reach) => Some(reach.state.position.get()),
+        None => None,
+    }
+}
+
 // Returns how many members a node hears, `None` if it does not say it.
 fn members_heard(report: &Report) -> Option<u64>
     ensures { result ≡ heard_of report.now.reach }
@@ -150,6 +162,7 @@ impl Field {
             Field::SendsBundles => "sends_bundles",
             Field::Watches => "watches",
             Field::Names => "names",
+            Field::State => "state_position",
         }
     }
 
@@ -187,6 +200,7 @@ impl Field {
             Field::SendsBundles => "Whether it sends bundles.",
             Field::Watches => "Watches that it keeps.",
             Field::Names => "Names that its lock table has, free ones too: 512 at most.",
+            Field::State => "Position at which it took the last digest of its state, 0 for none.",
         }
     }
 
@@ -214,7 +228,8 @@ impl Field {
             | Field::ReadsBundles
             | Field::SendsBundles
             | Field::Watches
-            | Field::Names => 0,
+            | Field::Names
+            | Field::State => 0,
         }
     }
 
@@ -228,6 +243,7 @@ impl Field {
             Field::SendsBundles => sends_bundles(&report.reach),
             Field::Watches => watches_kept(&report.reach),
             Field::Names => names_kept(&report.reach),
+            Field::State => state_position(&report.reach),
             _ => Some(self.number(report)),
         }
     }

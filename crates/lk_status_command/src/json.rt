@@ -6,11 +6,12 @@ ghost use Rattle.hex.specs.Hex.{encode_lower};
 ghost use Rattle.lk_status_command.specs.Json.{program_part, genesis_part, field_part, more_numbers, numbers};
 ghost use Rattle.lk_status_command.specs.Json.{members_part};
 ghost use Rattle.lk_status_command.specs.Json.{report_part, target_object, more_objects, objects, head_part};
-ghost use Rattle.lk_status_command.specs.Json.{verdict_part};
+ghost use Rattle.lk_status_command.specs.Json.{differs_part, one_state_part, truth_part, verdict_part};
 ghost use Rattle.lk_status_command.specs.Json.{counts_part, majority_part, json_text, number_part};
 
 use crate::field::{FIELDS, Field};
 use lk_probe::{DIGEST, Report};
+use lk_status::states::{has_one_state, is_rivalled};
 use lk_status::target::{Inquiry, Target, report_with};
 use lk_status::verdict::{count_reporting, has_one_genesis, is_served};
 use lk_types::Member;
@@ -113,34 +114,62 @@ fn write_program<W: Write>(report: &Report, out: &mut W) -> io::Result<()>
     )
 }
 
-// Writes what the object of a target has after its port: all that its node reports.
-fn write_report<W: Write>(report: &Report, out: &mut W) -> io::Result<()>
-    ensures { OnOk result (Appends (W.contents out.old) (W.contents out.new) (report_part report.now)) }
+// Writes a named truth value.
+fn write_truth<W: Write>(name: &str, is: bool, out: &mut W) -> io::Result<()>
+    ensures { OnOk result (Appends (W.contents out.old) (W.contents out.new) (truth_part name.now is)) }
+{
+    write!(out, ",\"{name}\":{is}")
+}
+
+// Writes whether at least as many nodes hold another state than that of a report.
+fn write_differs<W: Write>(report: &Report, reports: &[Report], out: &mut W) -> io::Result<()>
+    ensures { OnOk result (Appends (W.contents out.old) (W.contents out.new) (differs_part reports.now report.now)) }
+{
+    write_truth("state_differs", is_rivalled(report, reports), out)?;
+    Ok(())
+}
+
+// Writes what the object of a target has after its port: all that its node reports, and whether its state differs from
+// those of others.
+fn write_report<W: Write>(report: &Report, reports: &[Report], out: &mut W) -> io::Result<()>
+    ensures { OnOk result (Appends (W.contents out.old) (W.contents out.new) (report_part reports.now report.now)) }
 {
     write_program(report, out)?;
     write_genesis(&report.status.identity.genesis, out)?;
     write_fields(&FIELDS, report, out)?;
+    write_differs(report, reports, out)?;
     write_members(report.status.members.as_slice(), out)?;
     Ok(())
 }
 
 // Writes the object of the target at that port, whose node has reported.
-fn write_reporting<W: Write>(port: u16, report: &Report, out: &mut W) -> io::Result<()>
-    ensures { OnOk result (Appends (W.contents out.old) (W.contents out.new) (target_object port (Some report.now))) }
+fn write_reporting<W: Write>(
+    port: u16,
+    report: &Report,
+    reports: &[Report],
+    out: &mut W,
+) -> io::Result<()>
+    ensures { OnOk result (Appends (W.contents out.old) (W.contents out.new)
+        (target_object reports.now port (Some report.now))) }
 {
     write!(out, "{{\"port\":{port},\"up\":true")?;
-    write_report(report, out)?;
+    write_report(report, reports, out)?;
     out.write_all(b"}")?;
     Ok(())
 }
 
 // Writes the object of the target at that port, with only `up: false` after the port if there is no report.
-fn write_target<W: Write>(port: u16, report: Option<&Report>, out: &mut W) -> io::Result<()>
+fn write_target<W: Write>(
+    port: u16,
+    report: Option<&Report>,
+    reports: &[Report],
+    out: &mut W,
+) -> io::Result<()>
     ensures { OnOk result (Appends (W.contents out.old) (W.contents out.new)
-        (target_object port (option_copied report.entry))) }
+        (target_object reports.now port (option_copied report.entry))) }
 {
     match report {
-        Some(report) => write_reporting(port, report, out)?,
+        Some(report) => write_reporting(port, report, reports, out)?,
         None => write!(out, "{{\"port\":{port},\"up\":false}}")?,
     }
     Ok(())
@@ -148,12 +177,17 @@ fn write_target<W: Write>(port: u16, report: Option<&Report>, out: &mut W) -> io
 
 // Writes a comma, then the object of the target.
 #[tactic(auto, using(lk_types::proofs::Appending::appends_more))]
-fn write_next<W: Write>(port: u16, report: Option<&Report>, out: &mut W) -> io::Result<()>
+fn write_next<W: Write>(
+    port: u16,
+    report: Option<&Report>,
+    reports: &[Report],
+    out: &mut W,
+) -> io::Result<()>
     ensures { OnOk result (Appends (W.contents out.old) (W.contents out.new)
-        (44 ∷ target_object port (option_copied report.entry))) }
+        (44 ∷ target_object reports.now port (option_copied report.entry))) }
 {
     out.write_all(b",")?;
-    write_target(port, report, out)?;
+    write_target(port, report, reports, out)?;
     Ok(())
 }
 
@@ -170,7 +204,8 @@ fn write_more_targets<W: Write>(
 {
     let mut token = first;
     'targets: for target in targets {
-        write_next(target.port.get(), report_with(reports, token), out)?;
+        let report = report_with(reports, token);
+        write_next(target.port.get(), report, reports, out)?;
         token = token.wrapping_add(1);
     }
     Ok(())
@@ -189,7 +224,8 @@ fn write_targets<W: Write>(
     let [target, others @ ..] = targets else {
         return Ok(());
     };
-    write_target(target.port.get(), report_with(reports, first), out)?;
+    let report = report_with(reports, first);
+    write_target(target.port.get(), report, reports, out)?;
     write_more_targets(first.wrapping_add(1), others, reports, out)?;
     Ok(())
 }
@@ -202,6 +238,14 @@ fn write_head<W: Write>(cluster: u64, served: bool, one: bool, out: &mut W) -> i
         out,
         "{{\"cluster\":{cluster},\"served\":{served},\"one_genesis\":{one}"
     )
+}
+
+// Writes whether no two nodes hold different states at one position.
+fn write_one_state<W: Write>(reports: &[Report], out: &mut W) -> io::Result<()>
+    ensures { OnOk result (Appends (W.contents out.old) (W.contents out.new) (one_state_part reports.now)) }
+{
+    write_truth("one_state", has_one_state(reports), out)?;
+    Ok(())
 }
 
 // Writes the cluster and the verdict: whether it is served, and whether all reports name one genesis.
@@ -259,6 +303,7 @@ pub fn write_json<W: Write>(
         (json_text inquiry.now.cluster first inquiry.now.targets.items reports.now (option_copied measure.entry))) }
 {
     write_verdict(inquiry.cluster, reports, out)?;
+    write_one_state(reports, out)?;
     write_majority(measure, reports, out)?;
     out.write_all(b",\"nodes\":[")?;
     write_targets(first, inquiry.targets.as_slice(), reports, out)?;

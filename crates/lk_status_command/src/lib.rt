@@ -5,5 +5,6 @@ mod field;
 mod json;
 mod lines;
 mod prometheus;
+mod state_metric;
 pub mod status;
 pub mod withheld;

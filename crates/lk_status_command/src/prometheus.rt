@@ -8,18 +8,20 @@ ghost use Rattle.lk_status.specs.Targets.{target_address};
 ghost use Rattle.lk_status_command.specs.Metrics.{head_text, gauge_text, served_text, genesis_text, members_up};
 ghost use Rattle.lk_status_command.specs.Metrics.{members_up_text, verdict_text, node_label, place_labels, sample_text};
 ghost use Rattle.lk_status_command.specs.Metrics.{up_line, up_lines, up_text, value_line, sample_line, sample_lines};
-ghost use Rattle.lk_status_command.specs.Metrics.{field_text, metrics_text};
+ghost use Rattle.lk_status_command.specs.Metrics.{field_text, metrics_text, one_state_text};
 
 use crate::field::{FIELDS, Field};
+use crate::state_metric::write_differs;
 use lk_probe::Report;
+use lk_status::states::has_one_state;
 use lk_status::target::{Inquiry, Target, is_reported, report_with};
 use lk_status::verdict::{count_reporting, has_one_genesis, is_served};
 use lk_types::NodeNo;
 use std::io;
 use std::io::Write;
 
-// Writes the HELP and TYPE lines of a metric.
-fn write_head<W: Write>(name: &str, kind: &str, help: &str, out: &mut W) -> io::Result<()>
+/// Writes the HELP and TYPE lines of a metric.
+pub fn write_head<W: Write>(name: &str, kind: &str, help: &str, out: &mut W) -> io::Result<()>
     ensures { OnOk result (Appends (W.contents out.old) (W.contents out.new) (head_text name.now kind.now help.now)) }
 {
     write!(
@@ -78,6 +80,15 @@ fn write_genesis<W: Write>(cluster: u64, reports: &[Report], out: &mut W) -> io:
     Ok(())
 }
 
+// Writes whether no two nodes hold different states at one position.
+fn write_one_state<W: Write>(cluster: u64, reports: &[Report], out: &mut W) -> io::Result<()>
+    ensures { OnOk result (Appends (W.contents out.old) (W.contents out.new) (one_state_text cluster reports.now)) }
+{
+    let help = "Whether no two nodes hold different states at one position.";
+    write_flag(cluster, "one_state", help, has_one_state(reports), out)?;
+    Ok(())
+}
+
 // Returns how many of the measure's members have reported, 0 without a measure.
 fn members_up(measure: Option<&Report>, reports: &[Report]) -> u64
     ensures { result ≡ members_up (option_copied measure.entry) reports.now }
@@ -109,8 +120,7 @@ fn write_members_up<W: Write>(
     Ok(())
 }
 
-// Writes the gauges of the cluster: whether it is served and has one genesis, and how many members are up.
-#[tactic(auto, using(lk_types::proofs::Appending::appends_more))]
+// Writes the gauges of the cluster: whether it is served, has one genesis and one state, and how many members are up.
 fn write_verdict<W: Write>(
     cluster: u64,
     measure: Option<&Report>,
@@ -122,6 +132,7 @@ fn write_verdict<W: Write>(
 {
     write_served(cluster, reports, out)?;
     write_genesis(cluster, reports, out)?;
+    write_one_state(cluster, reports, out)?;
     write_members_up(cluster, measure, reports, out)?;
     Ok(())
 }
@@ -146,9 +157,9 @@ fn write_place<W: Write>(inquiry: &Inquiry, target: &Target, out: &mut W) -> io:
     write!(out, ",address=\"{address}\",port=\"{port}\"}} ")
 }
 
-// Writes the sample of a metric for a target, with the label of its node, if the number is known.
+/// Writes the sample of a metric for a target, with the label of its node, if the number is known.
 #[tactic(auto, using(lk_types::proofs::Appending::appends_more))]
-fn write_sample<W: Write>(
+pub fn write_sample<W: Write>(
     name: &str,
     inquiry: &Inquiry,
     node: Option<NodeNo>,
@@ -307,8 +318,8 @@ fn write_fields<W: Write>(
     Ok(())
 }
 
-/// Writes the gauges of the cluster, `locks_up` of each target, and each field of each report. `first` is the token of
-/// the first target, `measure` the report whose members are counted.
+/// Writes the gauges of the cluster, `locks_up` of each target, `locks_state_differs` of each node, and each field of
+/// each report. `first` is the token of the first target, `measure` the report whose members are counted.
 pub fn write_metrics<W: Write>(
     inquiry: &Inquiry,
     first: u64,
@@ -321,6 +332,7 @@ pub fn write_metrics<W: Write>(
 {
     write_verdict(inquiry.cluster, measure, reports, out)?;
     write_up(inquiry, first, reports, out)?;
+    write_differs(inquiry, first, reports, out)?;
     write_fields(&FIELDS, inquiry, first, reports, out)?;
     Ok(())
 }

@@ -8,6 +8,7 @@ use Rattle.lk_probe.specs.Grammar.{heard_of}
 use Rattle.lk_probe.specs.declared.probe.Report.{Report}
 use Rattle.lk_probe.specs.declared.reach.Reach.{Reach}
 use Rattle.lk_status.specs.Verdicts.{seeks_votes, one_genesis, has_followers, has_majority, has_reported, hears_enough}
+use Rattle.lk_status_reasons.specs.States.{states_reason}
 
 -- ---- whom a node follows
 
@@ -203,6 +204,11 @@ bundles_reason rs = if some_send rs then flat_map unread_reason rs else []
 
 -- ---- of all
 
+-- what the reports show, by the members of the measure
+abbrev pub shown_text : Report → List Report → List ℕ
+shown_text measure rs =
+    geneses_reason rs ++ (states_reason rs ++ (members_reason measure rs ++ bundles_reason rs))
+
 abbrev pub why_text : Option Report → List Report → List ℕ
 why_text None rs = nobody_line
-why_text (Some measure) rs = geneses_reason rs ++ (members_reason measure rs ++ bundles_reason rs)
+why_text (Some measure) rs = shown_text measure rs

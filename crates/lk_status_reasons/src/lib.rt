@@ -2,4 +2,5 @@
 #![tactic(auto)]
 
 pub mod node_reason;
+mod state_reason;
 pub mod why;

@@ -7,9 +7,11 @@ ghost use Rattle.lk_status_reasons.specs.Reasons.{follows, followed, hears, node
 ghost use Rattle.lk_status_reasons.specs.Reasons.{mute_text, silent_text, unless_reported, silent_in, cause_text};
 ghost use Rattle.lk_status_reasons.specs.Reasons.{remedy_text, leaderless_line, unfollowed_line, unfollowed_reason};
 ghost use Rattle.lk_status_reasons.specs.Reasons.{geneses_reason, leader_reason, leaders_reason, members_reason, reads};
-ghost use Rattle.lk_status_reasons.specs.Reasons.{sends, some_send, unread_reason, bundles_reason, why_text};
+ghost use Rattle.lk_status_reasons.specs.Reasons.{sends, some_send, unread_reason, bundles_reason, shown_text};
+ghost use Rattle.lk_status_reasons.specs.Reasons.{why_text};
 
 use crate::node_reason::{SILENT, hears, write_node};
+use crate::state_reason::write_states;
 use lk_probe::Report;
 use lk_status::verdict::{
     has_followers, has_majority, has_one_genesis, has_reported, hears_enough, seeks_votes,
@@ -313,8 +315,19 @@ fn write_bundles<W: Write>(reports: &[Report], out: &mut W) -> io::Result<()>
     Ok(())
 }
 
+// Writes what the reports show, by the members of the measure: two geneses, states that differ, what is wrong with
+// majority, leader and nodes, and who may not read bundles.
+fn write_shown<W: Write>(measure: &Report, reports: &[Report], out: &mut W) -> io::Result<()>
+    ensures { OnOk result (Appends (W.contents out.old) (W.contents out.new) (shown_text measure.now reports.now)) }
+{
+    write_geneses(reports, out)?;
+    write_states(reports, out)?;
+    write_reasons(measure, reports, out)?;
+    write_bundles(reports, out)?;
+    Ok(())
+}
+
 /// Writes in words why requests may not be answered, if the reports show it.
-#[tactic(auto, using(lk_types::proofs::Appending::appends_more))]
 pub fn write_why<W: Write>(
     measure: Option<&Report>,
     reports: &[Report],
@@ -324,11 +337,7 @@ pub fn write_why<W: Write>(
         (why_text (option_copied measure.entry) reports.now)) }
 {
     match measure {
-        Some(measure) => {
-            write_geneses(reports, out)?;
-            write_reasons(measure, reports, out)?;
-            write_bundles(reports, out)?;
-        }
+        Some(measure) => write_shown(measure, reports, out)?,
         None => write_nobody(out)?,
     }
     Ok(())

@@ -19,7 +19,7 @@ use lk_hearing::token_source::TokenSource;
 use lk_node_interface::{SendFault, To};
 use lk_probe::neighbours::Origin;
 use lk_probe::reported::Reported;
-use lk_probe::{Probe, Reach};
+use lk_probe::{Probe, Reach, StateDigest};
 use lk_types::{Member, NodeNo, Port};
 use std::net::SocketAddr;
 
@@ -172,11 +172,12 @@ impl<S: DatagramSocket + Drop> SocketPost<S> {
     }
 
     /// Returns the reach to report of a node that hears this many members, or does not find that out, and keeps that
-    /// many watches and names: with what its socket does with bundles.
-    pub fn reach(&self, heard: Option<u8>, watches: u16, names: u16) -> Reach
+    /// many watches and names and that digest: with what its socket does with bundles.
+    pub fn reach(&self, heard: Option<u8>, watches: u16, names: u16, state: StateDigest) -> Reach
         ensures heard { result.heard ≡ heard }
         ensures watches { result.watches ≡ watches }
         ensures names { result.names ≡ names }
+        ensures state { result.state ≡ state }
     {
         Reach {
             heard,
@@ -184,6 +185,7 @@ impl<S: DatagramSocket + Drop> SocketPost<S> {
             sends_bundles: self.socket.sends_bundles(),
             watches,
             names,
+            state,
         }
     }
 

@@ -11,6 +11,7 @@ returns g c =
     (g.W.Write.contents c.write_targets.new.out) (objects c.args.first ts c.args.reports.now)) c.as_slice.ensures.value
     c.in_ok-write_targets.ensures in
     appends_more _ _ _ _ _ c.in_ok-write_verdict.ensures
+    (appends_more _ _ _ _ _ c.in_ok-write_one_state.ensures
     (appends_more _ _ _ _ _ c.in_ok-write_majority.ensures
     (appends_more _ _ _ _ _ c.in_ok-write_all.ensures.bytes
-    (appends_more _ _ _ _ _ nodes c.in_ok-write_all-2.ensures.bytes)))
+    (appends_more _ _ _ _ _ nodes c.in_ok-write_all-2.ensures.bytes))))

@@ -33,6 +33,7 @@ datagrams-preserved g c =
           ∙ ap (λ (s : ServerValue _). record s {
             replica = new.replica;
             failed = new.failed;
+            digest = new.digest;
             received = new.received;
             ticks = new.ticks;
             addresses = new.addresses;

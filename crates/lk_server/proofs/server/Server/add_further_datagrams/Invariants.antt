@@ -14,6 +14,7 @@ invariant-datagrams g l =
     × (l.self ≡ record l.fn.self {
       replica = l.self.replica;
       failed = l.self.failed;
+      digest = l.self.digest;
       received = l.self.received;
       ticks = l.self.ticks;
       addresses = l.self.addresses;

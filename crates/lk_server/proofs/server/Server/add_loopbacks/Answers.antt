@@ -18,6 +18,7 @@ letters-preserved g c =
           ∙ ap (λ (s : ServerValue _). record s {
             replica = new.replica;
             failed = new.failed;
+            digest = new.digest;
             received = new.received;
             ticks = new.ticks;
             loopback = new.loopback;

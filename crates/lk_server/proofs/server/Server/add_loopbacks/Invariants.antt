@@ -12,6 +12,7 @@ invariant-letters g l =
     × (l.self ≡ record l.fn.self {
       replica = l.self.replica;
       failed = l.self.failed;
+      digest = l.self.digest;
       received = l.self.received;
       ticks = l.self.ticks;
       loopback = l.self.loopback;

@@ -1,0 +1,35 @@
+// The digest of a node's state at a position.
+ghost use Rattle.std.specs.Prelude.{◌≡◌};
+ghost use Rattle.lk_probe.specs.Grammar.{IsStateDigest, no_digest};
+
+use crate::status::STATE_DIGEST;
+use lk_types::Executed;
+
+/// The digest of a node's state, and the position at which the node had that state.
+#[derive(Clone, Copy)]
+pub struct StateDigest {
+    /// How many positions the node had executed then; 0 if it has no digest yet.
+    pub position: Executed,
+    /// The first 16 bytes of the SHA-256 digest of the packed state; zeros if it has none yet.
+    pub digest: [u8; STATE_DIGEST],
+}
+
+impl StateDigest {
+    /// Returns what a node reports that has no digest yet: position 0, and zeros.
+    pub fn none() -> StateDigest
+        ensures { result ≡ no_digest }
+    {
+        StateDigest {
+            position: Executed::default(),
+            digest: [0; STATE_DIGEST],
+        }
+    }
+
+    /// Shows the prover that each part is in its range. Does nothing at run time.
+    pub fn facts(&self)
+        ensures { IsStateDigest self.now }
+    {
+        let _ = self.position.get();
+        let _digest = self.digest;
+    }
+}

@@ -1,0 +1,10 @@
+use Rattle.std.proofs.Common.{Bool, subst}
+use Rattle.std.specs.Io.KnownBytes.{Appends}
+use Rattle.std.specs.Prelude.{codes}
+use Rattle.lk_status_command.specs.Json.{truth_part}
+use Rattle.lk_status_command.proofs.json.write_differs.Goals as goal
+
+pub returns : goal.returns
+returns g c =
+    subst (λ (is : Bool). Appends (g.W.Write.contents c.args.out.now) (g.W.Write.contents c.write_truth.new.out)
+    (truth_part (codes "state_differs") is)) c.is_rivalled.ensures c.in_ok-write_truth.ensures
