@@ -9,7 +9,8 @@ import tempfile
 import time
 import unittest
 
-from harness.by_bytes import Node
+from harness import frames
+from harness.by_bytes import Node, bytes_of
 from harness.cluster import Cluster, free_ports
 
 PROGRAM = os.environ.get("LOCKS_PROGRAM")
@@ -266,6 +267,51 @@ class LagTest(unittest.TestCase):
         self.node.process.kill()
         told = re.findall(r"WARN .* node 2 (fills up.*)", self.node.process.stderr.read())
         self.assertEqual(told, ["fills up: names 461 of 512"])
+
+
+@unittest.skipUnless(PROGRAM, "LOCKS_PROGRAM does not tell the program")
+class UnopenedTest(unittest.TestCase):
+    """Node 2 of three, with a key. The test stands at the port of node 1, and sends frames."""
+
+    KEY, OTHER = bytes([0x11]) * 32, bytes([0x22]) * 32
+
+    def setUp(self):
+        self.folder = self.enterContext(tempfile.TemporaryDirectory())
+        self.node = self.enterContext(Node(PROGRAM, self.folder))
+        key = os.path.join(self.enterContext(tempfile.TemporaryDirectory()), "key")
+        with open(os.open(key, os.O_CREAT | os.O_WRONLY, 0o600), "w", encoding="ascii") as file:
+            file.write(f"{self.KEY.hex()}\n")
+        self.node.words = ("--events", "--key", key)
+
+    def frame(self, key=KEY, cluster=5, alpha=1):
+        """Node 1 leads, in a frame for node 2 of a genesis with this cluster and alpha under this key."""
+        genesis = frames.genesis_digest(cluster, alpha, dict(enumerate(self.node.ports, 1)))
+        return frames.seal(key, frames.NODE, cluster, genesis, 2, bytes_of(LEAD if cluster == 5 else FOREIGN))
+
+    def told(self, frame):
+        """What node 2 tells of frames that it cannot open, while this one comes again and again."""
+        self.node.start()
+        told, last = [], ""
+        while "follows node 1" not in last:  # until the right frames behind it are heard
+            for _ in range(5):
+                self.node.send(frame)
+            if told:
+                self.node.send(self.frame())
+            last = self.node.process.stderr.readline()
+            told += re.findall(r"node 2 (cannot open frames.*)", last)
+        self.node.kill()
+        return told
+
+    def test_frames_under_another_key_or_of_another_genesis_are_told_once(self):
+        place = f"127.0.0.1:{self.node.ports[0]}"
+        why = "another --key, or another genesis under the same key"
+        for frame in (self.frame(key=self.OTHER), self.frame(alpha=2)):
+            self.assertEqual(self.told(frame), [f"cannot open frames of a node at {place}: {why}"])
+
+    def test_frames_of_another_cluster_are_told_as_such(self):
+        place = f"127.0.0.1:{self.node.ports[0]}"
+        told = self.told(self.frame(cluster=6))
+        self.assertEqual(told, [f"cannot open frames of a node at {place}: it is of cluster 6"])
 
 
 if __name__ == "__main__":

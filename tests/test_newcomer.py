@@ -24,12 +24,16 @@ class NewcomerTest(unittest.TestCase):
         for _ in range(PAIRS):
             self.client.release("db", self.client.acquire("db"))
 
-    def newcomer(self):
-        """A fourth node joins, and is started."""
+    def newcomer(self, is_early=False):
+        """A fourth node joins, and is started, or the other way round."""
         (port,) = free_ports(1)
-        self.client.join(4, port)
+        if not is_early:
+            self.client.join(4, port)
         self.cluster.ports[4] = port
         self.cluster.start(4)
+        if is_early:
+            time.sleep(2.0)  # it asks for commands while its number has not joined
+            self.client.join(4, port)
 
     def seconds_until_known(self, node):
         """The seconds until the node answers the client's last request as it was answered: until it has executed it."""
@@ -60,6 +64,10 @@ class NewcomerTest(unittest.TestCase):
             self.cluster.start(node)
             self.seconds_until_known(node)
         self.assertEqual(self.client.acquire("db"), PAIRS + 4)
+
+    def test_a_newcomer_that_starts_before_it_joins_is_given_the_state(self):
+        self.newcomer(is_early=True)
+        self.seconds_until_known(4)
 
 
 if __name__ == "__main__":

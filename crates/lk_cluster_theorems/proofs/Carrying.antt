@@ -327,15 +327,22 @@ module _ (observable : Type 0) (shown : observable) where
     turn_posts After old new none x =
         let beside : x.acts.probed.addresses.seals ≡ x.mid.addresses.seals = x.acts.probes.network.1 in
         let last : new.addresses.seals ≡ x.acts.probed.addresses.seals =
-        ap (λ (s : ServerValue ReplicaValue). s.addresses.seals)
-        (watches_change x.watched x.acts.probed new x.acts.watches) in
+        ap (λ (s : ServerValue ReplicaValue). s.addresses.seals) x.acts.hosts
+        ∙ ap (λ (s : ServerValue ReplicaValue). s.addresses.seals) x.acts.joined
+        ∙ ap (λ (s : ServerValue ReplicaValue). s.addresses.seals)
+        (watches_change x.watched x.acts.probed x.acts.told x.acts.watches) in
+        let quiet : new.sent ≡ x.acts.told.sent =
+        ap (λ (s : ServerValue ReplicaValue). s.sent) x.acts.hosts
+        ∙ ap (λ (s : ServerValue ReplicaValue). s.sent) x.acts.joined in
         let kept : x.mid.addresses.seals ≡ old.addresses.seals = sym (last ∙ beside) ∙ x.network.1 in
         let no_key : HasNoKey x.mid.addresses.seals = subst HasNoKey (sym kept) none in
         let letters = letters_in Says observable x.turn in
-        posts_both letters old.sent x.mid.sent new.sent (given_posts x.came x.frames old x.mid no_key x.turn)
-        (posts_both letters x.mid.sent x.acts.probed.sent new.sent
+        subst (λ (sent : List Frame). PostsOnly letters old.sent sent) (sym quiet)
+        (posts_both letters old.sent x.mid.sent x.acts.told.sent (given_posts x.came x.frames old x.mid no_key x.turn)
+        (posts_both letters x.mid.sent x.acts.probed.sent x.acts.told.sent
         (handled_posts letters x.asked x.reported x.mid x.acts.probed no_key x.acts.probes)
-        (watched_posts letters x.watched x.acts.probed new (subst HasNoKey (sym beside) no_key) x.acts.watches))
+        (watched_posts letters x.watched x.acts.probed x.acts.told (subst HasNoKey (sym beside) no_key)
+        x.acts.watches)))
 
     last_posts : (came : List Frame) (old new : ServerValue ReplicaValue)
         → (turn : LastTurn Says observable came old new) → PostsOnly turn.hands_on.letters old.sent new.sent

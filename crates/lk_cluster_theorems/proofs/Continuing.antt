@@ -15,6 +15,7 @@ use Rattle.lk_transport.specs.declared.received_watch.ReceivedWatch.{ReceivedWat
 use Rattle.lk_server.specs.Servers.{ServerValue, Turn, LastTurn, IsIdle}
 use Rattle.lk_probe.specs.declared.reported.Reported.{Reported}
 use Rattle.lk_transport.specs.declared.received_probe.ReceivedProbe.{ReceivedProbe}
+use Rattle.lk_transport.specs.declared.hosts.HostNews.{HostNews}
 use Rattle.lk_node_process.specs.Turns.{ActsBeside, DoesTurnWith, TellsFailure, letters_in}
 use Rattle.lk_sim.specs.Networks.{IsStillDown, RestsBy, Stops, nothing}
 use Rattle.lk_sim_nodes.specs.Rooms.{AreShort}
@@ -212,10 +213,10 @@ module _ (May : Network) (Metered observable : Type 0) where
   -- what is done beside the protocol after that
   acts_lead : (old : Cluster) (index n : ℕ) (before mid after : ServerValue ReplicaValue)
       → HasNode old index n (Up before) → (letters : List LetterValue) (notes : List Note)
-      → (asked : Option ReceivedProbe) (reported : Option Reported) (watched : Option ReceivedWatch)
-      → ActsBeside observable asked reported watched mid after
+      → (news : HostNews) (asked : Option ReceivedProbe) (reported : Option Reported)
+      (watched : Option ReceivedWatch) → ActsBeside observable news asked reported watched mid after
       → Leads (continued old index n (Up mid) letters notes) (continued old index n (Up after) letters notes)
-  acts_lead old index n before mid after at letters notes asked reported watched acts =
+  acts_lead old index n before mid after at letters notes news asked reported watched acts =
       let turned = continued old index n (Up mid) letters notes in
       let new = continued old index n (Up after) letters notes in
       let idles : Idles observable turned new = record {
@@ -231,7 +232,7 @@ module _ (May : Network) (Metered observable : Type 0) where
         was = refl;
         after = after;
         up = refl;
-        idle = inr (asked, reported, watched, acts);
+        idle = inr (news, asked, reported, watched, acts);
         adds = record {
           genesis = refl;
           sent = sym (append-nil turned.sent);
@@ -358,18 +359,18 @@ module _ (May : Network) (Metered observable : Type 0) where
       (so : (old : ReplicaValue) (given : List (Option (List ℕ))) (letters : List LetterValue) (new : ReplicaValue)
       → S old given letters new → Says Metered old given letters new) where
     -- whether a call has ended the replica is told before what is done beside the protocol as after it
-    mid_failure : (mid next : ServerValue ReplicaValue) (asked : Option ReceivedProbe) (reported : Option Reported)
-        (watched : Option ReceivedWatch) → ActsBeside observable asked reported watched mid next → TellsFailure next
-        → TellsFailure mid
-    mid_failure mid next asked reported watched acts failure =
+    mid_failure : (mid next : ServerValue ReplicaValue) (news : HostNews) (asked : Option ReceivedProbe)
+        (reported : Option Reported) (watched : Option ReceivedWatch)
+        → ActsBeside observable news asked reported watched mid next → TellsFailure next → TellsFailure mid
+    mid_failure mid next news asked reported watched acts failure =
         let as_was : next ≡ record mid {
-          addresses = acts.probed.addresses;
+          addresses = next.addresses;
           queue = next.queue;
           aged = next.aged;
           sent = next.sent;
           socket_failures = next.socket_failures;
           incoming = next.incoming;
-        } = beside_changes asked reported watched mid next acts in
+        } = beside_changes news asked reported watched mid next acts in
         sym (ap (λ (s : ServerValue ReplicaValue). s.failed) as_was) ∙ failure
         ∙ ap (λ (s : ServerValue ReplicaValue). s.replica.failed) as_was
 
@@ -406,8 +407,8 @@ module _ (May : Network) (Metered observable : Type 0) where
         let said = letters_in S observable turn.turn in
         leads_on old (continued old index n (Up mid) said notes) (continued old index n (Up next) said notes)
         (taken_leads old index n first mid at turn.came turn.frames may turn.turn
-        (mid_failure mid next turn.asked turn.reported turn.watched turn.acts turn.failure) notes traces)
-        (acts_lead old index n first mid next at said notes turn.asked turn.reported turn.watched turn.acts)
+        (mid_failure mid next turn.news turn.asked turn.reported turn.watched turn.acts turn.failure) notes traces)
+        (acts_lead old index n first mid next at said notes turn.news turn.asked turn.reported turn.watched turn.acts)
 
     -- there is something that it adds
     pub done_trace : (unforged : Unforged May) (old : Cluster) → IsSound old → (index n : ℕ)

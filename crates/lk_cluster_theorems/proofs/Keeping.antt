@@ -21,7 +21,8 @@ use Rattle.lk_transport.specs.Posts.{SendState, Becomes}
 use Rattle.lk_pacing.specs.Paces.{ticks_after, MayFollow}
 use Rattle.lk_server.specs.WatchHandling.{HandlesWatches}
 use Rattle.lk_server_replica.specs.Tables.{table_of}
-use Rattle.lk_node_process.specs.Turns.{ActsBeside}
+use Rattle.lk_transport.specs.declared.hosts.HostNews.{HostNews}
+use Rattle.lk_node_process.specs.Turns.{ActsBeside, KnowsJoined, TakesHosts}
 use Rattle.lk_transport.specs.declared.received_watch.ReceivedWatch.{ReceivedWatch}
 use Rattle.lk_server_replica.specs.Showing.{IsShown}
 use Rattle.lk_probe.specs.declared.reported.Reported.{Reported}
@@ -295,33 +296,83 @@ watches_change watched old new (inl quiet) =
     }) (sym quiet.same)
 watches_change watched old new (inr serves) = serves.same
 
--- what is done beside the protocol may change this
-pub beside_changes : {observable : Type 0} (asked : Option ReceivedProbe) (reported : Option Reported)
-    (watched : Option ReceivedWatch) (old new : ServerValue ReplicaValue)
-    → (acts : ActsBeside observable asked reported watched old new)
+-- the last steps change the addresses only
+at_last : (news : HostNews) (told noted new : ServerValue ReplicaValue) → KnowsJoined told noted
+    → TakesHosts news noted new → new ≡ record told { addresses = new.addresses }
+at_last news told noted new joined hosts =
+    ap (λ (s : ServerValue ReplicaValue). record s { addresses = new.addresses }) hosts
+    ∙ ap (λ (s : ServerValue ReplicaValue). record s { addresses = new.addresses }) joined
+
+-- what a step changed, and after it the addresses
+after_told : (old told new : ServerValue ReplicaValue) → told ≡ record old {
+  addresses = told.addresses;
+  queue = told.queue;
+  aged = told.aged;
+  sent = told.sent;
+  socket_failures = told.socket_failures;
+  incoming = told.incoming;
+}
+    → new ≡ record told { addresses = new.addresses }
     → new ≡ record old {
-      addresses = acts.probed.addresses;
+      addresses = new.addresses;
       queue = new.queue;
       aged = new.aged;
       sent = new.sent;
       socket_failures = new.socket_failures;
       incoming = new.incoming;
     }
-beside_changes asked reported watched old new acts =
-    watches_change watched acts.probed new acts.watches
-    ∙ ap (λ (s : ServerValue ReplicaValue). record s {
+after_told old told new first last =
+    ap (λ (s : ServerValue ReplicaValue). record s {
+      addresses = new.addresses;
       queue = new.queue;
       aged = new.aged;
       sent = new.sent;
       socket_failures = new.socket_failures;
       incoming = new.incoming;
-    }) acts.probes.same
+    }) (last ∙ ap (λ (s : ServerValue ReplicaValue). record s { addresses = new.addresses }) first)
+
+-- what is done beside the protocol may change this
+pub beside_changes : {observable : Type 0} (news : HostNews) (asked : Option ReceivedProbe)
+    (reported : Option Reported) (watched : Option ReceivedWatch) (old new : ServerValue ReplicaValue)
+    → (acts : ActsBeside observable news asked reported watched old new)
+    → new ≡ record old {
+      addresses = new.addresses;
+      queue = new.queue;
+      aged = new.aged;
+      sent = new.sent;
+      socket_failures = new.socket_failures;
+      incoming = new.incoming;
+    }
+beside_changes news asked reported watched old new acts =
+    let book = acts.told.addresses in
+    let told : acts.told ≡ record old {
+      addresses = book;
+      queue = acts.told.queue;
+      aged = acts.told.aged;
+      sent = acts.told.sent;
+      socket_failures = acts.told.socket_failures;
+      incoming = acts.told.incoming;
+    } =
+    ap (λ (s : ServerValue ReplicaValue). record s { addresses = book })
+    (watches_change watched acts.probed acts.told acts.watches)
+    ∙ ap (λ (s : ServerValue ReplicaValue). record s {
+      addresses = book;
+      queue = acts.told.queue;
+      aged = acts.told.aged;
+      sent = acts.told.sent;
+      socket_failures = acts.told.socket_failures;
+      incoming = acts.told.incoming;
+    }) acts.probes.same in
+    let last : new ≡ record acts.told { addresses = new.addresses } =
+    at_last news acts.told acts.noted new acts.joined acts.hosts in
+    after_told old acts.told new told last
 
 -- by an idle turn and beside the protocol nothing else changes
 at_rest_by : {observable : Type 0} (server after : ServerValue ReplicaValue)
     → ((frames : List (SocketAddr × List ℕ)) × IsIdle observable frames server after)
-    ⊎ ((asked : Option ReceivedProbe) × (reported : Option Reported) × (watched : Option ReceivedWatch)
-    × ActsBeside observable asked reported watched server after) → at_rest server after ≡ server
+    ⊎ ((news : HostNews) × (asked : Option ReceivedProbe) × (reported : Option Reported)
+    × (watched : Option ReceivedWatch) × ActsBeside observable news asked reported watched server after)
+    → at_rest server after ≡ server
 at_rest_by server after (inl i) =
     ap (λ (s : ServerValue ReplicaValue). record s {
       addresses = server.addresses;
@@ -331,7 +382,7 @@ at_rest_by server after (inl i) =
       aged = server.aged;
     }) i.1.same
 at_rest_by server after (inr a) =
-    ap (λ (s : ServerValue ReplicaValue). at_rest server s) (beside_changes a.0 a.1 a.2 server after a.3)
+    ap (λ (s : ServerValue ReplicaValue). at_rest server s) (beside_changes a.0 a.1 a.2 a.3 server after a.4)
 
 module _ (May : Network) (Metered observable : Type 0) (unforged : Unforged May) where
   module _ (old new : Cluster) (w : IsSound old) where

@@ -21,6 +21,7 @@ use Rattle.lk_replica.specs.Groups.{StepSaid}
 use Rattle.lk_replica.specs.ReplicaValue.{ReplicaValue}
 use Rattle.lk_server_replica.specs.Sayings.{SaysByGroup, IsSilenced, SaysOf}
 use Rattle.lk_server.specs.Premises.{IsNoNodeMessage}
+use Rattle.lk_transport.specs.declared.hosts.HostNews.{HostNews}
 use Rattle.lk_node_process.specs.Turns.{ActsBeside}
 use Rattle.lk_server.specs.Servers.{ServerValue, Turn, LastTurn, IsIdle}
 use Rattle.lk_probe.specs.declared.reported.Reported.{Reported}
@@ -139,10 +140,11 @@ pub record Starts (old new : Cluster) : Type 0 where
   pub loopback : restarts.replica.loopback ≡ []
   pub alive : restarts.replica.replica.failed ≡ false
 
--- a node that is up takes an idle turn, or handles probes and watches: its replica is given nothing, and nothing is
--- given to be sent as a datagram of the node. Only what it knows of the nodes at other addresses, who waits for a name,
--- what is to come to its socket, what that has sent, how many of its sends have failed, and how many ticks were
--- withheld may be another. `observable` says that the sockets tell that
+-- a node that is up takes an idle turn, or handles probes and watches, notes who has joined and may read its hosts
+-- again: its replica is given nothing, and nothing is given to be sent as a datagram of the node. Only where nodes
+-- live, who has joined, what it knows of the nodes at other addresses, who waits for a name, what is to come to its
+-- socket, what that has sent, how many of its sends have failed, and how many ticks were withheld may be another.
+-- `observable` says that the sockets tell that
 pub record Idles (observable : Type 0) (old new : Cluster) : Type 0 where
   pub node : Node
   pub next : Node
@@ -152,8 +154,8 @@ pub record Idles (observable : Type 0) (old new : Cluster) : Type 0 where
   pub after : ServerValue ReplicaValue
   pub up : next.life ≡ Up after
   pub idle : ((frames : List (SocketAddr × List ℕ)) × IsIdle observable frames server after)
-      ⊎ ((asked : Option ReceivedProbe) × (reported : Option Reported) × (watched : Option ReceivedWatch)
-      × ActsBeside observable asked reported watched server after)
+      ⊎ ((news : HostNews) × (asked : Option ReceivedProbe) × (reported : Option Reported)
+      × (watched : Option ReceivedWatch) × ActsBeside observable news asked reported watched server after)
   pub adds : Adds old new [] []
 
 -- `May` says what the network may bring, `Metered` that the devices count their calls, and `observable` that the

@@ -16,6 +16,7 @@ use lk_node_files::causes::FailureCause;
 use lk_node_process::node_end::NodeEnd;
 use lk_node_process::running::run_node;
 use lk_node_setup::resources::{NodePlan, Resources};
+use lk_node_setup::text_files::TextFiles;
 use lk_transport::socket::DatagramSocket;
 use log::Log;
 use std::alloc::Global;
@@ -29,12 +30,12 @@ use std::time::Clock;
 pub fn run<
     D: LogDisk + FailureCause + Drop,
     S: DatagramSocket + Drop,
-    C: Clock,
+    P: Clock + TextFiles,
     L: Log,
     O: Observer,
     E: Write,
 >(
-    clock: &C,
+    platform: &P,
     alloc: Global,
     plan: &NodePlan<'_>,
     resources: Resources<D, S>,
@@ -68,5 +69,5 @@ pub fn run<
 {
     // The contract of this law shows what a run with a key continues.
     sealed_processes_continue_a_cluster::<D, S>();
-    run_node::<LockTable, D, S, C, L, O, E>(clock, alloc, plan, resources, log, observer, err)
+    run_node::<LockTable, D, S, P, L, O, E>(platform, alloc, plan, resources, log, observer, err)
 }

@@ -1,16 +1,16 @@
 -- The kinds of events, and which of them are warnings.
-use Rattle.std.specs.Prelude.{ℕ, Bool, true, false}
+use Rattle.std.specs.Prelude.{ℕ, Bool, true, false, not}
 use Rattle.lk_node_events.specs.declared.event.Event.{Event}
 use Rattle.lk_node_events.specs.declared.event.Event.TheVariants.{StartedEmpty, Found, Leads, Ended, Follows}
 use Rattle.lk_node_events.specs.declared.event.Event.TheVariants.{Leaderless}
 use Rattle.lk_node_events.specs.declared.event.Event.TheVariants.{Joined}
 use Rattle.lk_node_events.specs.declared.event.Event.TheVariants.{Left, Wrote, Installed, Unsent, Behind, CaughtUp}
 use Rattle.lk_node_events.specs.declared.event.Event.TheVariants.{OtherGenesis, OtherCluster, Deaf, Hears, Outside}
-use Rattle.lk_node_events.specs.declared.event.Event.TheVariants.{QueueFull, Names, Barred}
+use Rattle.lk_node_events.specs.declared.event.Event.TheVariants.{QueueFull, Names, Barred, Unopened, Hosts}
 
 -- how many kinds of events there are
 abbrev pub kinds : ℕ
-kinds = 21
+kinds = 23
 
 -- the index of an event's kind, below that number
 abbrev pub kind_of : Event → ℕ
@@ -35,6 +35,8 @@ kind_of (Outside seconds) = 17
 kind_of QueueFull = 18
 kind_of (Names count) = 19
 kind_of (Barred client) = 20
+kind_of (Unopened from cluster) = 21
+kind_of (Hosts are_usable) = 22
 
 -- an operator has to look at it
 abbrev pub is_warning : Event → Bool
@@ -46,4 +48,6 @@ is_warning (Deaf heard members) = true
 is_warning QueueFull = true
 is_warning (Names count) = true
 is_warning (Barred client) = true
+is_warning (Unopened from cluster) = true
+is_warning (Hosts are_usable) = not are_usable
 is_warning _ = false

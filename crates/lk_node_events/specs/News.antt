@@ -1,6 +1,7 @@
 -- Which events an observation of a node yields, compared with what was reported of it.
 use Rattle.std.specs.Prelude.{◌≡◌, ◌≢◌, ◌<◌, ◌≤◌, ◌==◌, ℕ, Bool, true, false, List, [], ◌∷◌, ◌++◌, Option, Some, None}
 use Rattle.std.specs.List.{list_any}
+use Rattle.std.specs.declared.net.socket_addr.SocketAddr.{SocketAddr}
 use Rattle.lk_types.specs.declared.member.Member.{Member}
 use Rattle.lk_types.specs.BallotValue.{BallotValue}
 use Rattle.lk_node_events.specs.Observations.{why_of}
@@ -10,7 +11,7 @@ use Rattle.lk_node_events.specs.declared.event.Event.TheVariants.{Leaderless}
 use Rattle.lk_node_events.specs.declared.event.Event.TheVariants.{Joined}
 use Rattle.lk_node_events.specs.declared.event.Event.TheVariants.{Left, Wrote, Installed, Unsent, Behind, CaughtUp}
 use Rattle.lk_node_events.specs.declared.event.Event.TheVariants.{OtherGenesis, OtherCluster, Deaf, Hears, Outside}
-use Rattle.lk_node_events.specs.declared.event.Event.TheVariants.{QueueFull, Names, Barred}
+use Rattle.lk_node_events.specs.declared.event.Event.TheVariants.{QueueFull, Names, Barred, Unopened, Hosts}
 use Rattle.lk_node_events.specs.declared.event.Why.{Why}
 use Rattle.lk_node_events.specs.declared.story.Story.{Story}
 use Rattle.lk_node_events.specs.declared.observation.Observation.{Observation}
@@ -49,6 +50,8 @@ IsNews story seen (Hears heard members) =
 IsNews story seen QueueFull = seen.is_queue_full ≡ true
 IsNews story seen (Names count) = (count ≡ seen.names) × (many_names ≤ count) × (story.names < count)
 IsNews story seen (Barred client) = seen.barred ≡ Some client
+IsNews story seen (Unopened from cluster) = seen.unopened ≡ Some (from, cluster)
+IsNews story seen (Hosts are_usable) = seen.are_hosts_usable ≡ Some are_usable
 IsNews story seen StartedEmpty = ⊥
 IsNews story seen (Found executed) = ⊥
 IsNews story seen (Leaderless seconds) = ⊥
@@ -88,7 +91,8 @@ story_of seen = record {
 -- who leads: that it leads no more, that it leads, and whom it follows; whether it hears a majority: that it does no
 -- more, and that it does; who is a member: that a node joined, and that one left; and its work: a snapshot that it
 -- wrote, one that it installed, what it could not send, whom it heard of another genesis, what it heard of another
--- cluster, that it had no room for a watch, that the lock table fills up, and that a request was barred
+-- cluster, that it had no room for a watch, that the lock table fills up, that a request was barred, what it could not
+-- open, and what it read of its hosts
 pub data Topic : Type 0 where
   ending : Topic
   leading : Topic
@@ -105,6 +109,8 @@ pub data Topic : Type 0 where
   refusing : Topic
   filling : Topic
   barring : Topic
+  mismatching : Topic
+  rehosting : Topic
 
 abbrev pub lead_topics : List Topic
 lead_topics = ending ∷ leading ∷ following ∷ deafening ∷ hearing ∷ []
@@ -124,7 +130,8 @@ abbrev pub member_topics : Story → Observation → List Topic
 member_topics story seen = joins seen.members ++ leaves story.members
 
 abbrev pub work_topics : List Topic
-work_topics = writing ∷ installing ∷ failing ∷ meeting ∷ straying ∷ refusing ∷ filling ∷ barring ∷ []
+work_topics =
+    writing ∷ installing ∷ failing ∷ meeting ∷ straying ∷ refusing ∷ filling ∷ barring ∷ mismatching ∷ rehosting ∷ []
 
 abbrev pub topics : Story → Observation → List Topic
 topics story seen = lead_topics ++ (member_topics story seen ++ work_topics)
@@ -152,6 +159,11 @@ IsNewsOf straying story seen event = (count : ℕ) × (event ≡ OtherCluster co
 IsNewsOf refusing story seen event = (event ≡ QueueFull) × IsNews story seen QueueFull
 IsNewsOf filling story seen event = (count : ℕ) × (event ≡ Names count) × IsNews story seen (Names count)
 IsNewsOf barring story seen event = (client : ℕ) × (event ≡ Barred client) × IsNews story seen (Barred client)
+IsNewsOf mismatching story seen event =
+    (from : SocketAddr) × (cluster : Option ℕ) × (event ≡ Unopened from cluster)
+    × IsNews story seen (Unopened from cluster)
+IsNewsOf rehosting story seen event =
+    (are_usable : Bool) × (event ≡ Hosts are_usable) × IsNews story seen (Hosts are_usable)
 
 -- the event is news of this topic; without an event there is no such news
 abbrev pub Gives : Topic → Story → Observation → Option Event → Type 0

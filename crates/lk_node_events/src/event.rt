@@ -6,9 +6,10 @@ ghost use Rattle.lk_node_events.specs.Kinds.{kind_of, kinds, is_warning};
 use lk_types::limits::MAX_NAMES;
 use lk_types::{Executed, Members, NodeNo, RealBallot};
 use std::fmt;
+use std::net::SocketAddr;
 
 /// The number of kinds of events.
-pub const KINDS: usize = 21;
+pub const KINDS: usize = 23;
 
 /// Why a node no longer leads.
 #[derive(Clone, Copy, Debug)]
@@ -67,6 +68,10 @@ pub enum Event {
     Names(usize),
     /// It dropped an administrative request of this client, which is no admin.
     Barred(u16),
+    /// It cannot open frames of a node at this address, which name this cluster, if that is another one.
+    Unopened(SocketAddr, Option<u64>),
+    /// It has read the file of its hosts again: nodes have moved, or the file cannot be used.
+    Hosts(bool),
 }
 
 impl Event {
@@ -97,6 +102,8 @@ impl Event {
             Event::QueueFull => 18,
             Event::Names(_) => 19,
             Event::Barred(_) => 20,
+            Event::Unopened(_, _) => 21,
+            Event::Hosts(_) => 22,
         }
     }
 
@@ -114,6 +121,8 @@ impl Event {
                 | Event::QueueFull
                 | Event::Names(_)
                 | Event::Barred(_)
+                | Event::Unopened(_, _)
+                | Event::Hosts(false)
         )
     }
 }
@@ -209,6 +218,29 @@ fn write_foreign<W: fmt::Write>(count: u64, f: &mut fmt::Formatter<W>) -> fmt::R
     write!(f, "heard {count} {word} of another cluster")
 }
 
+// Writes that frames of a node at an address do not open, and why: they name another cluster, or their key or genesis
+// is another.
+fn write_unopened<W: fmt::Write>(
+    from: SocketAddr,
+    cluster: Option<u64>,
+    f: &mut fmt::Formatter<W>,
+) -> fmt::Result {
+    write!(f, "cannot open frames of a node at {from}: ")?;
+    match cluster {
+        None => f.write_str("another --key, or another genesis under the same key"),
+        Some(cluster) => write!(f, "it is of cluster {cluster}"),
+    }
+}
+
+// The text for a file of hosts that was read again: it names other hosts, or cannot be used.
+fn text_of_hosts(are_usable: bool) -> &'static str {
+    if are_usable {
+        "has read other hosts in the hosts file"
+    } else {
+        "cannot read the hosts file, or it is invalid: the hosts stay as they were"
+    }
+}
+
 // Writes how many of the members are heard, and what that is.
 fn write_heard<W: fmt::Write>(
     heard: u8,
@@ -248,6 +280,8 @@ impl fmt::Display for Event {
             Event::Barred(client) => {
                 write!(f, "dropped an administrative request of client {client}")
             }
+            Event::Unopened(from, cluster) => write_unopened(*from, *cluster, f),
+            Event::Hosts(are_usable) => f.write_str(text_of_hosts(*are_usable)),
         }
     }
 }

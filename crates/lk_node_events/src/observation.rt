@@ -5,6 +5,7 @@ ghost use Rattle.lk_node_events.specs.Observations.{why_of, has_leader};
 
 use crate::event::Why;
 use lk_types::{Ballot, Executed, Members, NodeNo, RealBallot};
+use std::net::SocketAddr;
 
 /// What is seen of a node after a turn, and of what it sent in that turn.
 #[derive(Drop)]
@@ -33,6 +34,9 @@ pub struct Observation {
     pub stranger: Option<NodeNo>,
     /// How many datagrams of another cluster have come, if that is to be reported.
     pub foreign: Option<u64>,
+    /// From where a node's frame came that did not open, and the cluster that it names if that is another one, if that
+    /// is to be reported.
+    pub unopened: Option<(SocketAddr, Option<u64>)>,
     /// How many of the members it hears, itself included.
     pub heard: u8,
     /// Whether it hears too few, and so gets no ticks.
@@ -41,6 +45,8 @@ pub struct Observation {
     pub is_queue_full: bool,
     /// How many names its lock table has.
     pub names: usize,
+    /// Whether the file of the hosts can be used, if it was read again and that is to be reported.
+    pub are_hosts_usable: Option<bool>,
     /// The client that is no admin whose administrative request was dropped, if that is to be reported.
     pub barred: Option<u16>,
 }

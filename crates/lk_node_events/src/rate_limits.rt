@@ -43,6 +43,8 @@ impl RateLimits {
                 RateLimit::EMPTY,
                 RateLimit::EMPTY,
                 RateLimit::EMPTY,
+                RateLimit::EMPTY,
+                RateLimit::EMPTY,
             ],
         }
     }

@@ -4,7 +4,7 @@ ghost use Rattle.std.specs.Prelude.{◌≡◌};
 ghost use Rattle.lk_node_events.specs.News.{Gives, story_of, forgetting, story_with, is_one_of};
 ghost use Rattle.lk_node_events.specs.News.{deafening, ending, hearing, leading, following, joining, leaving};
 ghost use Rattle.lk_node_events.specs.News.{writing, installing, failing, meeting, straying, refusing, filling};
-ghost use Rattle.lk_node_events.specs.News.{barring};
+ghost use Rattle.lk_node_events.specs.News.{barring, mismatching, rehosting};
 ghost use Rattle.lk_node_events.specs.News.{lead_topics, joins, leaves, member_topics, work_topics, topics};
 ghost use Rattle.lk_node_events.specs.Watches.{PutsNews};
 
@@ -211,6 +211,22 @@ impl Story {
         Some(Event::Barred(client))
     }
 
+    /// Returns `Unopened` if a node's frame came that did not open, and that is to be reported.
+    pub fn unopened(&self, seen: &Observation) -> Option<Event>
+        ensures { Gives mismatching self.now seen.now result }
+    {
+        let (from, cluster) = seen.unopened?;
+        Some(Event::Unopened(from, cluster))
+    }
+
+    /// Returns `Hosts` if the file of the hosts was read again, and what it says is to be reported.
+    pub fn hosts(&self, seen: &Observation) -> Option<Event>
+        ensures { Gives rehosting self.now seen.now result }
+    {
+        let are_usable = seen.are_hosts_usable?;
+        Some(Event::Hosts(are_usable))
+    }
+
     // Puts the news of the leader, and of whether a majority is heard, into the slots.
     fn put_leads(&self, now: u64, seen: &Observation, slots: &mut RateLimits)
         ensures { PutsNews now self.now seen.now lead_topics slots.old.all slots.new.all }
@@ -248,7 +264,8 @@ impl Story {
         self.put_left(now, seen, self.members.as_slice(), slots);
     }
 
-    // Puts the news of snapshots, of failed sends, of datagrams of another genesis or cluster, and of what is full.
+    // Puts the news of snapshots, of failed sends, of datagrams of another genesis, cluster or key, of what is full,
+    // and of the hosts.
     fn put_work(&self, now: u64, seen: &Observation, slots: &mut RateLimits)
         ensures { PutsNews now self.now seen.now work_topics slots.old.all slots.new.all }
     {
@@ -260,6 +277,8 @@ impl Story {
         slots.put_some(now, self.queue_full(seen));
         slots.put_some(now, self.names(seen));
         slots.put_some(now, self.barred(seen));
+        slots.put_some(now, self.unopened(seen));
+        slots.put_some(now, self.hosts(seen));
     }
 
     // Puts all news into the slots.

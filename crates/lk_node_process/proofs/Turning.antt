@@ -1,5 +1,5 @@
 -- The turns of a server, one after another, and one more.
-use Rattle.std.proofs.Common.{◌≡◌, ◌∙◌, ◌⊎◌, ◌<◌, ℕ, List, Option, Result, Ok, Err, inl, inr, refl, subst, sym}
+use Rattle.std.proofs.Common.{◌≡◌, ◌∙◌, ◌⊎◌, ◌<◌, ℕ, List, Option, Result, Ok, Err, inl, inr, refl, subst, sym, ap}
 use Rattle.std.proofs.Common.{arith}
 use Rattle.std.specs.declared.net.socket_addr.SocketAddr.{SocketAddr}
 use Rattle.std.specs.Prelude.{OnOk, OnErr, IfErr, IsErrAnd, MatchResult}
@@ -10,7 +10,11 @@ use Rattle.lk_recovery.specs.Revivals.{IsRefusedFor}
 use Rattle.lk_state.specs.Meanings.{Meaning}
 use Rattle.lk_node_interface.specs.Letters.{LetterValue}
 use Rattle.lk_replica.specs.ReplicaValue.{ReplicaValue}
-use Rattle.lk_transport.specs.Addresses.{IsSameNetwork, filter_of}
+use Rattle.lk_transport.specs.Addresses.{AddressBook, IsNetworkAfter, IsSameNetwork, filter_of}
+use Rattle.lk_transport.specs.Hosts.{hosts_after}
+use Rattle.lk_transport.specs.declared.hosts.Hosts.{Hosts}
+use Rattle.lk_transport.specs.declared.hosts.HostNews.{HostNews}
+use Rattle.lk_transport.specs.declared.hosts.HostNews.TheVariants.{Nothing, Read, Unusable}
 use Rattle.lk_transport.specs.ReceiveBuffers.{BufferValue}
 use Rattle.lk_transport.specs.Kept.{KeepsOf}
 use Rattle.lk_transport.specs.Posts.{all_filtered}
@@ -19,14 +23,16 @@ use Rattle.lk_server.specs.Servers.{ServerValue, HasReceived, TurnOrIdle as Serv
 use Rattle.lk_server.specs.ProbeHandling.{HandlesProbes}
 use Rattle.lk_server.specs.WatchHandling.{HandlesWatches}
 use Rattle.lk_server_replica.specs.Showing.{IsShown}
-use Rattle.lk_server_replica.specs.Tables.{table_of}
+use Rattle.lk_server_replica.specs.Tables.{greatest_of, table_of}
+use Rattle.lk_node_setup.specs.HostWatches.{AreHosts, FindsHosts}
+use Rattle.lk_node_setup.specs.Named.{AreHostsIn}
 use Rattle.lk_probe.specs.declared.reported.Reported.{Reported}
 use Rattle.lk_transport.specs.declared.received_probe.ReceivedProbe.{ReceivedProbe}
 use Rattle.lk_transport.specs.declared.received_watch.ReceivedWatch.{ReceivedWatch}
 use Rattle.lk_transport.specs.Chains.{Repeats}
 use Rattle.lk_node_process.specs.Revivals.{IsRestartRefused, StaysDown}
 use Rattle.lk_node_process.specs.Turns.{ActsBeside, DoesTurn, DoesTurnWith, EndsByStranger, EndsTurn, BreaksOff}
-use Rattle.lk_node_process.specs.Turns.{BreaksOffByStranger, TellsFailure}
+use Rattle.lk_node_process.specs.Turns.{BreaksOffByStranger, KnowsJoined, TakesHosts, TellsFailure}
 
 -- what a replica on a device says, where that is honest
 abbrev pub SaysOn : Type 0 → Type 0 → Meaning → (List ℕ → Type 0) → ReplicaValue → List (Option (List ℕ))
@@ -73,10 +79,10 @@ pub turn_taken : {Says : ReplicaValue → List (Option (List ℕ)) → List Lett
     (old mid new : ServerValue ReplicaValue) → HasReceived observable frames old mid
     → ServerTurn Says observable frames old mid
     → KeepsOf old.addresses.seals frames kept left
-    → ActsBeside observable left.asked left.reported left.watched mid new
-    → IsSameNetwork old.addresses mid.addresses → IsSameNetwork mid.addresses new.addresses → TellsFailure new
+    → (news : HostNews) → ActsBeside observable news left.asked left.reported left.watched mid new
+    → IsSameNetwork old.addresses mid.addresses → IsNetworkAfter news mid.addresses new.addresses → TellsFailure new
     → After new → DoesTurnWith Says observable kept.asked kept.reported kept.watched After old new
-turn_taken After frames kept left old mid new received turn keeps acts network held failure becomes = record {
+turn_taken After frames kept left old mid new received turn keeps news acts network held failure becomes = record {
   frames = frames;
   came = all_filtered (filter_of old.addresses) frames;
   opened = refl;
@@ -90,26 +96,70 @@ turn_taken After frames kept left old mid new received turn keeps acts network h
   first_reported = keeps.reported;
   watched = left.watched;
   first_watched = keeps.watched;
+  news = news;
   acts = acts;
-  network = (held.0 ∙ network.0, held.1 ∙ network.1, held.2 ∙ network.2);
+  network = (held.0 ∙ ap (hosts_after news) network.0, held.1 ∙ network.1, held.2 ∙ network.2);
   failure = failure;
   becomes = becomes;
 }
 
 -- what the server does beside the protocol, if the watch that was left is the one that was kept, and what is observed
 -- last changes nothing
-module _ (observable : Type 0) (asked : Option ReceivedProbe) (reported : Option Reported)
-    (kept left : Option ReceivedWatch) (old probed told new : ServerValue ReplicaValue) (same : new ≡ told) where
+module _ (observable : Type 0) (news : HostNews) (asked : Option ReceivedProbe) (reported : Option Reported)
+    (kept left : Option ReceivedWatch) (old probed told noted hosted new : ServerValue ReplicaValue)
+    (same : new ≡ hosted) where
   pub acts_beside : HandlesProbes IsShown observable asked reported old probed → left ≡ kept
-      → HandlesWatches table_of IsShown observable left probed told
-      → ActsBeside observable asked reported kept old new
-  acts_beside probes is_kept watches =
-      subst (λ (s : ServerValue ReplicaValue). ActsBeside observable asked reported kept old s) (sym same) (record {
+      → HandlesWatches table_of IsShown observable left probed told → KnowsJoined told noted
+      → TakesHosts news noted hosted → ActsBeside observable news asked reported kept old new
+  acts_beside probes is_kept watches joined hosts =
+      subst (λ (s : ServerValue ReplicaValue). ActsBeside observable news asked reported kept old s) (sym same)
+      (record {
         probed = probed;
         probes = probes;
+        told = told;
         watches = subst (λ (w : Option ReceivedWatch). HandlesWatches table_of IsShown observable w probed told)
             is_kept watches;
+        noted = noted;
+        joined = joined;
+        hosts = hosts;
       })
+
+-- where nodes live then: where they did before the probes were handled, or where the news says
+pub network_after : (news : HostNews) (old probed told noted hosted new : ServerValue ReplicaValue)
+    → IsSameNetwork old.addresses probed.addresses → told.addresses ≡ probed.addresses → KnowsJoined told noted
+    → TakesHosts news noted hosted → new ≡ hosted → IsNetworkAfter news old.addresses new.addresses
+network_after news old probed told noted hosted new network quiet joined hosts same =
+    let seen : noted.addresses ≡ record probed.addresses { joined = greatest_of told.replica } =
+    ap (λ (s : ServerValue ReplicaValue). s.addresses) joined
+    ∙ ap (λ (b : AddressBook). record b { joined = greatest_of told.replica }) quiet in
+    let all : new.addresses ≡ record probed.addresses {
+      joined = greatest_of told.replica;
+      hosts = hosts_after news probed.addresses.hosts;
+    } =
+    ap (λ (s : ServerValue ReplicaValue). s.addresses) (same ∙ hosts)
+    ∙ ap (λ (b : AddressBook). record b { hosts = hosts_after news b.hosts }) seen in (
+      ap (λ (b : AddressBook). b.hosts) all ∙ ap (hosts_after news) network.0,
+      ap (λ (b : AddressBook). b.seals) all ∙ network.1,
+      ap (λ (b : AddressBook). b.admins) all ∙ network.2,
+    )
+
+-- ---- where nodes live
+
+module _ (is_text : List ℕ → List ℕ → Type 0) (path : Option (List ℕ)) where
+  -- what was found is where they live now
+  pub hosts_found : (news : HostNews) (old new : Hosts) → FindsHosts is_text path news → new ≡ hosts_after news old
+      → AreHosts is_text path old new
+  hosts_found Nothing old new finds is = inl is
+  hosts_found (Read found) old new finds is = inr (subst (λ (h : Hosts). AreHostsIn is_text path h) (sym is) finds)
+  hosts_found Unusable old new finds is = inl is
+
+  -- so it is after two steps
+  pub hosts_more : (old mid new : Hosts) → AreHosts is_text path old mid → AreHosts is_text path mid new
+      → AreHosts is_text path old new
+  hosts_more old mid new (inl same) (inl is) = inl (is ∙ same)
+  hosts_more old mid new (inr found) (inl is) =
+      inr (subst (λ (h : Hosts). AreHostsIn is_text path h) (sym is) found)
+  hosts_more old mid new before (inr found) = inr found
 
 -- one of both stands, however a call ends
 pub on_either : {T E P Q : Type 0} (r : Result T E) → OnOk r P → OnErr r Q → P ⊎ Q

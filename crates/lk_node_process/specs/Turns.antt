@@ -6,12 +6,15 @@ use Rattle.lk_node_interface.specs.Letters.{LetterValue}
 use Rattle.lk_replica.specs.ReplicaValue.{ReplicaValue}
 use Rattle.lk_probe.specs.Neighbours.{bound_in}
 use Rattle.lk_probe.specs.declared.reported.Reported.{Reported}
-use Rattle.lk_transport.specs.Addresses.{IsSameNetwork, filter_of}
+use Rattle.lk_transport.specs.Addresses.{IsNetworkAfter, IsSameNetwork, filter_of}
+use Rattle.lk_transport.specs.Hosts.{hosts_after}
+use Rattle.lk_transport.specs.declared.hosts.HostNews.{HostNews}
 use Rattle.lk_transport.specs.Posts.{all_filtered}
+use Rattle.lk_node_setup.specs.HostWatches.{AreHosts}
 use Rattle.lk_server.specs.ProbeHandling.{HandlesProbes}
 use Rattle.lk_server.specs.WatchHandling.{HandlesWatches}
 use Rattle.lk_server_replica.specs.Showing.{IsShown}
-use Rattle.lk_server_replica.specs.Tables.{table_of}
+use Rattle.lk_server_replica.specs.Tables.{greatest_of, table_of}
 use Rattle.lk_server.specs.Servers.{ServerValue, HasReceived, Turn, LastTurn, IsIdle}
 use Rattle.lk_transport.specs.Askers.{BringsProbe}
 use Rattle.lk_transport.specs.Inquiring.{IsReportedBy}
@@ -33,12 +36,33 @@ HasFollowedNoStranger s = bound_in s.addresses.neighbours ≡ None
 abbrev pub HasFollowedStranger : ServerValue ReplicaValue → Type 0
 HasFollowedStranger s = IsSome (bound_in s.addresses.neighbours)
 
--- what a server does beside the protocol after a turn: it handles probes, and then watches
-pub record ActsBeside (observable : Type 0) (asked : Option ReceivedProbe) (reported : Option Reported)
-    (watched : Option ReceivedWatch) (old new : ServerValue ReplicaValue) : Type 0 where
+-- it knows the greatest number that has joined, as its replica has executed it; nothing else changes
+abbrev pub KnowsJoined : ServerValue ReplicaValue → ServerValue ReplicaValue → Type 0
+KnowsJoined old new =
+    new ≡ record old { addresses = record old.addresses { joined = greatest_of old.replica } }
+
+-- where nodes live is what the file of the hosts was found to say, if it was read again and they have moved; nothing
+-- else changes
+abbrev pub TakesHosts : HostNews → ServerValue ReplicaValue → ServerValue ReplicaValue → Type 0
+TakesHosts news old new =
+    new ≡ record old { addresses = record old.addresses { hosts = hosts_after news old.addresses.hosts } }
+
+-- nodes live where they did, or where the file of this path says; `is_text` says which bytes it had when it was read
+abbrev pub AreHostsKept : (List ℕ → List ℕ → Type 0) → Option (List ℕ) → ServerValue ReplicaValue
+    → ServerValue ReplicaValue → Type 0
+AreHostsKept is_text path old new = AreHosts is_text path old.addresses.hosts new.addresses.hosts
+
+-- what a server does beside the protocol after a turn: it handles probes, then watches, then notes who has joined, and
+-- then takes over what is new of the hosts
+pub record ActsBeside (observable : Type 0) (news : HostNews) (asked : Option ReceivedProbe)
+    (reported : Option Reported) (watched : Option ReceivedWatch) (old new : ServerValue ReplicaValue) : Type 0 where
   pub probed : ServerValue ReplicaValue
   pub probes : HandlesProbes IsShown observable asked reported old probed
-  pub watches : HandlesWatches table_of IsShown observable watched probed new
+  pub told : ServerValue ReplicaValue
+  pub watches : HandlesWatches table_of IsShown observable watched probed told
+  pub noted : ServerValue ReplicaValue
+  pub joined : KnowsJoined told noted
+  pub hosts : TakesHosts news noted new
 
 -- `Says` relates a replica's input to its letters, and `observable` says that the socket reveals what it sends and what
 -- arrives
@@ -49,9 +73,9 @@ module _ (Says : ReplicaValue → List (Option (List ℕ)) → List LetterValue 
   -- that the probe kept from before, or else the first in those frames, is answered, and a node of the same genesis
   -- that asks by it is heard again. The node learns from the report that it had kept, or else from the first in those
   -- frames that replies to it. Of these frames only the last brings a probe, a report or a watch, where none was kept.
-  -- One question and the probes to the members are sent if they are due. Last the watch that it had kept, or else the
-  -- first in those frames, is heard, and those who wait are told; and nothing else is sent. Where nodes live, and the
-  -- keys, are the same. `After` holds of the server then
+  -- One question and the probes to the members are sent if they are due. Then the watch that it had kept, or else the
+  -- first in those frames, is heard, and those who wait are told; and nothing else is sent. The keys and the admins are
+  -- the same, and so is where nodes live, unless they were read to have moved. `After` holds of the server then
   pub record DoesTurnWith (kept : Option ReceivedProbe) (told : Option Reported) (wanted : Option ReceivedWatch)
       (After : ServerValue ReplicaValue → Type 0) (old new : ServerValue ReplicaValue) : Type 0 where
     pub frames : List (SocketAddr × List ℕ)
@@ -67,8 +91,9 @@ module _ (Says : ReplicaValue → List (Option (List ℕ)) → List LetterValue 
     pub first_reported : KeepsFirstOf (IsReportedBy old.addresses.seals) told frames reported
     pub watched : Option ReceivedWatch
     pub first_watched : KeepsFirstOf (BringsWatch old.addresses.seals) wanted frames watched
-    pub acts : ActsBeside observable asked reported watched mid new
-    pub network : IsSameNetwork old.addresses new.addresses
+    pub news : HostNews
+    pub acts : ActsBeside observable news asked reported watched mid new
+    pub network : IsNetworkAfter news old.addresses new.addresses
     pub failure : TellsFailure new
     pub becomes : After new
 

@@ -56,7 +56,11 @@ fn observation_of<M: TableMachine, D: LogDisk + Drop, S: DatagramSocket + Drop>(
         unsent: events.sends.unsent,
         stranger: events.stranger,
         foreign: events.foreign,
+        unopened: events
+            .unopened
+            .map(|unopened| (unopened.from, unopened.cluster)),
         barred: events.barred,
+        are_hosts_usable: events.are_hosts_usable,
         heard: server.count_heard(),
         deaf: server.is_deaf(),
         is_queue_full: events.is_queue_full,

@@ -5,14 +5,15 @@ ghost use Rattle.lk_disk.specs.declared.device.Side.{Side as SideValue};
 ghost use Rattle.lk_node_interface.specs.Faults.{fault_number};
 ghost use Rattle.lk_replica.specs.Revived.{MayGoOn};
 ghost use Rattle.lk_server.specs.Servers.{IsConfiguredAs, HasSocket};
-ghost use Rattle.lk_transport.specs.Addresses.{IsSameNetwork};
+ghost use Rattle.lk_transport.specs.Addresses.{IsNetworkAfter};
 ghost use Rattle.lk_transport.specs.Chains.{Repeats};
 ghost use Rattle.lk_program_fault.specs.Faults.{replica_fault};
+ghost use Rattle.lk_node_setup.specs.HostWatches.{AreHosts, FindsHosts, host_path};
 ghost use Rattle.lk_node_setup.specs.KeysOfNode.{AreSealsOf};
 ghost use Rattle.lk_node_setup.specs.SelfProbes.{socket_value};
 ghost use Rattle.lk_node_process.specs.Revivals.{ComesUp, IsServerStarted, IsRestartRefused};
 ghost use Rattle.lk_node_process.specs.Revivals.{StartsOn, RestsOn, surroundings};
-ghost use Rattle.lk_node_process.specs.Turns.{ActsBeside, DoesTurn, DoesTurnWith, HasFollowedNoStranger};
+ghost use Rattle.lk_node_process.specs.Turns.{ActsBeside, AreHostsKept, DoesTurn, DoesTurnWith, HasFollowedNoStranger};
 ghost use Rattle.lk_node_process.specs.Turns.{HasFollowedStranger};
 ghost use Rattle.lk_node_process.specs.Turns.{EndsTurn, BreaksOff, BreaksOffByStranger};
 ghost use Rattle.lk_node_process.specs.Turns.{RunsTurns, EndsBefore, TellsFailure};
@@ -26,8 +27,10 @@ use lk_node_events::line::Observer;
 use lk_node_files::causes::{FailureCause, write_failed_calls};
 use lk_node_files::refusals::write_refusal;
 use lk_node_interface::ReplicaFault;
+use lk_node_setup::host_watch::HostWatch;
 use lk_node_setup::port_reminder::PortReminder;
 use lk_node_setup::resources::{NodePlan, Resources};
+use lk_node_setup::text_files::TextFiles;
 use lk_pacing::tick_timer::TickTimer;
 use lk_program_fault::ProgramFault;
 use lk_recovery::ReviveFault;
@@ -38,6 +41,7 @@ use lk_server::server::{Server, node_turn};
 use lk_server::watching::{log_port, log_start};
 use lk_server_replica::{ServerReplica, TableMachine};
 use lk_store_format::Header;
+use lk_transport::hosts::HostNews;
 use lk_transport::receive_buffer::ReceiveBuffer;
 use lk_transport::socket::DatagramSocket;
 use log::Log;
@@ -188,8 +192,21 @@ fn revive_plan<
     }
 }
 
-// Ends a turn: handles probes and watches, and reports the turn to an observer. If the node has followed one of another
-// genesis, writes so.
+// Looks at the file of the hosts, if there is one and that is due, and returns what is new.
+fn look_at_hosts<M: TableMachine, D: LogDisk + Drop, S: DatagramSocket + Drop, T: TextFiles>(
+    server: &NodeServer<M, D, S>,
+    hosts: &mut HostWatch,
+    plan: &NodePlan<'_>,
+    files: &T,
+) -> HostNews
+    ensures { FindsHosts (T.is_text files.now) (host_path plan.now.options) result }
+{
+    let now = server.count_periods();
+    hosts.look(files, server.alloc(), plan.options.hosts, now)
+}
+
+// Ends a turn: handles probes and watches, notes who has joined, takes over what is new of the hosts, and reports the
+// turn to an observer. If the node has followed one of another genesis, writes so.
 fn end_turn<
     M: TableMachine,
     D: LogDisk + Drop,
@@ -200,13 +217,14 @@ fn end_turn<
 >(
     server: &mut NodeServer<M, D, S>,
     buffer: &mut ReceiveBuffer,
+    news: HostNews,
     log: &L,
     observer: &mut O,
     err: &mut E,
 ) -> Result<(), ProgramFault>
-    ensures acts { ActsBeside S.is_observable buffer.old.asked buffer.old.reported buffer.old.watched
+    ensures acts { ActsBeside S.is_observable news buffer.old.asked buffer.old.reported buffer.old.watched
         server.old server.new }
-    ensures network { IsSameNetwork server.old.addresses server.new.addresses }
+    ensures network { IsNetworkAfter news server.old.addresses server.new.addresses }
     ensures goes_on { OnOk result (HasFollowedNoStranger server.new) }
     ensures leaves { OnErr result (HasFollowedStranger server.new) }
     ensures spent { (buffer.new.asked ≡ None) × (buffer.new.reported ≡ None) × (buffer.new.watched ≡ None) }
@@ -216,6 +234,8 @@ fn end_turn<
 {
     let leader = server.handle_probes(buffer, log);
     server.handle_watches(buffer);
+    server.note_joined();
+    server.take_hosts(news, log);
     // The contract of this call shows that the server knows whether its replica has failed.
     let _ = server.replica();
     observe_turn(server, observer);
@@ -238,12 +258,14 @@ fn write_failed_turn<
     write_failed_calls(told, server.replica().device(), folder, err)
 }
 
-// Does one turn, and reports it to an observer. If the device failed, writes why.
+// Does one turn, and reports it to an observer. If the device failed, writes why. After the turn it looks at the file
+// of the hosts, if that is due.
 fn do_turn<
     M: TableMachine,
     D: LogDisk + FailureCause + Drop,
     S: DatagramSocket + Drop,
     C: Clock,
+    T: TextFiles,
     L: Log,
     O: Observer,
     E: Write,
@@ -251,7 +273,9 @@ fn do_turn<
     server: &mut NodeServer<M, D, S>,
     buffer: &mut ReceiveBuffer,
     tick_timer: &mut TickTimer<C>,
-    folder: &str,
+    hosts: &mut HostWatch,
+    plan: &NodePlan<'_>,
+    files: &T,
     log: &L,
     observer: &mut O,
     err: &mut E,
@@ -265,6 +289,8 @@ fn do_turn<
         buffer.old.watched HasFollowedNoStranger server.old server.new) }
     ensures spent { OnOk result
         ((buffer.new.asked ≡ None) × (buffer.new.reported ≡ None) × (buffer.new.watched ≡ None)) }
+    // Nodes live where they did, or where the file of the hosts says.
+    ensures hosts { AreHostsKept (T.is_text files.now) (host_path plan.now.options) server.old server.new }
     // While the node goes on nothing is written.
     ensures quiet { OnOk result (E.contents err.new ≡ E.contents err.old) }
     // The turn ended the replica, and after that nothing is sent and no probe is answered; or it is such a turn, and a
@@ -275,8 +301,11 @@ fn do_turn<
         buffer.old.watched HasFollowedStranger server.old server.new) }
 {
     match node_turn(server, buffer, tick_timer, log) {
-        Ok(()) => end_turn(server, buffer, log, observer, err),
-        Err(fault) => Err(write_failed_turn(server, fault, folder, err)),
+        Ok(()) => {
+            let news = look_at_hosts(server, hosts, plan, files);
+            end_turn(server, buffer, news, log, observer, err)
+        }
+        Err(fault) => Err(write_failed_turn(server, fault, plan.folder, err)),
     }
 }
 
@@ -299,12 +328,12 @@ fn do_turns<
     M: TableMachine,
     D: LogDisk + FailureCause + Drop,
     S: DatagramSocket + Drop,
-    C: Clock,
+    P: Clock + TextFiles,
     L: Log,
     O: Observer,
     E: Write,
 >(
-    clock: &C,
+    platform: &P,
     server: &mut NodeServer<M, D, S>,
     plan: &NodePlan<'_>,
     reminder: PortReminder,
@@ -329,16 +358,21 @@ fn do_turns<
     ensures warned { OnErr result
         (WarnsUntil ⟦<Replica<M, D> as ServerReplica>⟧.Says S.is_observable plan.now.header.node plan.now.port (2 ^ 48)
         (reminded server.old reminder (E.contents err.old)) server.new) }
+    // Nodes live where they did, or where the file of the hosts says.
+    ensures hosts { AreHostsKept (P.is_text platform.now) (host_path plan.now.options) server.old server.new }
 {
     let mut buffer = ReceiveBuffer::new();
-    let mut tick_timer = TickTimer::new(clock);
+    let mut tick_timer = TickTimer::new(platform);
+    let mut hosts = HostWatch::STARTED;
     let mut reminder = reminder;
     'turns: for _ in 0..TURNS {
-        do_turn::<M, D, S, &C, L, O, E>(
+        do_turn::<M, D, S, &P, P, L, O, E>(
             server,
             &mut buffer,
             &mut tick_timer,
-            plan.folder,
+            &mut hosts,
+            plan,
+            platform,
             log,
             observer,
             err,
@@ -353,12 +387,12 @@ fn run_turns<
     M: TableMachine,
     D: LogDisk + FailureCause + Drop,
     S: DatagramSocket + Drop,
-    C: Clock,
+    P: Clock + TextFiles,
     L: Log,
     O: Observer,
     E: Write,
 >(
-    clock: &C,
+    platform: &P,
     server: &mut NodeServer<M, D, S>,
     plan: &NodePlan<'_>,
     reminder: PortReminder,
@@ -371,10 +405,11 @@ fn run_turns<
     ensures err { OnErr result
         (BreaksOff ⟦<Replica<M, D> as ServerReplica>⟧.Says S.is_observable (2 ^ 48) server.old server.new
         ⊎ BreaksOffByStranger ⟦<Replica<M, D> as ServerReplica>⟧.Says S.is_observable (2 ^ 48) server.old server.new) }
+    ensures hosts { AreHostsKept (P.is_text platform.now) (host_path plan.now.options) server.old server.new }
 {
     log_port(log, plan.port);
     observe_start(server, observer);
-    do_turns(clock, server, plan, reminder, log, observer, err)
+    do_turns(platform, server, plan, reminder, log, observer, err)
 }
 
 /// Runs a node on these resources, and reports what happens to it to an observer. Returns its status, which is 0 after
@@ -384,12 +419,12 @@ pub fn run_node<
     M: TableMachine,
     D: LogDisk + FailureCause + Drop,
     S: DatagramSocket + Drop,
-    C: Clock,
+    P: Clock + TextFiles,
     L: Log,
     O: Observer,
     E: Write,
 >(
-    clock: &C,
+    platform: &P,
     alloc: Global,
     plan: &NodePlan<'_>,
     resources: Resources<D, S>,
@@ -399,6 +434,10 @@ pub fn run_node<
 ) -> NodeEnd<M, D, S>
     requires { AreSealsOf plan.now.header resources.network.seals }
     ensures status { result.status ≤ 1 }
+    // For the server that is left nodes live where these resources say, or where the file of the hosts says, which is
+    // read again while it runs.
+    ensures hosts { IfOk result.left (λ s. AreHosts (P.is_text platform.now) (host_path plan.now.options)
+        resources.network.hosts s.addresses.hosts) }
     // At status 0 a server is left. It has started as the one of the plan's node, on these resources, with a replica
     // restarted from what the device had, and since then it has done this many turns and nothing else.
     ensures ran_all_turns { result.status ≡ 0 → IsOkAnd result.left
@@ -424,7 +463,7 @@ pub fn run_node<
     match revive_plan::<M, D, S, L, E>(alloc, plan, resources, log, err) {
         Ok(server) => {
             let mut server = server;
-            let ran = run_turns(clock, &mut server, plan, reminder, log, observer, err);
+            let ran = run_turns(platform, &mut server, plan, reminder, log, observer, err);
             NodeEnd {
                 status: status_after(ran, observer, err),
                 left: Ok(server),

@@ -8,3 +8,4 @@ pub mod Ports
 pub mod Reminders
 pub mod Named
 pub mod Opened
+pub mod HostWatches

@@ -5,6 +5,7 @@
 pub mod client_key;
 pub mod digest;
 mod host_file;
+pub mod host_watch;
 pub mod network;
 pub mod platform;
 pub mod port_reminder;

@@ -37,7 +37,7 @@ pub struct NetworkOptions<'a> {
 
 // Reads the file of the hosts; if none is named, all nodes are at 127.0.0.1. If the file cannot be read or is invalid,
 // it writes the reason and returns `CannotOpen`.
-fn load_hosts<T: TextFiles, E: Write>(
+pub(crate) fn load_hosts<T: TextFiles, E: Write>(
     files: &T,
     alloc: Global,
     path: Option<&str>,

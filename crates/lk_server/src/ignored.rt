@@ -1,5 +1,5 @@
-//! Counts the datagrams that a server ignores: those that do not parse, those of another cluster, and administrative
-//! requests of clients that are no admins.
+//! Counts the datagrams that a server ignores: those that do not parse, those of another cluster, administrative
+//! requests of clients that are no admins, and Wants of numbers that never joined.
 
 ghost use Rattle.std.specs.Prelude.{◌≡◌, ◌≢◌, Some, None, if◌then◌else◌};
 ghost use Rattle.lk_server.specs.Counts.{is_power_of_two};
@@ -8,13 +8,14 @@ ghost use Rattle.lk_disk.specs.Disk.{one_more};
 use lk_transport::arrival::Arrival;
 use log::{Log, debug};
 
-/// How many datagrams did not parse, how many were of another cluster, and how many were administrative requests of
-/// clients that are no admins.
+/// How many datagrams did not parse, how many were of another cluster, how many were administrative requests of clients
+/// that are no admins, and how many were Wants of numbers that never joined.
 #[derive(Clone, Copy)]
 pub struct IgnoredCounts {
     bad: u64,
     foreign: u64,
     barred: u64,
+    unowed: u64,
 }
 
 // Logs a count if it is a power of two, so that the log stays short. Returns whether it is one.
@@ -31,12 +32,13 @@ fn log_count<L: Log>(log: &L, what: &str, count: u64) -> bool
 impl IgnoredCounts {
     /// No such datagram has arrived.
     pub fn new() -> IgnoredCounts
-        ensures { result ≡ record { bad = 0; foreign = 0; barred = 0 } }
+        ensures { result ≡ record { bad = 0; foreign = 0; barred = 0; unowed = 0 } }
     {
         IgnoredCounts {
             bad: 0,
             foreign: 0,
             barred: 0,
+            unowed: 0,
         }
     }
 
@@ -54,6 +56,14 @@ impl IgnoredCounts {
     {
         self.barred = self.barred.saturating_add(1);
         let _ = log_count(log, "that only an admin may send", self.barred);
+    }
+
+    /// Counts a Want of a number that never joined, and logs each count that is a power of two at level debug.
+    pub fn count_unowed<L: Log>(&mut self, log: &L)
+        ensures { self.new ≡ record self.old { unowed = one_more self.old.unowed } }
+    {
+        self.unowed = self.unowed.saturating_add(1);
+        let _ = log_count(log, "by which a node asks that never joined", self.unowed);
     }
 
     /// Counts a datagram if it does not parse or is of another cluster, and logs each count that is a power of two at

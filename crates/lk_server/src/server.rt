@@ -47,8 +47,8 @@ pub struct Server<R: ServerReplica, S: DatagramSocket + Drop> {
     pub(crate) post: SocketPost<S>,
     // datagrams taken so far, modulo 2^64
     pub(crate) received: u64,
-    // how many of them did not parse, were of another cluster, or were administrative requests of clients that are no
-    // admins
+    // how many of them did not parse, were of another cluster, were administrative requests of clients that are no
+    // admins, or were Wants of numbers that never joined
     pub(crate) ignored: IgnoredCounts,
     // what has happened since the last `drain_events`
     pub(crate) events: TurnEvents,
@@ -66,6 +66,8 @@ pub struct Server<R: ServerReplica, S: DatagramSocket + Drop> {
     pub(crate) tokens: TokenSource,
     // the count of periods at its last warning of a node of another genesis
     pub(crate) stranger_warned: Option<u64>,
+    // the same of a node's frame that did not open
+    pub(crate) unopened_warned: Option<u64>,
     // the same at its last event of an administrative request that it dropped
     pub(crate) barred_noted: Option<u64>,
     // who waits for a name, and the count of periods up to which their watches have lived
@@ -114,9 +116,11 @@ impl<R: ServerReplica, S: DatagramSocket + Drop> Server<R, S> {
         ensures replica { Runs replica (R.failed replica) result }
         ensures socket { HasSocket (S.sent socket) (S.failures socket) (S.incoming socket) result }
         ensures unheard { HasHeardNobody result }
+        ensures joined { result.addresses.joined ≡ R.greatest replica }
     {
         let mut post = SocketPost::new(alloc, node, network, socket);
         post.set_deaf(pace.is_clock());
+        post.set_joined(replica.greatest());
         Server {
             alloc,
             cluster,
@@ -134,6 +138,7 @@ impl<R: ServerReplica, S: DatagramSocket + Drop> Server<R, S> {
             sync_pause: SyncPause::NONE,
             tokens: TokenSource::new(),
             stranger_warned: None,
+            unopened_warned: None,
             barred_noted: None,
             watches: WatchQueue::new(alloc),
             aged: 0,

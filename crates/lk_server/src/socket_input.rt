@@ -17,6 +17,7 @@ use crate::gathering::FURTHER;
 use crate::group_fault::GroupFault;
 use crate::pausing::receive_or_pause;
 use crate::server::Server;
+use crate::watching::log_unopened;
 use lk_pacing::tick_timer::TickTimer;
 use lk_pacing::turn_input::TurnInput;
 use lk_replica::Group;
@@ -67,12 +68,13 @@ impl<R: ServerReplica, S: DatagramSocket + Drop> Server<R, S> {
         );
     }
 
-    // Records the source of a datagram of this cluster, and counts one that does not parse or is of another. Returns
-    // what arrived, for the log.
+    // Records the source of a datagram of this cluster, and counts one that does not parse or is of another. Warns of
+    // its frame, if that is a node's and did not open. Returns what arrived, for the log.
     fn record_sender<L: Log>(
         &mut self,
         datagram: &Datagram<'_>,
         from: SocketAddr,
+        frame: &[u8],
         log: &L,
     ) -> Arrival
         ensures heard { RecordsSender self.old.cluster datagram.now from self.old.addresses self.new.addresses }
@@ -83,6 +85,11 @@ impl<R: ServerReplica, S: DatagramSocket + Drop> Server<R, S> {
         let came = self.post.record_sender(self.cluster, datagram, from);
         if let Some(count) = self.ignored.count(&came, log) {
             self.events.foreign = Some(count);
+        }
+        if let Some(unopened) = self.unopened_news(&came, from, frame) {
+            self.unopened_warned = Some(self.now());
+            self.events.unopened = Some(unopened);
+            log_unopened(log, &unopened);
         }
         came
     }
@@ -144,7 +151,7 @@ impl<R: ServerReplica, S: DatagramSocket + Drop> Server<R, S> {
             return Ok(TurnInput::Filtered);
         }
         let viewed = Datagram::of(datagram);
-        let came = self.record_sender(&viewed, from, log);
+        let came = self.record_sender(&viewed, from, frame, log);
         self.add_datagram(viewed, &came, group, log)?;
         Ok(TurnInput::Something)
     }

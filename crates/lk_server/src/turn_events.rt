@@ -7,6 +7,7 @@ ghost use Rattle.lk_server.specs.FullQueues.{says_full};
 use lk_server_replica::replica_status::ReplicaStatus;
 use lk_transport::arrival::Arrival;
 use lk_transport::post::SendSummary;
+use lk_transport::unopened::UnopenedFrame;
 use lk_types::{Executed, NodeNo};
 use lk_watch::{Letter, News, Watch};
 
@@ -21,8 +22,12 @@ pub struct TurnEvents {
     pub stranger: Option<NodeNo>,
     /// How many datagrams of another cluster have come, if that is to be reported.
     pub foreign: Option<u64>,
+    /// A node's frame that did not open, if that is to be reported.
+    pub unopened: Option<UnopenedFrame>,
     /// The client that is no admin whose administrative request was dropped, if that is to be reported.
     pub barred: Option<u16>,
+    /// Whether the file of the hosts can be used, if it was read again and that is to be reported.
+    pub are_hosts_usable: Option<bool>,
     /// Whether a watch was answered that the queue of those who wait has no room for its client.
     pub is_queue_full: bool,
 }
@@ -34,7 +39,9 @@ impl TurnEvents {
         sends: SendSummary::NOTHING,
         stranger: None,
         foreign: None,
+        unopened: None,
         barred: None,
+        are_hosts_usable: None,
         is_queue_full: false,
     };
 

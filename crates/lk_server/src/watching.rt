@@ -4,6 +4,7 @@
 use lk_server_replica::replica_status::ReplicaStatus;
 use lk_transport::arrival::Arrival;
 use lk_transport::post::SendSummary;
+use lk_transport::unopened::UnopenedFrame;
 use lk_types::{NodeNo, Port, RealBallot};
 use log::{Log, debug, warn};
 use std::io;
@@ -28,6 +29,26 @@ pub fn log_port<L: Log>(log: &L, port: Port) {
 /// Logs at level warn that this node hears one of another genesis.
 pub fn log_stranger<L: Log>(log: &L, node: NodeNo) {
     warn!(log; "hears node {} of another genesis", node.get());
+}
+
+/// Logs at level warn that the hosts file names other hosts now.
+pub fn log_moved<L: Log>(log: &L) {
+    warn!(log; "has read other hosts in the hosts file");
+}
+
+/// Logs at level warn that the hosts file cannot be used.
+pub fn log_unusable<L: Log>(log: &L) {
+    warn!(log; "cannot read the hosts file, or it is invalid: the hosts stay as they were");
+}
+
+/// Logs at level warn that this node cannot open a node's frame.
+pub fn log_unopened<L: Log>(log: &L, unopened: &UnopenedFrame) {
+    match unopened.cluster {
+        None => warn!(log; "cannot open frames of a node at {}", unopened.from),
+        Some(cluster) => {
+            warn!(log; "cannot open frames of a node of cluster {cluster} at {}", unopened.from);
+        }
+    }
 }
 
 // Logs a named number.

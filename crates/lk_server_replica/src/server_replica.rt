@@ -15,7 +15,7 @@ ghost use Rattle.lk_server_replica.specs.Showing.{IsShown};
 ghost use Rattle.lk_server_replica.specs.Refusals.{IsOfGroups};
 ghost use Rattle.lk_server_replica.specs.Statuses.{IsStatusOf};
 ghost use Rattle.lk_server_replica.specs.StateDigests.{KeepsDigestOf};
-ghost use Rattle.lk_server_replica.specs.Tables.{table_of};
+ghost use Rattle.lk_server_replica.specs.Tables.{greatest_of, table_of};
 ghost use Rattle.lk_server_replica.specs.TableVersions.{TellsRaised};
 ghost use Rattle.lk_server_replica.specs.declared.probed_state.ProbedState.{ProbedState as ProbedStateValue};
 
@@ -29,6 +29,7 @@ use lk_locks::LockTable;
 use lk_node_interface::{Input, Post, ReplicaFault};
 use lk_probe::StateDigest;
 use lk_replica::{Group, Replica};
+use lk_types::NodeNo;
 use std::alloc::Global;
 
 /// A replica as a server runs it: it takes its input in groups.
@@ -58,6 +59,9 @@ pub trait ServerReplica: Sized + Drop {
 
     /// Whether its server, which kept the first of these digests, may now keep the second.
     ghost KeepsDigest: { Self → StateDigestValue → StateDigestValue → Type 0 };
+
+    /// The greatest number that was ever a member's, by what it has executed.
+    ghost greatest: { Self → ℕ };
 
     /// Returns an empty group, for `gather` and `release`.
     fn new_group(&self, alloc: Global) -> Group
@@ -115,6 +119,10 @@ pub trait ServerReplica: Sized + Drop {
     /// `kept`. Out of memory it returns `kept`, and takes the digest at the next step, unless that executes more.
     fn next_digest(&self, kept: StateDigest) -> StateDigest
         ensures { KeepsDigest self.now kept result };
+
+    /// Returns the greatest number that was ever a member's, by what it has executed.
+    fn greatest(&self) -> NodeNo
+        ensures { result ≡ greatest self.now };
 }
 
 impl<M: TableMachine, D: LogDisk + Drop> ServerReplica for Replica<M, D> {
@@ -136,6 +144,8 @@ impl<M: TableMachine, D: LogDisk + Drop> ServerReplica for Replica<M, D> {
     ghost table = { table_of };
 
     ghost KeepsDigest = { KeepsDigestOf };
+
+    ghost greatest = { greatest_of };
 
     fn new_group(&self, alloc: Global) -> Group {
         Group::new(alloc)
@@ -177,5 +187,9 @@ impl<M: TableMachine, D: LogDisk + Drop> ServerReplica for Replica<M, D> {
 
     fn next_digest(&self, kept: StateDigest) -> StateDigest {
         next_digest(self.node(), kept)
+    }
+
+    fn greatest(&self) -> NodeNo {
+        self.node().roster().greatest()
     }
 }

@@ -1,6 +1,6 @@
 //! What a turn logs, and a demonstration that nobody answers.
 ghost use Rattle.std.specs.Prelude.{◌≡◌, [], ⊤};
-ghost use Rattle.lk_server_replica.specs.Tables.{table_of};
+ghost use Rattle.lk_server_replica.specs.Tables.{greatest_of, table_of};
 
 use crate::clocks::Stopped;
 use crate::replicas::{Locks, begun};
@@ -71,6 +71,8 @@ impl ServerReplica for NotingReplica {
 
     ghost KeepsDigest = { λ _ _ _. ⊤ };
 
+    ghost greatest = { λ t. greatest_of t.probed };
+
     fn new_group(&self, alloc: Global) -> Group {
         Group::new(alloc)
     }
@@ -113,6 +115,10 @@ impl ServerReplica for NotingReplica {
 
     fn next_digest(&self, kept: StateDigest) -> StateDigest {
         kept
+    }
+
+    fn greatest(&self) -> NodeNo {
+        self.probed.greatest()
     }
 }
 

@@ -2,3 +2,4 @@ pub mod Chaining
 pub mod Streaming
 mod Books
 mod AdminLaws
+mod OutsiderLaws

@@ -5,12 +5,14 @@ use Rattle.std.specs.declared.net.socket_addr.SocketAddr.{SocketAddr}
 use Rattle.lk_probe.specs.Neighbours.{Entries, is_stranger}
 use Rattle.lk_auth.specs.declared.seals.Seals.{Seals}
 use Rattle.lk_hearing.specs.Probes.{HearingValue}
+use Rattle.lk_transport.specs.Hosts.{hosts_after}
 use Rattle.lk_transport.specs.declared.hosts.Hosts.{Hosts}
+use Rattle.lk_transport.specs.declared.hosts.HostNews.{HostNews}
 use Rattle.lk_transport.specs.declared.admins.Admins.{Admins}
 
 -- an entry for each client, the entries of nodes that wrote, most recent first, where nodes live, the keys, the admins,
 -- what is known of the genesis of the node at each address from which one wrote, the probes by which the node hears
--- others, and whether it is deaf: it hears too few
+-- others, whether it is deaf: it hears too few, and the greatest number of a node that had joined when it last looked
 pub record AddressBook : Type 0 where
   pub clients : List (Option SocketAddr)
   pub nodes : List (Option (ℕ × SocketAddr))
@@ -20,6 +22,7 @@ pub record AddressBook : Type 0 where
   pub neighbours : Entries
   pub hearing : HearingValue
   pub deaf : Bool
+  pub joined : ℕ
 
 -- the address of a client
 abbrev pub client_at : AddressBook → ℕ → Option SocketAddr
@@ -61,17 +64,29 @@ moved_up entries node from = Some (node, from) ∷ without (min (index_in entrie
 abbrev pub IsSameNetwork : AddressBook → AddressBook → Type 0
 IsSameNetwork old new = (new.hosts ≡ old.hosts) × (new.seals ≡ old.seals) × (new.admins ≡ old.admins)
 
+-- the keys and the admins are the same, and nodes live where this news says, or where they did
+abbrev pub IsNetworkAfter : HostNews → AddressBook → AddressBook → Type 0
+IsNetworkAfter news old new =
+    (new.hosts ≡ hosts_after news old.hosts) × (new.seals ≡ old.seals) × (new.admins ≡ old.admins)
+
 -- the filter of the datagrams that arrive at a node: its keys, the admins, the addresses at which nodes of another
--- genesis are, and whether it is deaf
+-- genesis are, whether it is deaf, and the greatest number that had joined
 pub record Filter : Type 0 where
   pub seals : Seals
   pub admins : Admins
   pub strangers : SocketAddr → Bool
   pub deaf : Bool
+  pub joined : ℕ
 
 abbrev pub filter_of : AddressBook → Filter
 filter_of b =
-    record { seals = b.seals; admins = b.admins; strangers = is_stranger b.neighbours; deaf = b.deaf }
+    record {
+      seals = b.seals;
+      admins = b.admins;
+      strangers = is_stranger b.neighbours;
+      deaf = b.deaf;
+      joined = b.joined;
+    }
 
 -- where nodes live and what a node filters out are the same
 abbrev pub IsSameFilter : AddressBook → AddressBook → Type 0

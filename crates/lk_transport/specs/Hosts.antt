@@ -4,6 +4,8 @@ use Rattle.std.specs.declared.net.ip_addr.IpAddr.{IpAddr}
 use Rattle.std.specs.declared.net.ip_addr.IpAddr.TheVariants as ip
 use Rattle.lk_transport.specs.declared.hosts.Hosts.{Hosts}
 use Rattle.lk_transport.specs.declared.hosts.Hosts.TheVariants.{Local, Listed}
+use Rattle.lk_transport.specs.declared.hosts.HostNews.{HostNews}
+use Rattle.lk_transport.specs.declared.hosts.HostNews.TheVariants.{Nothing, Read, Unusable}
 
 -- 127.0.0.1
 abbrev pub this_machine : IpAddr
@@ -18,3 +20,9 @@ host_in (line ∷ lines) node = if line.0 == node then Some line.1 else host_in 
 abbrev pub host_of : Hosts → ℕ → Option IpAddr
 host_of Local node = Some this_machine
 host_of (Listed lines) node = host_in lines.items node
+
+-- where nodes live then: where the file says, if it was read and can be used; else where they did
+abbrev pub hosts_after : HostNews → Hosts → Hosts
+hosts_after Nothing hosts = hosts
+hosts_after (Read found) hosts = found
+hosts_after Unusable hosts = hosts

@@ -1,5 +1,7 @@
 pub mod Chains
 pub mod Admins
+pub mod Outsiders
+pub mod Unopened
 pub mod Addresses
 pub mod Hosts
 pub mod Posts

@@ -19,6 +19,7 @@ use Rattle.lk_auth.specs.Clients.{client_keys}
 use Rattle.lk_auth.specs.Seals.{key_list, to_node, replying, framed_by, heard}
 use Rattle.lk_auth.specs.declared.seals.Seals.{Seals}
 use Rattle.lk_transport.specs.Admins.{is_request, bars}
+use Rattle.lk_transport.specs.Outsiders.{has_none, is_outsiders_want}
 use Rattle.lk_transport.specs.Addresses.{AddressBook, Filter, client_at, node_at, moved_up, IsSameFilter}
 use Rattle.lk_transport.specs.Hosts.{host_of}
 use Rattle.lk_transport.specs.Streams.{Stream}
@@ -76,10 +77,14 @@ is_beside_protocol _ = false
 abbrev pub opened_as : Filter → SocketAddr × List ℕ → SocketAddr × List ℕ
 opened_as c d = (d.0, heard c.seals d.1)
 
+-- no sender is known by a key, and it is a Want of a number that never joined
+abbrev pub is_unowed : Filter → List ℕ → Bool
+is_unowed c datagram = has_none (key_list c.seals.nodes) && is_outsiders_want c.joined datagram
+
 -- no replica gets it, wherever it came from: it is a client's request, and the node is deaf, or it is administrative
--- and the client is no admin
+-- and the client is no admin; or it is a Want whose reply is owed to nobody
 abbrev pub is_dropped : Filter → List ℕ → Bool
-is_dropped c datagram = (c.deaf && is_request datagram) || bars c.admins datagram
+is_dropped c datagram = ((c.deaf && is_request datagram) || bars c.admins datagram) || is_unowed c datagram
 
 -- no replica gets it: it is not part of the protocol, or came from a node of another genesis, or it is dropped
 abbrev pub is_filtered_out : Filter → SocketAddr × List ℕ → Bool

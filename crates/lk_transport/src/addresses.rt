@@ -41,6 +41,8 @@ pub struct Addresses {
     pub(crate) hearing: Hearing,
     // whether it hears too few of them, so that clients' requests are dropped
     pub(crate) is_deaf: bool,
+    // the greatest number of a node that had joined when this was last set, 0 before
+    pub(crate) joined: u32,
 }
 
 impl Model for Addresses {
@@ -57,6 +59,7 @@ impl Model for Addresses {
       neighbours = a.neighbours;
       hearing = a.hearing;
       deaf = a.is_deaf;
+      joined = a.joined;
     } };
 }
 
@@ -83,6 +86,7 @@ impl Addresses {
         ensures admins { result.admins ≡ network.admins }
         ensures hearing { result.hearing ≡ nothing_sent }
         ensures deaf { result.deaf ≡ false }
+        ensures joined { result.joined ≡ 0 }
     {
         let Network {
             hosts,
@@ -98,6 +102,7 @@ impl Addresses {
             neighbours: Neighbours::new(),
             hearing: Hearing::new(),
             is_deaf: false,
+            joined: 0,
         }
     }
 
@@ -106,6 +111,20 @@ impl Addresses {
         ensures { result ≡ host_of self.now.hosts node }
     {
         self.hosts.address(node)
+    }
+
+    /// Where the nodes live.
+    pub fn hosts(&self) -> &Hosts
+        ensures { result.now ≡ self.now.hosts }
+    {
+        &self.hosts
+    }
+
+    /// Sets where the nodes live.
+    pub fn set_hosts(&mut self, hosts: Hosts)
+        ensures { self.new ≡ record self.old { hosts = hosts } }
+    {
+        self.hosts = hosts;
     }
 
     /// The keys that identify nodes and clients.

@@ -15,6 +15,17 @@ pub enum Hosts {
     Listed(Vec<(NodeNo, IpAddr)>),
 }
 
+/// What was found in the file of the hosts when it was read again.
+#[derive(Drop)]
+pub enum HostNews {
+    /// Nothing: it was not read, or it still cannot be used.
+    Nothing,
+    /// Nodes live here now.
+    Read(Hosts),
+    /// It cannot be read or is invalid.
+    Unusable,
+}
+
 // Returns the address in the first line of a node, if it has one.
 fn address_in(lines: &[(NodeNo, IpAddr)], node: NodeNo) -> Option<IpAddr>
     ensures { result ≡ host_in lines.now node }
@@ -35,6 +46,15 @@ impl Hosts {
         match self {
             Hosts::Local => Some(IpAddr::V4(Ipv4Addr::LOCALHOST)),
             Hosts::Listed(lines) => address_in(lines, node),
+        }
+    }
+
+    /// Whether these are the same lines, or both are of one machine: to tell what is new, which no clause states.
+    pub fn is_same(&self, other: &Hosts) -> bool {
+        match (self, other) {
+            (Hosts::Local, Hosts::Local) => true,
+            (Hosts::Listed(lines), Hosts::Listed(others)) => lines.as_slice() == others.as_slice(),
+            _ => false,
         }
     }
 }

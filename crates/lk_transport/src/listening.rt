@@ -149,11 +149,12 @@ impl<S: DatagramSocket + Drop> SocketPost<S> {
     }
 
     /// Whether a datagram is dropped, wherever it came from: it is a client's request, and this node hears too few
-    /// members, or it is administrative and the client is no admin.
+    /// members, or it is administrative and the client is no admin; or it is a Want of a number that never joined, and
+    /// the nodes have no key.
     pub fn drops(&self, datagram: &[u8]) -> bool
         ensures { result ≡ is_dropped (filter_of self.now.addresses) datagram.now }
     {
-        (self.is_deaf() && is_request(datagram)) || self.bars(datagram)
+        (self.is_deaf() && is_request(datagram)) || self.bars(datagram) || self.is_unowed(datagram)
     }
 
     /// Returns how many of these members this node hears in period `now`; itself it always hears.

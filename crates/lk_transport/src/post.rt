@@ -15,6 +15,7 @@ ghost use Rattle.lk_transport.specs.Watches.{BringsWatch};
 
 use crate::addresses::Addresses;
 use crate::arrival::Arrival;
+use crate::hosts::Hosts;
 use crate::network::Network;
 use crate::receive_buffer::ReceiveBuffer;
 use crate::received_probe::ReceivedProbe;
@@ -282,6 +283,20 @@ impl<S: DatagramSocket + Drop> SocketPost<S> {
         ensures { result ≡ self.now.addresses.seals.genesis }
     {
         self.addresses.seals().genesis
+    }
+
+    /// Where the nodes live.
+    pub fn hosts(&self) -> &Hosts
+        ensures { result.now ≡ self.now.addresses.hosts }
+    {
+        self.addresses.hosts()
+    }
+
+    /// Sets where the nodes live: from now on letters go there.
+    pub fn set_hosts(&mut self, hosts: Hosts)
+        ensures { self.new ≡ record self.old { addresses = record self.old.addresses { hosts = hosts } } }
+    {
+        self.addresses.set_hosts(hosts);
     }
 
     /// The node whose post it is.

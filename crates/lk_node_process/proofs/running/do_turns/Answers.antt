@@ -1,11 +1,12 @@
-use Rattle.std.proofs.Common.{rules, ◌≡◌, ◌⊎◌, ℕ, [], List, Option, None, refl, subst, subst₂, arith}
+use Rattle.std.proofs.Common.{rules, ◌≡◌, ◌⊎◌, ℕ, [], List, Option, None, inl, refl, subst, subst₂, arith}
 use Rattle.lk_probe.specs.declared.reported.Reported.{Reported}
 use Rattle.lk_transport.specs.declared.received_probe.ReceivedProbe.{ReceivedProbe}
 use Rattle.lk_transport.specs.declared.received_watch.ReceivedWatch.{ReceivedWatch}
 use Rattle.lk_transport.proofs.Chaining.{repeats_as, repeats_more}
 use Rattle.lk_node_process.specs.Turns.{DoesTurnWith, HasFollowedNoStranger, HasFollowedStranger, EndsTurn}
 use Rattle.lk_node_process.specs.Warnings.{Warns}
-use Rattle.lk_node_process.proofs.Turning.{on_err, turns_end}
+use Rattle.lk_node_setup.specs.HostWatches.{host_path}
+use Rattle.lk_node_process.proofs.Turning.{hosts_more, on_err, turns_end}
 use Rattle.lk_node_process.proofs.running.do_turns.Goals as goal
 
 pub turns-init : goal.turns-init
@@ -15,6 +16,7 @@ turns-init g c = (
   search rules,
   record { states = []; are = refl; chain = refl },
   record { states = []; are = refl; chain = refl },
+  inl refl,
 )
 
 pub turns-preserved : goal.turns-preserved
@@ -34,6 +36,9 @@ turns-preserved g c =
       e.spent.2,
       repeats_more i.3 turn,
       repeats_more i.4 (record { turn = turn; warning = warning }),
+      hosts_more (g.P.TextFiles.is_text c.args.platform.now) (host_path c.args.plan.now.options)
+          c.args.server.now.addresses.hosts c.turns.server.addresses.hosts c.do_turn.new.server.addresses.hosts i.5
+          e.hosts,
     )
 
 pub returns-clause-ok : goal.returns-clause-ok
@@ -72,3 +77,12 @@ returns-in_err-do_turn-clause-warned g c =
           c.do_turn.new.server ⊎ DoesTurnWith _ observable kept told c.turns.buffer.watched HasFollowedStranger
           c.turns.server c.do_turn.new.server) i.0 i.1 c.in_err-do_turn.ensures.ends);
     })
+
+pub returns-clause-hosts : goal.returns-clause-hosts
+returns-clause-hosts g c = c.turns.invariant.5
+
+pub returns-in_err-do_turn-clause-hosts : goal.returns-in_err-do_turn-clause-hosts
+returns-in_err-do_turn-clause-hosts g c =
+    hosts_more (g.P.TextFiles.is_text c.args.platform.now) (host_path c.args.plan.now.options)
+    c.args.server.now.addresses.hosts c.turns.server.addresses.hosts c.do_turn.new.server.addresses.hosts
+    c.turns.invariant.5 c.in_err-do_turn.ensures.hosts

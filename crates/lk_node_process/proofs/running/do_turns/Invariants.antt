@@ -1,8 +1,9 @@
--- So many turns were taken, no probe, report or watch is kept between two of them, and after each the node warned where
--- that was due.
+-- So many turns were taken, no probe, report or watch is kept between two of them, after each the node warned where
+-- that was due, and nodes live where they did, or where the file of the hosts says.
 use Rattle.std.proofs.Common.{◌≡◌, None}
 use Rattle.lk_transport.specs.Chains.{Repeats}
-use Rattle.lk_node_process.specs.Turns.{DoesTurn}
+use Rattle.lk_node_setup.specs.HostWatches.{host_path}
+use Rattle.lk_node_process.specs.Turns.{AreHostsKept, DoesTurn}
 use Rattle.lk_node_process.specs.Warnings.{DoesTurnAndWarns, reminded}
 use Rattle.lk_node_process.proofs.Turning.{SaysOn}
 use Rattle.lk_node_process.proofs.running.do_turns.Given as goal
@@ -18,3 +19,4 @@ invariant-turns g l =
     l.fn.plan.header.node l.fn.plan.port) l.counter
     (reminded l.fn.server l.fn.reminder (g.E.Write.contents l.fn.err))
     (reminded l.server l.reminder (g.E.Write.contents l.err))
+    × AreHostsKept (g.P.TextFiles.is_text l.fn.platform) (host_path l.fn.plan.options) l.fn.server l.server

@@ -9,4 +9,6 @@ returns c = news c.wrote.result c.wrote.ensures c.put_some.ensures
     (news c.foreign.result c.foreign.ensures c.put_some-5.ensures
     (news c.queue_full.result c.queue_full.ensures c.put_some-6.ensures
     (news c.names.result c.names.ensures c.put_some-7.ensures
-    (news c.barred.result c.barred.ensures c.put_some-8.ensures nothing)))))))
+    (news c.barred.result c.barred.ensures c.put_some-8.ensures
+    (news c.unopened.result c.unopened.ensures c.put_some-9.ensures
+    (news c.hosts.result c.hosts.ensures c.put_some-10.ensures nothing)))))))))
