@@ -22,7 +22,7 @@ use Rattle.lk_client.specs.declared.reply.Reply.TheVariants.{Answer, Passed, Els
 abbrev Datagrams : Type 0
 Datagrams = List (SocketAddr × List ℕ)
 
-all_both : {A : Type 0} (P : A → Type 0) (first second : List A) → AllByRecursion P first → AllByRecursion P second
+pub all_both : {A : Type 0} (P : A → Type 0) (first second : List A) → AllByRecursion P first → AllByRecursion P second
     → AllByRecursion P (first ++ second)
 all_both P [] second one two = two
 all_both P (x ∷ xs) second one two = (one.0, all_both P xs second one.1 two)
@@ -54,7 +54,7 @@ only_each q (endpoint ∷ endpoints) bytes old f new g asked s =
 
 module _ {S : Type 0} (sent : S → List (SocketAddr × List ℕ)) (failures : S → ℕ)
     (next : S → Option (SocketAddr × List ℕ)) (q : Question) where
-  only_receive : {bytes : List ℕ} {told : Option ReplyValue} {old new : Asker S} → IsAsked q bytes
+  pub only_receive : {bytes : List ℕ} {told : Option ReplyValue} {old new : Asker S} → IsAsked q bytes
       → Receives sent failures next q bytes told old new
       → SendsOnly q (sent old.socket) (sent new.socket)
   only_receive {bytes = bytes} {old = old} {new = new} asked r =
@@ -132,7 +132,7 @@ module _ {S : Type 0} (sent : S → List (SocketAddr × List ℕ)) (failures : S
   replied_by reply Nothing bytes old new is hears sends = absurd (cc is)
   replied_by reply Other bytes old new is hears sends = absurd (cc is)
 
-  replied : {reply : ReplyValue} {bytes : List ℕ} {old new : Asker S}
+  pub replied : {reply : ReplyValue} {bytes : List ℕ} {old new : Asker S}
       → Receives sent failures next q bytes (Some reply) old new → IsReplied sent next q reply new.socket
   replied {reply = reply} {bytes = bytes} {old = old} {new = new} r =
       replied_by reply r.heard bytes old new r.tells r.hears r.sends

@@ -1,4 +1,9 @@
+mod Asking
+mod Hearing
 mod Keeping
+mod Lasting
 mod Receiving
 mod Replying
+mod Sending
+mod Spreading
 mod Trying

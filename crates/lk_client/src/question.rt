@@ -2,7 +2,7 @@
 
 ghost use Rattle.std.specs.Prelude.{◌≡◌, ◌≤◌, ◌⊎◌, ◌↔◌, true, Some, IfOk, IfErr, OnErr, IfSome, IsSomeAnd};
 ghost use Rattle.lk_messages.specs.Grammar.{Spells};
-ghost use Rattle.lk_transport.specs.Streams.{next_of};
+ghost use Rattle.lk_transport.specs.Streams.{Receives as Arrives, next_of};
 ghost use Rattle.lk_client.specs.Questions.{own_place, asking, IsAsked, HearsNext, SendsOnce, Receives, Tries};
 ghost use Rattle.lk_client.specs.Questions.{Exchanges, IsFinal};
 ghost use Rattle.lk_client.specs.Rules.{SendsOnly, AsksInTurn, Comes};
@@ -38,8 +38,8 @@ pub struct Question {
 }
 
 impl Question {
-    // Where it is sent first.
-    fn place(&self) -> Place
+    /// Where it is sent first.
+    pub(crate) fn place(&self) -> Place
         ensures { result ≡ own_place self.now }
     {
         Place {
@@ -83,12 +83,15 @@ pub enum Heard {
 }
 
 /// Receives once, for at most 100 ms, and returns what arrived: a reply to the question, another datagram, or nothing.
+#[tactic(auto, using(crate::proofs::Hearing::arrives))]
 pub fn next_reply<S: DatagramSocket>(
     buffer: &mut ReceiveBuffer,
     socket: &mut S,
     question: &Question,
 ) -> Heard
     ensures heard { S.is_observable → HearsNext question.now (next_of S.incoming socket.old) result }
+    ensures comes { S.is_observable
+        → Arrives (next_of S.incoming socket.old) (S.incoming socket.old) (S.incoming socket.new) }
     ensures unchanged { S.sent socket.new ≡ S.sent socket.old }
     ensures spares { S.failures socket.new ≡ S.failures socket.old }
 {
@@ -111,7 +114,7 @@ pub fn next_reply<S: DatagramSocket>(
 
 // Returns the bytes to send for the request: its datagram, in a frame if the client has a key. Fails only when out of
 // memory.
-fn bytes_to_send(alloc: Global, question: &Question) -> Result<Vec<u8>, ProgramFault>
+pub(crate) fn bytes_to_send(alloc: Global, question: &Question) -> Result<Vec<u8>, ProgramFault>
     ensures asks { IfOk result (λ bytes. IsAsked question.now bytes.items) }
     ensures only { IfErr result (λ f. f ≡ ProgramFault.NoMemory) }
 {
@@ -126,9 +129,10 @@ fn bytes_to_send(alloc: Global, question: &Question) -> Result<Vec<u8>, ProgramF
 }
 
 // Sends bytes to a place. A failed send is ignored, as if the datagram were lost.
-fn send<S: DatagramSocket>(socket: &mut S, place: Place, bytes: &[u8])
-    ensures { S.is_observable → SendsOnce (place.address, place.port) bytes.now (S.sent socket.old)
+pub(crate) fn send<S: DatagramSocket>(socket: &mut S, place: Place, bytes: &[u8])
+    ensures once { S.is_observable → SendsOnce (place.address, place.port) bytes.now (S.sent socket.old)
         (S.failures socket.old) (S.sent socket.new) (S.failures socket.new) }
+    ensures still { S.is_observable → S.incoming socket.new ≡ S.incoming socket.old }
 {
     let address = SocketAddr::from((place.address, place.port.get()));
     let _ = socket.send_to(address, bytes);
@@ -136,7 +140,8 @@ fn send<S: DatagramSocket>(socket: &mut S, place: Place, bytes: &[u8])
 
 // Receives once, and returns an Answer or a Passed. For an Elsewhere it resends the bytes to the member named there, if
 // fewer than 20 were followed, and counts it in `followed`.
-fn receive_next<S: DatagramSocket>(
+#[tactic(auto, using(crate::proofs::Hearing::arrives_at))]
+pub(crate) fn receive_next<S: DatagramSocket>(
     buffer: &mut ReceiveBuffer,
     socket: &mut S,
     question: &Question,
@@ -147,6 +152,8 @@ fn receive_next<S: DatagramSocket>(
     ensures heard { S.is_observable → Receives S.sent S.failures (next_of S.incoming) question.now bytes.now result
         (record { socket = socket.old; followed = followed.old })
         (record { socket = socket.new; followed = followed.new }) }
+    ensures comes { S.is_observable
+        → Arrives (next_of S.incoming socket.old) (S.incoming socket.old) (S.incoming socket.new) }
     ensures told { IfSome result IsFinal }
     ensures most { followed.old ≤ 20 → followed.new ≤ 20 }
 {

@@ -1,13 +1,18 @@
 //! What `locks ask` is to send, and to which places.
 
-ghost use Rattle.std.specs.Prelude.{◌≡◌, IfOk, IfErr};
-ghost use Rattle.lk_command_line.specs.Questions.{AsksAs, IsFirstError, SealsBy};
+ghost use Rattle.std.specs.Prelude.{◌≡◌, IfOk, IfErr, option_map, codes};
+ghost use Rattle.clap.specs.Matches.{found_of, first_value};
+ghost use Rattle.lk_command_line.specs.Arguments.{Names, word_of};
+ghost use Rattle.lk_command_line.specs.Questions.{AsksAs, IsFirstError, IsWaitOf, SealsBy, WaitsFor};
 
 use crate::argument_error::ArgumentError;
+use crate::status_plan::time_of;
 use crate::values::{client_in, number_in, request_in};
 use clap::ArgMatches;
 use lk_client::destination::{Destination, Place};
 use lk_client::question::Question;
+use lk_client::waiting::Wait;
+use lk_client::wanted::Wanted;
 use lk_status::target::{Inquiry, Target};
 use lk_types::{ClientNo, Op, Port, Request};
 use std::alloc::{AllocError, Global};
@@ -88,4 +93,35 @@ pub fn places_of(alloc: Global, inquiry: &Inquiry) -> Result<Vec<Place>, AllocEr
         add_places(inquiry, &mut places)?;
     }
     Ok(places)
+}
+
+// Returns the error of an invalid `--wait`.
+fn invalid_wait<'a>(word: &'a str, wanted: &'a str) -> ArgumentError<'a>
+    ensures { Names (codes "wait") word.now result }
+{
+    ArgumentError {
+        argument: "wait",
+        value: word,
+        wanted,
+    }
+}
+
+/// Reads `--wait`: how many seconds `locks ask` waits for the lock that an op asks for, `None` without it. An op that
+/// asks for no lock cannot wait.
+pub fn wait_in<'a>(matches: &ArgMatches<'a>, op: &Op) -> Result<Option<Wait>, ArgumentError<'a>>
+    ensures seconds { IfOk result (λ wait.
+        IsWaitOf (first_value (found_of matches.now) (codes "wait")) (option_map (λ w. w.seconds) wait)) }
+    ensures lock { IfOk result (λ wait. WaitsFor op.now wait) }
+    ensures err { IfErr result (Names (codes "wait") (word_of matches.now (codes "wait"))) }
+{
+    let Some(word) = matches.get_str("wait") else {
+        return Ok(None);
+    };
+    let Some(seconds) = time_of(word.as_bytes()) else {
+        return Err(invalid_wait(word, "must be 1 to 86400 seconds"));
+    };
+    match Wanted::of(op) {
+        Some(wanted) => Ok(Some(Wait { wanted, seconds })),
+        None => Err(invalid_wait(word, "needs acquire NAME or share NAME")),
+    }
 }

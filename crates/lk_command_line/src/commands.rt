@@ -80,6 +80,8 @@ const SUBCOMMANDS: &[Usage] = &[
         (Kind::Word, "client", "the number of the client, 1 to 256"),
         (Kind::Word, "request", "the number of the request, higher each time"),
         (Kind::Flag, "force", "sends a join or leave without a look at whether a majority will have caught up"),
+        (Kind::Given, "wait",
+            "SECONDS, up to 86400: while another client holds the lock, an acquire or share waits so long and asks again, each time with the next number; the last one is printed to standard error"),
         (Kind::Words, "op",
             "acquire NAME, release NAME FENCE, ask NAME, check NAME FENCE, share NAME, break NAME FENCE, join NODE PORT, leave NODE, raise 2 or raw HEX"),
     ]),

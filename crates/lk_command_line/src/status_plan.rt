@@ -64,8 +64,8 @@ fn patience_in<'a>(matches: &ArgMatches<'a>) -> Result<u32, ArgumentError<'a>>
     }
 }
 
-// Reads seconds from 1 to 86400. `None` if the word spells none of them.
-fn time_of(word: &[u8]) -> Option<u32>
+/// Reads seconds from 1 to 86400. `None` if the word spells none of them.
+pub(crate) fn time_of(word: &[u8]) -> Option<u32>
     ensures some { IfSome result (Spells IsTime word.now) }
     ensures none { IsNone result → SpellsNone IsTime word.now }
 {

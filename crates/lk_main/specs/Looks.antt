@@ -1,4 +1,5 @@
--- A look at the members that shows a join or a leave to be safe, and which join it warns of.
+-- A look at the members that shows a join or a leave to be safe, which join it warns of, and where a client that waits
+-- asks.
 use Rattle.std.specs.Prelude.{ℕ, ◌*◌, Bool, true, nat_lt, if◌then◌else◌, Option, Some, None, List, []}
 use Rattle.std.specs.Prelude.{◌++◌, codes}
 use Rattle.std.specs.Fmt.{decimal}
@@ -7,6 +8,8 @@ use Rattle.std.specs.declared.net.socket_addr.SocketAddr.{SocketAddr}
 use Rattle.lk_types.specs.declared.command.Op.{Op}
 use Rattle.lk_types.specs.declared.command.Op.TheVariants.{Table, Join, Leave, Raise}
 use Rattle.lk_transport.specs.Streams.{Stream}
+use Rattle.lk_client.specs.declared.destination.Destination.{Destination}
+use Rattle.lk_client.specs.declared.question.Question.{Question}
 use Rattle.lk_status.specs.Looks.{AsksAlike, IsShown}
 use Rattle.lk_status.specs.declared.target.Inquiry.{Inquiry}
 use Rattle.lk_status.specs.declared.target.Target.{Target}
@@ -18,6 +21,12 @@ pub record IsShownSafe {S : Type 0} (sent : S → List (SocketAddr × List ℕ))
   pub alike : AsksAlike i asked
   pub ended : S
   pub shown : IsShown sent incoming failures observable asked op true ended
+
+-- ---- a wait for a lock
+
+-- the question, as it is asked there
+abbrev pub directed : Destination → Question → Question
+directed d q = record q { destination = d }
 
 -- ---- a join of a number that is far above those of the members
 

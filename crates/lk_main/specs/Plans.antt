@@ -13,7 +13,7 @@ use Rattle.lk_pacing.specs.declared.pace.Pace.{Pace}
 use Rattle.lk_pacing.specs.declared.pace.Pace.TheVariants.{Clock, Datagrams}
 use Rattle.lk_command_line.specs.Admins.{AreAdmins}
 use Rattle.lk_command_line.specs.Arguments.{is_given, word_of, words_of, IsSet, IsUnset}
-use Rattle.lk_command_line.specs.Questions.{AsksAs, SealsBy}
+use Rattle.lk_command_line.specs.Questions.{AsksAs, IsWaitOf, SealsBy, WaitsFor}
 use Rattle.lk_command_line.specs.Spellings.{IsNumber, Spells}
 use Rattle.lk_command_line.specs.Targets.{AreTargetsOf}
 use Rattle.lk_random_schedules.specs.declared.plan.Plan.{Plan}
@@ -74,7 +74,8 @@ pub record PlansSchedule (m : ArgMatches) (p : Plan) : Type 0 where
   pub waiting : IsUnset m (codes "nudges") → p.nudges ≡ false
 
 -- the numbers of the question, the targets and the options are those of the arguments. The first target is asked first,
--- and all belong to the same cluster; probes name the client if its key is given
+-- and all belong to the same cluster; probes name the client if its key is given. It waits so many seconds as the word
+-- spells for the lock that the request asks for
 pub record PlansAsk (m : ArgMatches) (p : AskPlan) : Type 0 where
   pub asks : AsksAs m p.question.request.op p.question.port p.question
   pub targets : AreTargetsOf (words_of m (codes "port")) p.inquiry.targets.items
@@ -83,6 +84,8 @@ pub record PlansAsk (m : ArgMatches) (p : AskPlan) : Type 0 where
   pub client : SealsBy m p.question.request.client p.inquiry.client
   pub forced : IsSet m (codes "force") → p.is_forced ≡ true
   pub looking : IsUnset m (codes "force") → p.is_forced ≡ false
+  pub seconds : IsWaitOf (first_value (found_of m) (codes "wait")) (option_map (λ w. w.seconds) p.wait)
+  pub lock : WaitsFor p.question.request.op p.wait
   pub options : OptionsAre m (codes "address") p.options
 
 -- the file of masters is the one that is named, and the client is the one that the word spells

@@ -1,12 +1,14 @@
 //! Runs `locks ask`: sends a request, a join or a leave only after a look at the members.
 
 ghost use Rattle.std.specs.Io.KnownBytes.{Appends};
-ghost use Rattle.std.specs.Prelude.{◌≡◌, ◌≤◌, ◌↔◌, false, IsTrue, IfOk, OnOk};
+ghost use Rattle.std.specs.Prelude.{◌≡◌, ◌≤◌, ◌↔◌, ℕ, true, false, IsTrue, IfOk, OnOk};
+ghost use Rattle.lk_client.specs.Waits.{AsksFor, EndsWait};
 ghost use Rattle.lk_members.specs.Rosters.{IsChange};
-ghost use Rattle.lk_main.specs.Looks.{IsShownSafe, is_above_twice, is_far, far_line, far_text};
+ghost use Rattle.lk_main.specs.Looks.{IsShownSafe, directed, is_above_twice, is_far, far_line, far_text};
 
 use lk_client::destination::Place;
 use lk_client::question::{Question, ask};
+use lk_client::waiting::{Wait, ask_and_wait};
 use lk_program_fault::ProgramFault;
 use lk_status::target::{Inquiry, Target};
 use lk_status_command::withheld::may_send;
@@ -15,6 +17,7 @@ use lk_types::{NodeNo, Op};
 use std::alloc::Global;
 use std::io;
 use std::io::Write;
+use std::time::Clock;
 
 // Whether an op is a join or a leave.
 fn is_change(op: &Op) -> bool
@@ -121,4 +124,43 @@ pub fn ask_if_cleared<S: DatagramSocket, W: Write, E: Write>(
     }
     question.destination = inquiry.destination;
     ask(alloc, socket, &question, places, out, err)
+}
+
+/// Waits for the lock that a request asks for, and prints the reply. It asks these places in turn, of which the first
+/// ones are the targets of the inquiry, and sends its watches to those. Returns status 0, or 1 after printing `no
+/// answer` or writing a fault to standard error.
+pub fn wait_at<S: DatagramSocket, C: Clock, W: Write, E: Write>(
+    alloc: Global,
+    socket: &mut S,
+    clock: &C,
+    inquiry: Inquiry,
+    mut question: Question,
+    wait: Wait,
+    places: Vec<Place>,
+    out: &mut W,
+    err: &mut E,
+) -> u8
+    requires { AsksFor question.request.op wait.wanted.mode wait.wanted.name }
+    ensures status { result ≤ 1 }
+    // At status 0 it was told something, under the last of its numbers, and asked as the destination says.
+    ensures waited { S.is_observable → result ≡ 0 → (last : ℕ) × EndsWait S.sent S.incoming
+        (directed inquiry.destination question) last true socket.old socket.new }
+{
+    let Inquiry {
+        destination,
+        targets,
+        ..
+    } = inquiry;
+    question.destination = destination;
+    ask_and_wait(
+        alloc,
+        socket,
+        clock,
+        question,
+        wait,
+        places,
+        targets.len(),
+        out,
+        err,
+    )
 }

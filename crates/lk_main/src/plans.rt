@@ -8,9 +8,10 @@ ghost use Rattle.lk_main.specs.Plans.{PlansNode, PlansSchedule};
 
 use clap::ArgMatches;
 use lk_client::question::Question;
+use lk_client::waiting::Wait;
 use lk_command_line::admins::admins_in;
 use lk_command_line::argument_error::{ArgumentError, invalid_argument};
-use lk_command_line::asking::{inquiry_of, question_of};
+use lk_command_line::asking::{inquiry_of, question_of, wait_in};
 use lk_command_line::operation::invalid_operation;
 use lk_command_line::targets::targets_in;
 use lk_command_line::values::{
@@ -145,12 +146,13 @@ pub fn client_key_plan<'a>(
 }
 
 /// What `locks ask` is to ask; whom, in turn, and first for their members if the request is a join or a leave that is
-/// not forced; and its options about other machines.
+/// not forced; for which lock it waits, if it does; and its options about other machines.
 #[derive(Drop)]
 pub struct AskPlan<'a> {
     pub question: Question,
     pub inquiry: Inquiry,
     pub is_forced: bool,
+    pub wait: Option<Wait>,
     pub options: NetworkOptions<'a>,
 }
 
@@ -167,11 +169,13 @@ fn ask_plan_of<'a>(
         return Err(invalid_argument(matches, "port"));
     };
     let options = ask_options(matches)?;
+    let wait = wait_in(matches, &op)?;
     let question = question_of(matches, op, first.port)?;
     Ok(AskPlan {
         inquiry: inquiry_of(matches, &question, targets),
         question,
         is_forced: matches.get_flag("force"),
+        wait,
         options,
     })
 }

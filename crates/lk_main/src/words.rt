@@ -2,10 +2,11 @@
 
 ghost use Rattle.std.specs.Prelude.{◌≡◌, ◌≤◌, Some, codes};
 ghost use Rattle.clap.specs.Words.{subcommand_name_of};
+ghost use Rattle.lk_command_line.specs.Questions.{WaitsFor};
 ghost use Rattle.lk_main.specs.NodeRuns.{RunsArguments, RunsNamed};
 ghost use Rattle.lk_main.specs.Plans.{PrintsClientKey};
 
-use crate::asking::ask_if_cleared;
+use crate::asking::{ask_if_cleared, wait_at};
 use crate::node::run_logged;
 use crate::plans::{
     AskPlan, ask_options, ask_plan, client_key_plan, fuzz_plan, init_plan, level_of, listing_of,
@@ -14,6 +15,7 @@ use crate::plans::{
 use crate::subcommand::Subcommand;
 use clap::error::ErrorKind;
 use clap::{ArgMatches, Error};
+use lk_client::destination::Place;
 use lk_command_line::argument_error::ArgumentError;
 use lk_command_line::asking::places_of;
 use lk_command_line::commands::program;
@@ -120,48 +122,72 @@ fn local_address(options: &NetworkOptions<'_>, inquiry: &Inquiry) -> IpAddr {
     local
 }
 
-// Reads the addresses and keys, opens a socket, and sends the request of the plan if it may be sent.
-fn run_ask<R: Files<File = File> + Net, W: Write, E: Write>(
-    rt: &R,
+// Sends the request of a plan from this socket, if it may be sent: to these places in turn, of which the first ones are
+// the nodes. Waits for its lock if the plan says so.
+fn ask_from<S: DatagramSocket, C: Clock, W: Write, E: Write>(
     alloc: Global,
+    socket: &mut S,
+    clock: &C,
     plan: AskPlan<'_>,
+    places: Vec<Place>,
     out: &mut W,
     err: &mut E,
 ) -> u8
+    requires { WaitsFor plan.question.request.op plan.wait }
     ensures { result ≤ 2 }
 {
     let AskPlan {
         question,
-        mut inquiry,
+        inquiry,
         is_forced,
-        options,
+        wait,
+        ..
     } = plan;
-    inquiry.destination = match destination_of(&System(rt), alloc, inquiry.cluster, &options, err) {
+    match wait {
+        Some(wait) => wait_at(
+            alloc, socket, clock, inquiry, question, wait, places, out, err,
+        ),
+        None => ask_if_cleared(
+            alloc, socket, inquiry, question, &places, is_forced, out, err,
+        ),
+    }
+}
+
+// Reads the addresses and keys, opens a socket, and sends the request of the plan if it may be sent.
+fn run_ask<R: Files<File = File> + Net + Clock, W: Write, E: Write>(
+    rt: &R,
+    alloc: Global,
+    mut plan: AskPlan<'_>,
+    out: &mut W,
+    err: &mut E,
+) -> u8
+    requires { WaitsFor plan.question.request.op plan.wait }
+    ensures { result ≤ 2 }
+{
+    let cluster = plan.inquiry.cluster;
+    plan.inquiry.destination = match destination_of(
+        &System(rt),
+        alloc,
+        cluster,
+        &plan.options,
+        err,
+    ) {
         Ok(destination) => destination,
         Err(fault) => return fault.write_to(err),
     };
-    let places = match places_of(alloc, &inquiry) {
+    let places = match places_of(alloc, &plan.inquiry) {
         Ok(places) => places,
         Err(_) => return ProgramFault::NoMemory.write_to(err),
     };
-    let local = local_address(&options, &inquiry);
+    let local = local_address(&plan.options, &plan.inquiry);
     match open_socket_at(rt, SocketAddr::from((local, 0)), err) {
-        Ok(mut socket) => ask_if_cleared(
-            alloc,
-            &mut socket,
-            inquiry,
-            question,
-            &places,
-            is_forced,
-            out,
-            err,
-        ),
+        Ok(mut socket) => ask_from(alloc, &mut socket, rt, plan, places, out, err),
         Err(fault) => fault.write_to(err),
     }
 }
 
 // Runs `locks ask`.
-fn run_ask_words<R: Files<File = File> + Net, W: Write, E: Write>(
+fn run_ask_words<R: Files<File = File> + Net + Clock, W: Write, E: Write>(
     rt: &R,
     alloc: Global,
     matches: &ArgMatches<'_>,

@@ -16,7 +16,7 @@ receives-preserved g c = (
 pub returns-then-is_some-clause-tries : goal.returns-then-is_some-clause-tries
 returns-then-is_some-clause-tries g c tells = record {
   asked_on = c.send.new.socket;
-  asks = c.send.ensures tells;
+  asks = c.send.ensures.once tells;
   waits = receives_told c.receive_next-reply.result (sym c.is_some.ensures
       ∙ c.if-is_some.true) refl c.receives-test.true
       (c.receives.invariant.1 tells) (c.receive_next-reply.ensures.heard tells);
@@ -27,6 +27,6 @@ returns-clause-tries g c tells =
     let all : c.receives.counter ≡ c.args.patience = omega arith in
     record {
       asked_on = c.send.new.socket;
-      asks = c.send.ensures tells;
+      asks = c.send.ensures.once tells;
       waits = receives_none all (c.receives.invariant.1 tells);
     }
