@@ -367,6 +367,7 @@ module _ (May : Network) (Metered observable : Type 0) where
           addresses = next.addresses;
           queue = next.queue;
           aged = next.aged;
+          changed = next.changed;
           sent = next.sent;
           socket_failures = next.socket_failures;
           incoming = next.incoming;

@@ -274,6 +274,7 @@ at_rest server after = record after {
   withheld = server.withheld;
   queue = server.queue;
   aged = server.aged;
+  changed = server.changed;
 }
 
 -- what handling watches may change
@@ -282,6 +283,7 @@ pub watches_change : {observable : Type 0} (watched : Option ReceivedWatch) (old
     → new ≡ record old {
       queue = new.queue;
       aged = new.aged;
+      changed = new.changed;
       sent = new.sent;
       socket_failures = new.socket_failures;
       incoming = new.incoming;
@@ -290,6 +292,7 @@ watches_change watched old new (inl quiet) =
     quiet.same ∙ ap (λ (s : ServerValue ReplicaValue). record old {
       queue = s.queue;
       aged = s.aged;
+      changed = s.changed;
       sent = s.sent;
       socket_failures = s.socket_failures;
       incoming = s.incoming;
@@ -317,6 +320,7 @@ after_told : (old told new : ServerValue ReplicaValue) → told ≡ record old {
       addresses = new.addresses;
       queue = new.queue;
       aged = new.aged;
+      changed = new.changed;
       sent = new.sent;
       socket_failures = new.socket_failures;
       incoming = new.incoming;
@@ -326,6 +330,7 @@ after_told old told new first last =
       addresses = new.addresses;
       queue = new.queue;
       aged = new.aged;
+      changed = new.changed;
       sent = new.sent;
       socket_failures = new.socket_failures;
       incoming = new.incoming;
@@ -380,6 +385,7 @@ at_rest_by server after (inl i) =
       socket_failures = server.socket_failures;
       queue = server.queue;
       aged = server.aged;
+      changed = server.changed;
     }) i.1.same
 at_rest_by server after (inr a) =
     ap (λ (s : ServerValue ReplicaValue). at_rest server s) (beside_changes a.0 a.1 a.2 a.3 server after a.4)

@@ -12,7 +12,11 @@ use Rattle.lk_transport.specs.Watches.{SendsNotice, SendsNotices}
 use Rattle.lk_transport.specs.declared.received_watch.ReceivedWatch.{ReceivedWatch}
 use Rattle.lk_server.specs.Servers.{ServerValue, periods, send_state_at}
 use Rattle.lk_server.specs.WatchHandling.{Speaks, ServesWaiters, AnswersWatch, TellsNext, TellsWaiters}
-use Rattle.lk_server.specs.WatchHandling.{ChangesByNotices, begun_at}
+use Rattle.lk_server.specs.WatchHandling.{ChangesByNotices, IsAllNew, begun_at}
+use Rattle.lk_server.specs.ChangedNames.{ChangedValue, none_changed}
+use Rattle.lk_watch.specs.Seen.{standing_by}
+use Rattle.lk_watch.specs.declared.seen.SeenName.{SeenName}
+use Rattle.std.specs.Prelude.{IfSome}
 use Rattle.lk_server_replica.specs.declared.probed_state.ProbedState.{ProbedState}
 
 -- ---- one letter after another
@@ -41,11 +45,11 @@ letters_left table [] old new same = let left : new.left ≡ old.left = ap (λ (
 letters_left table (l ∷ letters) old new each =
     omega (arith, each.1.counted, letters_left table letters each.0 new each.2)
 
-module _ {R : Type 0} (T : R → Table) (observable : Type 0) where
+module _ {R : Type 0} (T : R → Standings) (observable : Type 0) where
   -- those so far were told
   abbrev pub HasTold : List Letter → ServerValue R → ServerValue R → Type 0
   HasTold letters old new =
-      TellsEach (standing_in (T old.replica)) old.queue letters new.queue
+      TellsEach (T old.replica) old.queue letters new.queue
       × SendsNotices observable old.addresses.seals old.node letters (send_state_at old.loopback old)
       (send_state_at new.loopback new)
       × (observable → new.incoming ≡ old.incoming)
@@ -53,7 +57,7 @@ module _ {R : Type 0} (T : R → Table) (observable : Type 0) where
 
   -- the next one
   pub tells_next : (letter : Letter) (mid one new : ServerValue R)
-      → TellsFirst (standing_in (T mid.replica)) mid.queue letter one.queue
+      → TellsFirst (T mid.replica) mid.queue letter one.queue
       → one ≡ record mid { queue = one.queue }
       → SendsNotice observable one.addresses.seals one.node letter (send_state_at one.loopback one)
       (send_state_at new.loopback new)
@@ -76,7 +80,7 @@ module _ {R : Type 0} (T : R → Table) (observable : Type 0) where
       seals node sends in
       record {
         letter = letter;
-        tells = subst (λ (q : QueueValue). TellsFirst (standing_in (T mid.replica)) mid.queue letter q) queue tells;
+        tells = subst (λ (q : QueueValue). TellsFirst (T mid.replica) mid.queue letter q) queue tells;
         sends = subst (λ (t : SendState). SendsNotice observable mid.addresses.seals mid.node letter t after) before
             by_keys;
       }
@@ -93,13 +97,13 @@ module _ {R : Type 0} (T : R → Table) (observable : Type 0) where
       let seals : mid.addresses.seals ≡ old.addresses.seals =
       ap (λ (s : ServerValue R). s.addresses.seals) changes in
       let node : mid.node ≡ old.node = ap (λ (s : ServerValue R). s.node) changes in
-      let told : TellsFirst (standing_in (T old.replica)) mid.queue letter new.queue =
-      subst (λ (r : R). TellsFirst (standing_in (T r)) mid.queue letter new.queue) replica next.tells in
+      let told : TellsFirst (T old.replica) mid.queue letter new.queue =
+      subst (λ (r : R). TellsFirst (T r) mid.queue letter new.queue) replica next.tells in
       let after = send_state_at new.loopback new in
       let sent : SendsNotice observable old.addresses.seals old.node letter (send_state_at mid.loopback mid) after =
       subst₂ (λ (s : Seals) (n : ℕ). SendsNotice observable s n letter (send_state_at mid.loopback mid) after)
       seals node next.sends in (
-        tells_more (standing_in (T old.replica)) letters letter old.queue mid.queue new.queue so_far.0 told,
+        tells_more (T old.replica) letters letter old.queue mid.queue new.queue so_far.0 told,
         sends_both observable old.addresses.seals old.node letters (letter ∷ []) (send_state_at old.loopback old)
             (send_state_at mid.loopback mid) after so_far.1 (after, sent, refl),
         λ t. still t ∙ so_far.2 t,
@@ -111,10 +115,10 @@ module _ {R : Type 0} (T : R → Table) (observable : Type 0) where
         }) changes,
       )
 
-module _ {R : Type 0} (T : R → Table) (observable : Type 0) where
+module _ {R : Type 0} (T : R → Standings) (observable : Type 0) where
   -- those who were to be told are
   pub told_all : (letters : List Letter) (old mid new : ServerValue R) → HasTold T observable letters old mid
-      → ((mid.queue.left ≡ 0) ⊎ NoneDueBefore (standing_in (T mid.replica)) mid.queue.waiters
+      → ((mid.queue.left ≡ 0) ⊎ NoneDueBefore (T mid.replica) mid.queue.waiters
       (length mid.queue.waiters))
       → new ≡ mid → TellsWaiters (T old.replica) observable true old new
   told_all letters old mid new so_far ends same =
@@ -123,7 +127,7 @@ module _ {R : Type 0} (T : R → Table) (observable : Type 0) where
         letters = letters;
         tells = record {
           each = so_far.0;
-          ends = subst (λ (r : R). (mid.queue.left ≡ 0) ⊎ NoneDueBefore (standing_in (T r)) mid.queue.waiters
+          ends = subst (λ (r : R). (mid.queue.left ≡ 0) ⊎ NoneDueBefore (T r) mid.queue.waiters
               (length mid.queue.waiters)) replica ends;
         };
         sends = so_far.1;
@@ -180,17 +184,25 @@ module _ {R : Type 0} (table : Table) (observable : Type 0) (speaks : Bool) (r :
 -- ---- a whole turn of the queue
 
 module _ {R : Type 0} (T : R → Table) (Shows : R → ProbedState → Type 0) (observable : Type 0)
-    (watched : Option ReceivedWatch) (speaks : Bool) (old first mid new : ServerValue R) where
+    (watched : Option ReceivedWatch) (seen : Option (List SeenName)) (speaks : Bool)
+    (old first mid new : ServerValue R) where
   -- it begins, hears the watch that is kept, and tells those who wait
-  pub served : first ≡ record old { queue = begun_at (T old.replica) old; aged = periods old }
-      → Speaks Shows first speaks → AnswersWatch (T first.replica) observable speaks watched first mid
+  pub served : first ≡ record old {
+    queue = begun_at (T old.replica) seen old;
+    aged = periods old;
+    changed = none_changed;
+  }
+      → IfSome seen (IsAllNew (T old.replica) watched old) → Speaks Shows old speaks
+      → AnswersWatch (T first.replica) observable speaks watched first mid
       → (observable → mid.incoming ≡ first.incoming) → ChangesByNotices first mid
-      → TellsWaiters (T mid.replica) observable speaks mid new → (observable → new.incoming ≡ mid.incoming)
+      → TellsWaiters (standing_by (T mid.replica) seen) observable speaks mid new
+      → (observable → new.incoming ≡ mid.incoming)
       → ChangesByNotices mid new → ServesWaiters (T old.replica) Shows observable watched old new
-  served first_is says answers quiet mid_is tells still new_is =
+  served first_is looks says answers quiet mid_is tells still new_is =
       let mid_so : mid ≡ record old {
         queue = mid.queue;
         aged = periods old;
+        changed = none_changed;
         sent = mid.sent;
         socket_failures = mid.socket_failures;
         incoming = mid.incoming;
@@ -204,6 +216,7 @@ module _ {R : Type 0} (T : R → Table) (Shows : R → ProbedState → Type 0) (
       let new_so : new ≡ record old {
         queue = new.queue;
         aged = periods old;
+        changed = none_changed;
         sent = new.sent;
         socket_failures = new.socket_failures;
         incoming = new.incoming;
@@ -215,19 +228,26 @@ module _ {R : Type 0} (T : R → Table) (Shows : R → ProbedState → Type 0) (
         incoming = new.incoming;
       }) mid_so in
       let aged : new.aged ≡ periods old = ap (λ (s : ServerValue R). s.aged) new_so in
+      let changed : new.changed ≡ none_changed = ap (λ (s : ServerValue R). s.changed) new_so in
       let heard : AnswersWatch (T old.replica) observable speaks watched
-      (record old { queue = begun_at (T old.replica) old; aged = periods old }) mid =
+      (record old {
+        queue = begun_at (T old.replica) seen old;
+        aged = periods old;
+        changed = none_changed;
+      }) mid =
       subst (λ (s : ServerValue R). AnswersWatch (T s.replica) observable speaks watched s mid) first_is answers in
       let replica : mid.replica ≡ old.replica = ap (λ (s : ServerValue R). s.replica) mid_so in
       let seals : mid.addresses.seals ≡ old.addresses.seals =
       ap (λ (s : ServerValue R). s.addresses.seals) mid_so in
       let node : mid.node ≡ old.node = ap (λ (s : ServerValue R). s.node) mid_so in
       let after = send_state_at new.loopback new in
-      let told : TellsWaiters (T old.replica) observable speaks mid new =
-      subst (λ (r : R). TellsWaiters (T r) observable speaks mid new) replica tells in
+      let told : TellsWaiters (standing_by (T old.replica) seen) observable speaks mid new =
+      subst (λ (r : R). TellsWaiters (standing_by (T r) seen) observable speaks mid new) replica tells in
       record {
         speaks = speaks;
-        says = subst (λ (s : ServerValue R). Speaks Shows s speaks) first_is says;
+        says = says;
+        seen = seen;
+        looks = looks;
         answers = heard.letters;
         heard = mid.queue;
         hears = heard.hears;
@@ -239,11 +259,20 @@ module _ {R : Type 0} (T : R → Table) (Shows : R → ProbedState → Type 0) (
             after) seals node told.sends);
         still = λ t. still t ∙ quiet t ∙ ap (λ (s : ServerValue R). s.incoming) first_is;
         aged = aged;
+        changed = changed;
         same = new_so ∙ ap (λ (n : ℕ). record old {
           queue = new.queue;
           aged = n;
+          changed = none_changed;
           sent = new.sent;
           socket_failures = new.socket_failures;
           incoming = new.incoming;
-        }) (sym aged);
+        }) (sym aged) ∙ ap (λ (c : ChangedValue). record old {
+          queue = new.queue;
+          aged = new.aged;
+          changed = c;
+          sent = new.sent;
+          socket_failures = new.socket_failures;
+          incoming = new.incoming;
+        }) (sym changed);
       }

@@ -1,5 +1,6 @@
 pub mod GroupFaults
 pub mod Counts
+pub mod ChangedNames
 pub mod Servers
 pub mod Gatherings
 pub mod Pauses

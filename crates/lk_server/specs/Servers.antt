@@ -18,6 +18,7 @@ use Rattle.lk_transport.specs.declared.network.Network.{Network}
 use Rattle.lk_watch.specs.Queues.{QueueValue}
 use Rattle.lk_probe.specs.Grammar.{no_digest}
 use Rattle.lk_probe.specs.declared.state_digest.StateDigest.{StateDigest}
+use Rattle.lk_server.specs.ChangedNames.{ChangedValue}
 use Rattle.lk_pacing.specs.declared.pace.Pace.{Pace}
 use Rattle.lk_pacing.specs.declared.pace.Pace.TheVariants.{Clock}
 
@@ -48,6 +49,8 @@ pub record ServerValue (R : Type 0) : Type 0 where
   -- who waits for a name, and the count of periods up to which their watches have lived
   pub queue : QueueValue
   pub aged : ℕ
+  -- the names whose holders may have changed since then
+  pub changed : ChangedValue
 
 -- it serves as this node of this cluster, with this pace, these hosts, these keys and these admins
 pub record IsConfiguredAs {R : Type 0} (c n : ℕ) (p : Pace) (known : Network) (s : ServerValue R) : Type 0 where

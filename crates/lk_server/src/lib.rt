@@ -3,6 +3,7 @@
 #![tactic(auto)]
 
 mod barring;
+pub mod changed_names;
 mod gathering;
 pub mod group_fault;
 pub mod ignored;

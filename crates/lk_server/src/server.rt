@@ -5,12 +5,14 @@ ghost use Rattle.std.specs.declared.net.socket_addr.SocketAddr.{SocketAddr as Ad
 ghost use Rattle.lk_transport.specs.Addresses.{filter_of, IsSameNetwork};
 ghost use Rattle.lk_server.specs.Gatherings.{Finds, DeliversAllLetters, SaysNothing};
 ghost use Rattle.lk_transport.specs.Posts.{all_filtered};
+ghost use Rattle.lk_server.specs.WatchHandling.{NotesChanges};
 ghost use Rattle.lk_transport.specs.Kept.{KeepsOf};
 ghost use Rattle.lk_server_replica.specs.Refusals.{IsOfGroups};
 ghost use Rattle.lk_server.specs.Servers.{DeliversLetters, DeliversNothing, HasHeardNobody, HasReceived, IsSameServer};
 ghost use Rattle.lk_server.specs.Servers.{KeepsCounts, LastTurn};
 ghost use Rattle.lk_server.specs.Servers.{Runs, IsConfiguredAs, HasSocket, TurnOrIdle, Turn, one_more_tick};
 
+use crate::changed_names::ChangedNames;
 use crate::group_fault::GroupFault;
 use crate::ignored::IgnoredCounts;
 use crate::notes::log_notes;
@@ -73,6 +75,11 @@ pub struct Server<R: ServerReplica, S: DatagramSocket + Drop> {
     // who waits for a name, and the count of periods up to which their watches have lived
     pub(crate) watches: WatchQueue,
     pub(crate) aged: u64,
+    // the names whose holders may have changed since the queue's last turn
+    pub(crate) changed: ChangedNames,
+    // whether it spoke for the cluster then, and how many positions it had executed
+    pub(crate) spoke: bool,
+    pub(crate) served: u64,
 }
 
 impl<R: ServerReplica, S: DatagramSocket + Drop> Model for Server<R, S> {
@@ -97,6 +104,7 @@ impl<R: ServerReplica, S: DatagramSocket + Drop> Model for Server<R, S> {
       incoming = s.post.incoming;
       queue = s.watches;
       aged = s.aged;
+      changed = s.changed;
     } };
 }
 
@@ -142,6 +150,9 @@ impl<R: ServerReplica, S: DatagramSocket + Drop> Server<R, S> {
             barred_noted: None,
             watches: WatchQueue::new(alloc),
             aged: 0,
+            changed: ChangedNames::new(alloc),
+            spoke: false,
+            served: 0,
         }
     }
 
@@ -188,6 +199,7 @@ impl<R: ServerReplica, S: DatagramSocket + Drop> Server<R, S> {
         ensures alive { OnOk result (self.new.failed ≡ false) }
         ensures broken { OnErr result (self.new.failed ≡ true) }
         ensures told { IfErr result IsOfGroups }
+        ensures unchanged { self.new.changed ≡ self.old.changed }
     {
         self.post.start_group();
         let released = self.replica.release(group, &mut self.post);
@@ -211,11 +223,14 @@ impl<R: ServerReplica, S: DatagramSocket + Drop> Server<R, S> {
         ensures still { S.is_observable → self.new.incoming ≡ self.old.incoming }
         ensures alive { OnOk result (self.new.failed ≡ false) }
         ensures broken { OnErr result (self.new.failed ≡ true) }
+        // The names of the commands that were executed are noted, if anybody waits.
+        ensures noted { OnOk result (NotesChanges group.now.notes self.old self.new) }
     {
         match self.sync_and_send(group, log) {
             Ok(_) => {
                 log_notes(log, group.notes());
                 self.table = self.table.after(group.notes());
+                self.note_changes(group.notes());
                 Ok(())
             }
             Err(fault) => Err(GroupFault::of(&fault)),

@@ -33,39 +33,23 @@ impl Post for Falters {
     }
 }
 
-// How a tick ends: the number of the refusal, 0 for none, and how many letters are sent by then.
-#[derive(Clone, Copy, PartialEq, Debug)]
-struct Ticked {
-    refusal: u8,
-    sent: u8,
-}
-
 // The number of the refusal of a tick, 0 for none.
-fn refusal_of(replica: &mut Locks, post: &mut Falters) -> u8 {
+fn ticked(replica: &mut Locks, post: &mut Falters) -> u8 {
     match Replica::take(replica, Input::Tick, post) {
         Ok(_) => 0,
         Err(fault) => fault.number(),
     }
 }
 
-const QUIET: Ticked = Ticked {
-    refusal: 0,
-    sent: 0,
-};
-
-// How each of six ticks of the first of three nodes ends.
-fn ticks(replica: &mut Locks) -> [Ticked; 6] {
+// How each of six ticks of the first of three nodes ends, and how much is sent by then.
+fn ticks(replica: &mut Locks) -> [(u8, u8); 6] {
     let mut post = Falters {
         failures: 0,
         sent: 0,
     };
-    let mut ends = [QUIET; 6];
+    let mut ends = [(0, 0); 6];
     for end in &mut ends {
-        let refusal = refusal_of(replica, &mut post);
-        *end = Ticked {
-            refusal,
-            sent: post.sent,
-        };
+        *end = (ticked(replica, &mut post), post.sent);
     }
     ends
 }
@@ -73,25 +57,8 @@ fn ticks(replica: &mut Locks) -> [Ticked; 6] {
 #[test]
 fn the_letters_behind_a_lost_one_are_sent(rt: HostRuntime) -> Result<(), Fail> {
     let mut replica = begun(rt.alloc(), 1, 1, 3)?;
-    // At the fourth tick all three are asked for a promise, and the first letter is lost. At each later tick they are
-    // asked again.
-    let wanted = [
-        QUIET,
-        QUIET,
-        QUIET,
-        Ticked {
-            refusal: 15,
-            sent: 2,
-        },
-        Ticked {
-            refusal: 0,
-            sent: 7,
-        },
-        Ticked {
-            refusal: 0,
-            sent: 12,
-        },
-    ];
-    assert_eq!(rt; ticks(&mut replica), wanted);
+    // At the fourth tick all three are asked for a promise, and at each later one again.
+    let ends = [(0, 0), (0, 0), (0, 0), (15, 2), (0, 7), (0, 12)];
+    assert_eq!(rt; ticks(&mut replica), ends);
     Ok(())
 }

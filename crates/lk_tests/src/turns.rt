@@ -122,37 +122,25 @@ impl ServerReplica for NotingReplica {
     }
 }
 
-// What is seen of a replica: the generation, the snapshot's position, how many positions are executed, and the round of
-// a term of node 1 and the known leader, each 0 if there is none.
-#[derive(Clone, Copy)]
-struct Seen {
-    generation: u64,
-    snapshot: u64,
-    executed: u64,
-    round: u64,
-    leader: u32,
-}
+// The generation, the snapshot's position, how many positions are executed, and where there is one the round of a
+// term of node 1 and the known leader, else 0.
+type Seen = (u64, u64, u64, u64, u32);
 
-const NEW: Seen = Seen {
-    generation: 1,
-    snapshot: 0,
-    executed: 0,
-    round: 0,
-    leader: 0,
-};
+const NEW: Seen = (1, 0, 0, 0, 0);
 
 // The status of a replica that is seen so.
 fn status_of(seen: Seen) -> Result<ReplicaStatus, Fail> {
+    let (generation, snapshot, executed, round, known) = seen;
     Ok(ReplicaStatus {
-        generation: seen.generation,
-        snapshot: Executed::of(seen.snapshot).ok_or("snapshot")?,
-        executed: Executed::of(seen.executed).ok_or("executed")?,
+        generation,
+        snapshot: Executed::of(snapshot).ok_or("snapshot")?,
+        executed: Executed::of(executed).ok_or("executed")?,
         promised: Ballot::ZERO,
-        term: match Ballot::of(seen.round, 1) {
+        term: match Ballot::of(round, 1) {
             Some(ballot) => RealBallot::of(ballot),
             None => None,
         },
-        known: NodeNo::of(seen.leader),
+        known: NodeNo::of(known),
     })
 }
 
@@ -197,76 +185,42 @@ fn logged(alloc: Global, end: End, before: Seen, after: Seen) -> Result<Vec<u8>,
 }
 
 // What is seen before a tick and after it, and the lines of level debug.
-struct Change<'a> {
-    before: Seen,
-    after: Seen,
-    lines: &'a [u8],
-}
+type Change<'a> = (Seen, Seen, &'a [u8]);
 
 const CHANGES: [Change; 6] = [
-    Change {
-        before: NEW,
-        after: NEW,
-        lines: b"",
-    },
-    Change {
-        before: NEW,
-        after: Seen { round: 3, ..NEW },
-        lines: b"[DEBUG lk_server::watching] term 3.1 begun\n",
-    },
-    Change {
-        before: Seen {
-            round: 3,
-            leader: 1,
-            ..NEW
-        },
-        after: Seen { leader: 2, ..NEW },
-        lines: b"[DEBUG lk_server::watching] term 3.1 ended by a tick\n[DEBUG lk_server::watching] known leader 2\n",
-    },
-    Change {
-        before: Seen {
-            executed: 256,
-            leader: 2,
-            ..NEW
-        },
-        after: Seen {
-            generation: 2,
-            snapshot: 256,
-            executed: 256,
-            ..NEW
-        },
-        lines: b"[DEBUG lk_server::watching] known leader none\n[DEBUG lk_server::watching] compacted at 256\n",
-    },
-    Change {
-        before: Seen { executed: 5, ..NEW },
-        after: Seen {
-            generation: 2,
-            snapshot: 300,
-            executed: 300,
-            ..NEW
-        },
-        lines: b"[DEBUG lk_server::watching] installed at 300\n",
-    },
-    Change {
-        before: Seen {
-            executed: 256,
-            ..NEW
-        },
-        after: Seen {
-            generation: 3,
-            snapshot: 600,
-            executed: 600,
-            ..NEW
-        },
-        lines: b"[DEBUG lk_server::watching] compacted at 256\n[DEBUG lk_server::watching] installed at 600\n",
-    },
+    (NEW, NEW, b""),
+    (
+        NEW,
+        (1, 0, 0, 3, 0),
+        b"[DEBUG lk_server::watching] term 3.1 begun\n",
+    ),
+    (
+        (1, 0, 0, 3, 1),
+        (1, 0, 0, 0, 2),
+        b"[DEBUG lk_server::watching] term 3.1 ended by a tick\n[DEBUG lk_server::watching] known leader 2\n",
+    ),
+    (
+        (1, 0, 256, 0, 2),
+        (2, 256, 256, 0, 0),
+        b"[DEBUG lk_server::watching] known leader none\n[DEBUG lk_server::watching] compacted at 256\n",
+    ),
+    (
+        (1, 0, 5, 0, 0),
+        (2, 300, 300, 0, 0),
+        b"[DEBUG lk_server::watching] installed at 300\n",
+    ),
+    (
+        (1, 0, 256, 0, 0),
+        (3, 600, 600, 0, 0),
+        b"[DEBUG lk_server::watching] compacted at 256\n[DEBUG lk_server::watching] installed at 600\n",
+    ),
 ];
 
 // The first change that is logged otherwise.
 fn first_other(alloc: Global, changes: &[Change]) -> Result<Option<usize>, Fail> {
     for (at, change) in changes.iter().enumerate() {
-        let lines = logged(alloc, End::Broken, change.before, change.after)?;
-        if lines.as_slice() != change.lines {
+        let (before, after, text) = *change;
+        if logged(alloc, End::Broken, before, after)?.as_slice() != text {
             return Ok(Some(at));
         }
     }

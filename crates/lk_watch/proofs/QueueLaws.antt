@@ -9,7 +9,7 @@ use Rattle.std.proofs.lemmas.Bool.{cases_lt, eqb-true, ltb-true, ltb-false}
 use Rattle.std.proofs.lemmas.Bool.Decides.{nat_tests}
 use Rattle.std.proofs.lemmas.List.{length-append, length-take, length-drop, length-map, length-set}
 use Rattle.std.proofs.lemmas.List.Elements.{All-append, All-set, All-push, All-take, All-drop, All-map, All-weaker}
-use Rattle.std.proofs.lemmas.List.Elements.{All-filter, filter_passes, All-get_or}
+use Rattle.std.proofs.lemmas.List.Elements.{All-filter, filter_passes, All-get_or, All-head, All-tail}
 use Rattle.std.proofs.lemmas.List.Sums.{sum_by-cons, sum_by_push, sum_by-set, sum_by-remove, count_by-le-length}
 use Rattle.std.proofs.lemmas.List.Sums.{length-filter, passes_at_first}
 use Rattle.std.proofs.lemmas.Option.{slice_get_within, slice_get-get_or, get_or_from_slice_get}
@@ -249,6 +249,21 @@ lived_fits holds count ws n h =
       };
       left = h.left;
     }
+
+filter_whole : {X : Type 0} (p : X → Bool) (xs : List X) → All (λ (x : X). p x ≡ true) xs → filter p xs ≡ xs
+filter_whole p [] h = refl
+filter_whole {X} p (x ∷ xs) h =
+    let first : p x ≡ true = All-head (λ (y : X). p y ≡ true) x xs h in
+    rw first (ap (λ (ys : List X). x ∷ ys) (filter_whole p xs (All-tail (λ (y : X). p y ≡ true) x xs h)))
+
+-- where no period passes nobody expires
+pub lived_now : (holds : ℕ → List ℕ → Bool) (ws : List Waiter) (n : ℕ) → IsQueue (with_waiters ws n)
+    → lived holds 0 ws ≡ map (refreshed holds 0) ws
+lived_now holds ws n h =
+    let f : Waiter → Waiter = refreshed holds 0 in
+    filter_whole is_alive (map f ws)
+    (All-map (λ (w : Waiter). is_alive w ≡ true) f ws
+    (All-weaker IsWaiter (λ (w : Waiter). is_alive (f w) ≡ true) (λ w k. grind (arith, nat_tests, k.lives)) ws h.each))
 
 -- one of the waiters
 pub is_waiter : (ws : List Waiter) (n i : ℕ) (w : Waiter) → IsQueue (with_waiters ws n) → slice_get ws i ≡ Some w

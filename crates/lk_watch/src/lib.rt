@@ -8,6 +8,7 @@ pub mod laws;
 mod notice;
 pub mod queue;
 mod reading;
+mod seen;
 mod standing;
 mod table;
 mod ticket;
@@ -17,6 +18,7 @@ mod writing;
 
 pub use datagram::{LENGTH, WatchDatagram};
 pub use notice::{News, Notice};
+pub use seen::{SeenName, SeenNames};
 pub use standing::{NameTable, Standing};
 pub use ticket::{Mode, Ticket};
 pub use waiter::{Letter, Stage, Waiter};

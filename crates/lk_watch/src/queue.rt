@@ -1,7 +1,7 @@
 //! The queue of those who wait for names: who is told, and when. It has no clock, no socket and no disk.
 
 ghost use Rattle.std.specs.Prelude.{◌≡◌, ◌≤◌, ◌<◌, ◌⊎◌, [], length, true, IfOk, OnOk, OnErr, IfSome, IsNone, slice_get};
-ghost use Rattle.std.specs.Prelude.{◌+◌, take, map, vec_len, vec_capacity};
+ghost use Rattle.std.specs.Prelude.{◌+◌, nat_lt, take, map, vec_len, vec_capacity};
 ghost use Rattle.std.specs.List.{sum_by, count_by, position_or_len};
 ghost use Rattle.lk_watch.specs.Standings.{serves};
 ghost use Rattle.lk_watch.specs.Waiters.{is_named, is_client, is_of, waits_for, load, is_due, refreshed};
@@ -83,6 +83,21 @@ fn load_of(standing: Standing, name: &Name, waiters: &[Waiter]) -> usize
     total
 }
 
+// Whether the waiters take fewer places for a name than that before those who came later.
+fn leave_place(standing: Standing, name: &Name, waiters: &[Waiter], places: usize) -> bool
+    requires { length waiters.now ≤ MAX_WAITERS }
+    ensures { result ≡ nat_lt (sum_by (load standing name.now) waiters.now) places }
+{
+    let mut total = 0;
+    for waiter in waiters {
+        total += waiter.load(standing, name);
+        if total >= places {
+            return false;
+        }
+    }
+    total < places
+}
+
 // Returns the index of the waiter of that client for that name, or else how many waiters there are.
 fn position_of(client: ClientNo, name: &Name, waiters: &[Waiter]) -> usize
     ensures is { result ≡ position_or_len (is_of client name.now) waiters.now }
@@ -117,7 +132,8 @@ fn is_due(standing: Standing, before: &[Waiter], waiter: &Waiter) -> bool
     }
     match waiter.stage_at(standing.opening()) {
         Stage::NotYet => {
-            load_of(standing, &waiter.ticket.name, before) < standing.places(waiter.ticket.mode)
+            let places = standing.places(waiter.ticket.mode);
+            leave_place(standing, &waiter.ticket.name, before, places)
         }
         Stage::Once => true,
         Stage::JustNow | Stage::Twice => false,
@@ -333,13 +349,25 @@ impl WatchQueue {
         self.waiters.retain(|waiter| waiter.periods > 0);
     }
 
+    // Ends the wait of whoever holds the name that it waits for, by the table. No period passes.
+    fn settle<T: NameTable>(&mut self, table: &T)
+        ensures waiters { self.new.waiters ≡ lived (T.holds table.now) 0 self.old.waiters }
+        ensures left { self.new.left ≡ self.old.left }
+    {
+        refresh_all(table, 0, &mut self.waiters);
+    }
+
     /// Begins a turn, before which that many periods have passed since the last one. Watches that have lived for theirs
     /// expire. Whoever holds the name that it waits for, by what the table says, was granted it, and waits no more: its
     /// number is kept until its watch expires. It may hand out 64 letters again.
     pub fn begin_turn<T: NameTable>(&mut self, table: &T, count: u64)
         ensures { self.new ≡ begun (T.holds table.now) count self.old }
     {
-        self.refresh(table, count);
+        if count == 0 {
+            self.settle(table);
+        } else {
+            self.refresh(table, count);
+        }
         self.left = MAX_LETTERS;
     }
 

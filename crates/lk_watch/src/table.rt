@@ -1,9 +1,9 @@
 // The lock table, as a queue of watches asks it.
 ghost use Rattle.std.specs.Prelude.{◌≡◌};
-ghost use Rattle.lk_watch.specs.Tables.{standing_at, is_holder};
+ghost use Rattle.lk_watch.specs.Tables.{standing_at, standing_of, is_holder, is_holder_of};
 
 use crate::standing::{NameTable, Standing};
-use lk_locks::{Holders, LockTable, Name};
+use lk_locks::{Holders, LockTable, Name, Slot};
 use lk_types::{ClientNo, Fence};
 
 // Returns what a slot with that last fence and these holders says.
@@ -28,6 +28,26 @@ fn is_holder(client: ClientNo, holders: &Holders) -> bool
     }
 }
 
+// Returns what a slot says, if there is one.
+pub(crate) fn standing_of(slot: &Option<Slot>) -> Standing
+    ensures { result ≡ standing_of slot.now }
+{
+    match slot {
+        Some(slot) => standing_at(slot.fence, &slot.holders),
+        None => Standing::Free(0),
+    }
+}
+
+// Whether the client is one of the holders of a slot, if there is one.
+pub(crate) fn is_holder_of(client: ClientNo, slot: &Option<Slot>) -> bool
+    ensures { result ≡ is_holder_of client slot.now }
+{
+    match slot {
+        Some(slot) => is_holder(client, &slot.holders),
+        None => false,
+    }
+}
+
 impl NameTable for LockTable {
     ghost use Rattle.lk_watch.specs.Tables.{standing_in, holds_in};
 
@@ -36,16 +56,10 @@ impl NameTable for LockTable {
     ghost holds = { holds_in };
 
     fn standing(&self, name: &Name) -> Standing {
-        match self.slot(name) {
-            Some(slot) => standing_at(slot.fence, &slot.holders),
-            None => Standing::Free(0),
-        }
+        standing_of(&self.slot(name))
     }
 
     fn holds(&self, client: ClientNo, name: &Name) -> bool {
-        match self.slot(name) {
-            Some(slot) => is_holder(client, &slot.holders),
-            None => false,
-        }
+        is_holder_of(client, &self.slot(name))
     }
 }

@@ -10,7 +10,15 @@ returns-then-is_quiet-clause-acts g c =
     let t = c.pop_watch-watched.ensures in
     subst (λ (w : Option ReceivedWatch). HandlesWatches g.R.ServerReplica.table g.R.ServerReplica.Shows
     g.S.DatagramSocket.is_observable w c.args.self.now c.args.self.now) t.value
-    (inl (record { none = q.0; nobody = q.1; same = refl }))
+    (inl (record { none = q.0; nothing = inl q.1; same = refl }))
+
+pub returns-then-has_nothing_new-clause-acts : goal.returns-then-has_nothing_new-clause-acts
+returns-then-has_nothing_new-clause-acts g c =
+    let q = c.has_nothing_new.ensures (cc c.if-has_nothing_new.true) in
+    let t = c.pop_watch-watched.ensures in
+    subst (λ (w : Option ReceivedWatch). HandlesWatches g.R.ServerReplica.table g.R.ServerReplica.Shows
+    g.S.DatagramSocket.is_observable w c.args.self.now c.args.self.now) t.value
+    (inl (record { none = q.0; nothing = inr q.1; same = refl }))
 
 pub returns-then-speaks-clause-acts : goal.returns-then-speaks-clause-acts
 returns-then-speaks-clause-acts g c =
@@ -23,12 +31,12 @@ returns-then-speaks-clause-acts g c =
     let yes : c.speaks-speaks.result ≡ true = cc c.if-speaks.true in
     subst (λ (o : Option ReceivedWatch). HandlesWatches table shows observable o c.args.self.now
     c.tell_waiters.new.self) t.value
-    (inr (served table shows observable _ c.speaks-speaks.result c.args.self.now c.begin_watches.new.self
-    c.answer_watch.new.self c.tell_waiters.new.self c.begin_watches.ensures c.speaks-speaks.ensures a.answers a.still
+    (inr (served table shows observable _ c.look-seen.result c.speaks-speaks.result c.args.self.now c.begin_watches.new.self
+    c.answer_watch.new.self c.tell_waiters.new.self c.begin_watches.ensures c.look-seen.ensures c.speaks-speaks.ensures a.answers a.still
     a.others (rw yes w.tells) w.still w.others))
 
-pub returns-else-speaks-clause-acts : goal.returns-else-speaks-clause-acts
-returns-else-speaks-clause-acts g c =
+pub returns-clause-acts : goal.returns-clause-acts
+returns-clause-acts g c =
     let table = g.R.ServerReplica.table in
     let shows = g.R.ServerReplica.Shows in
     let observable = g.S.DatagramSocket.is_observable in
@@ -37,6 +45,6 @@ returns-else-speaks-clause-acts g c =
     let new = c.answer_watch.new.self in
     let silent : c.speaks-speaks.result ≡ false = cc c.if-speaks.false in
     subst (λ (o : Option ReceivedWatch). HandlesWatches table shows observable o c.args.self.now new) t.value
-    (inr (served table shows observable _ c.speaks-speaks.result c.args.self.now c.begin_watches.new.self new new
-    c.begin_watches.ensures c.speaks-speaks.ensures a.answers a.still a.others
+    (inr (served table shows observable _ c.look-seen.result c.speaks-speaks.result c.args.self.now c.begin_watches.new.self new new
+    c.begin_watches.ensures c.look-seen.ensures c.speaks-speaks.ensures a.answers a.still a.others
     (rw silent (record { letters = []; tells = (refl, refl); sends = refl })) (λ t. refl) refl))

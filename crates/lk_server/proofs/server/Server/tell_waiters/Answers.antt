@@ -1,6 +1,6 @@
 use Rattle.std.proofs.Common.{◌≡◌, [], ◌∷◌, ◌++◌, refl, sym, subst, inl, length-append}
 use Rattle.std.proofs.Common.{arith}
-use Rattle.lk_watch.specs.Tables.{standing_in}
+use Rattle.lk_watch.specs.Seen.{standing_by}
 use Rattle.lk_server.specs.Servers.{ServerValue}
 use Rattle.lk_server.proofs.Telling.{told_more, told_all, letters_left}
 use Rattle.lk_server.proofs.server.Server.tell_waiters.Goals as goal
@@ -15,7 +15,7 @@ letters-preserved g c =
       i.0 ++ next.letter ∷ [],
       omega (arith, i.1, length-append i.0 (next.letter ∷ [])),
       i.2,
-      told_more g.R.ServerReplica.table g.S.DatagramSocket.is_observable i.0 c.args.self.now c.letters.self
+      told_more (λ r. standing_by (g.R.ServerReplica.table r) c.args.seen.now) g.S.DatagramSocket.is_observable i.0 c.args.self.now c.letters.self
           c.tell_next.new.self i.3 next c.tell_next.ensures.still c.tell_next.ensures.others,
     )
 
@@ -23,7 +23,7 @@ pub returns-then-not-tell_next-clause-tells : goal.returns-then-not-tell_next-cl
 returns-then-not-tell_next-clause-tells g c =
     let i = c.letters.invariant in
     let n = c.tell_next.ensures.none (cc c.if-not-tell_next.true) in
-    told_all g.R.ServerReplica.table g.S.DatagramSocket.is_observable i.0 c.args.self.now c.letters.self
+    told_all (λ r. standing_by (g.R.ServerReplica.table r) c.args.seen.now) g.S.DatagramSocket.is_observable i.0 c.args.self.now c.letters.self
     c.tell_next.new.self i.3 n.0 n.1
 
 pub returns-then-not-tell_next-clause-still : goal.returns-then-not-tell_next-clause-still
@@ -36,9 +36,9 @@ pub returns-clause-tells : goal.returns-clause-tells
 returns-clause-tells g c =
     let i = c.letters.invariant in
     let all : c.letters.counter ≡ 64 = omega arith in
-    let left = letters_left (standing_in (g.R.ServerReplica.table c.args.self.now.replica)) i.0
+    let left = letters_left (standing_by (g.R.ServerReplica.table c.args.self.now.replica) c.args.seen.now) i.0
     c.args.self.now.queue c.letters.self.queue i.3.0 in
-    told_all g.R.ServerReplica.table g.S.DatagramSocket.is_observable i.0 c.args.self.now c.letters.self
+    told_all (λ r. standing_by (g.R.ServerReplica.table r) c.args.seen.now) g.S.DatagramSocket.is_observable i.0 c.args.self.now c.letters.self
     c.letters.self i.3 (inl (omega (arith, left, i.1, i.2, all))) refl
 
 pub returns-clause-still : goal.returns-clause-still
