@@ -34,7 +34,7 @@ class DigestsTest(unittest.TestCase):
             client.ask("db")
 
     def digest(self, cluster, node):
-        """The position and the digest that a node reports, and what it has executed; nothing while it is silent."""
+        """The position and the digest that a node reports; nothing while it is silent."""
         with socket.socket(socket.AF_INET, socket.SOCK_DGRAM) as it:
             it.settimeout(0.5)
             it.sendto(probe(2), ("127.0.0.1", cluster.ports[node]))
@@ -42,15 +42,18 @@ class DigestsTest(unittest.TestCase):
                 report = it.recv(9000)
             except OSError:
                 return None
-        return *struct.unpack(">Q16s", report[182:206]), int.from_bytes(report[88:96], "big")
+        return struct.unpack(">Q16s", report[182:206])
 
-    def awaited(self, cluster, node, position):
-        """The digest of a node, once it has taken that of this position."""
+    def digests(self, cluster, client, position):
+        """The digest of each node, once all have taken that of one position, this one or a later."""
         end = time.monotonic() + SECONDS
-        while (told := self.digest(cluster, node)) is None or told[0] != position:
-            self.assertLess(time.monotonic(), end, f"node {node}: {told}")
-            time.sleep(0.05)
-        return told[1]
+        while True:
+            told = {node: self.digest(cluster, node) or (0, None) for node in cluster.ports}
+            positions = {at for at, _ in told.values()}
+            if len(positions) == 1 and positions.pop() >= position:
+                return {node: digest for node, (_, digest) in told.items()}
+            self.assertLess(time.monotonic(), end, told)
+            client.ask("db")
 
     def status(self, cluster):
         """The status and the output of `locks status`."""
@@ -61,17 +64,17 @@ class DigestsTest(unittest.TestCase):
     def test_nodes_that_have_executed_as_much_tell_one_digest(self):
         cluster = self.cluster_of(1, 2, 3)
         client = self.client(cluster, 7)
-        self.assertEqual(self.digest(cluster, 1)[:2] if self.digest(cluster, 1) else (0, bytes(16)), (0, bytes(16)))
         client.acquire("db")
+        told = next(filter(None, (self.digest(cluster, 1) for _ in range(2 * SECONDS))), None)
+        self.assertEqual(told, (0, bytes(16)))
         self.asks(client, 199)
-        digests = {self.awaited(cluster, node, 192) for node in cluster.ports}
+        digests = set(self.digests(cluster, client, 192).values())
         self.assertEqual(len(digests), 1)
         self.assertNotEqual(digests, {bytes(16)})
         # A node that restarts tells none before the next multiple, and then the same as the others.
         cluster.kill(3)
         cluster.start(3)
-        self.asks(client, 56)
-        self.assertEqual(len({self.awaited(cluster, node, 256) for node in cluster.ports}), 1)
+        self.assertEqual(len(set(self.digests(cluster, client, 256).values())), 1)
         self.assertNotIn("other commands", self.status(cluster)[1])
 
     def test_a_node_that_has_executed_other_commands_is_named(self):
@@ -86,13 +89,13 @@ class DigestsTest(unittest.TestCase):
         client = self.client(cluster, 8)
         client.acquire("db")
         cluster.start(1)
-        self.asks(client, 70)
-        odd, second, third = (self.awaited(cluster, node, 64) for node in (1, 2, 3))
-        self.assertNotEqual(odd, second)
-        self.assertEqual(second, third)
+        digests = self.digests(cluster, client, 64)
+        self.assertNotEqual(digests[1], digests[2])
+        self.assertEqual(digests[2], digests[3])
         status, told = self.status(cluster)
         self.assertEqual(status, 1, told)
-        self.assertIn("why: node 1 has executed other commands than nodes 2 3: stop it\n", told)
+        # The others are named in the order in which they answer.
+        self.assertRegex(told, "why: node 1 has executed other commands than nodes (2 3|3 2): stop it\n")
 
 
 if __name__ == "__main__":

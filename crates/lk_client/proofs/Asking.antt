@@ -1,10 +1,10 @@
 -- A client that asks under one number: what it has sent, and what it has heard.
-use Rattle.std.proofs.Common.{◌≡◌, ◌∙◌, List, ℕ, Bool, false, Option, Some, None, refl, subst, inl}
+use Rattle.std.proofs.Common.{◌≡◌, ◌∙◌, List, ℕ, Bool, false, Option, None, refl, subst, inl}
 use Rattle.std.specs.Prelude.{is_some}
 use Rattle.std.specs.declared.net.socket_addr.SocketAddr.{SocketAddr}
 use Rattle.lk_transport.specs.Streams.{Receives as Arrives, Stream, next_of}
 use Rattle.lk_client.specs.Questions.{Asker, Endpoint, IsAsked, Receives, SendsOnce}
-use Rattle.lk_client.specs.Waits.{Asks, EndsWith, IsOwnWatch, SendsAll}
+use Rattle.lk_client.specs.Waits.{Asks, IsOwnWatch, SendsAll}
 use Rattle.lk_client.specs.declared.question.Question.{Question}
 use Rattle.lk_client.specs.declared.reply.Reply.{Reply as ReplyValue}
 use Rattle.lk_client.proofs.Hearing.{hears_both, hears_from, hears_more, hears_nothing, hears_once}

@@ -132,8 +132,8 @@ impl Watcher {
         Some(notice)
     }
 
-    // Counts the node among those that have answered the last watch. Returns whether it was none of them. Out of memory,
-    // it is not counted.
+    // Counts the node among those that have answered the last watch. Returns whether it was none of them. If it is out
+    // of memory, the node is not counted.
     fn add_answer(&mut self, node: NodeNo) -> bool
         ensures watch { self.new.watch ≡ self.old.watch }
     {

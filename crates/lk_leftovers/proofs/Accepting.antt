@@ -38,7 +38,8 @@ use Rattle.lk_progress.specs.Deciding.{IsNearVote, NearNodeAccepts, vote_for_nex
 use Rattle.lk_progress.specs.Hearing.{Hears}
 use Rattle.lk_progress.specs.LeadingOn.{AreAll, KeepsMembers}
 use Rattle.lk_progress.specs.Rejecting.{Accepts}
-use Rattle.lk_leftovers.specs.Accepting.{AcceptsAndStays, IsVoterAt, LeaderAccepts, VoterAccepts}
+use Rattle.lk_leftovers.specs.Accepting.{AcceptsAndStays, IsVoterAt, IsVoterFrom, LeaderAccepts}
+use Rattle.lk_leftovers.specs.Accepting.{VoterAccepts}
 use Rattle.lk_leftovers.specs.Filling.{FillsUp, IsLeftover}
 
 -- ---- the votes
@@ -76,12 +77,12 @@ kept_or_new x (w ∷ vs) v c =
 
 pub near_vote : (node : NodeValue) (x : Vote) → IsVoterAt node x.ballot x.position → IsNearVote node x
 near_vote node x k = record {
-  near = k.near;
-  ballot = k.ballot;
-  above = k.above;
+  near = k.from.near;
+  ballot = k.from.ballot;
+  above = k.from.above;
   within = k.within;
   agrees = λ v c here same. absurd (below_self x.ballot
-      (subst (λ (b : BallotValue). IsBelow b x.ballot) same (k.older v c (omega (arith, here)))));
+      (subst (λ (b : BallotValue). IsBelow b x.ballot) same (k.from.older v c (omega (arith, here)))));
 }
 
 pub voter_accepts : (m : Meaning) (IsText : List ℕ → Type 0) → NearNodeAccepts m IsText → VoterAccepts m IsText
@@ -95,30 +96,24 @@ voter_accepts m IsText law old new from x out k hears = record { accepts = accep
 
     near : AreNear (with_state old.acceptor (voted old.acceptor.state x)) old.learner
     near = record {
-      alpha_is = k.near.alpha_is;
-      snapshot = k.near.snapshot;
+      alpha_is = k.from.near.alpha_is;
+      snapshot = k.from.near.snapshot;
       votes = λ v c. elim (kept_or_new x old.acceptor.state.votes v c) [
         | inl is ↦ subst (λ (y : Vote). y.position ≤ executed old.learner + 2 * alpha old.learner) is k.within
-        | inr before ↦ k.near.votes v before
+        | inr before ↦ k.from.near.votes v before
       ];
     }
 
-    stays : (j : ℕ) → x.position < j → j ≤ executed old.learner + 2 * alpha old.learner → IsVoterAt new x.ballot j
-    stays j later within = record {
+    stays : (j : ℕ) → x.position < j → IsVoterFrom new x.ballot j
+    stays j later = record {
       near = subst (λ (l : LearnerValue). AreNear new.acceptor l) (sym accepts.learner)
           (subst (λ (a : AcceptorValue). AreNear a old.learner) (sym accepts.acceptor) near);
       ballot = inr (ap (λ (a : AcceptorValue). a.state.promised) accepts.acceptor);
-      above = omega (arith, k.above, later, ap (λ (l : LearnerValue). executed l) accepts.learner);
-      within = omega (
-        arith,
-        within,
-        ap (λ (l : LearnerValue). executed l) accepts.learner,
-        ap (λ (l : LearnerValue). alpha l) accepts.learner,
-      );
+      above = omega (arith, k.from.above, later, ap (λ (l : LearnerValue). executed l) accepts.learner);
       older = λ v c from_j. elim (kept_or_new x old.acceptor.state.votes v
           (subst (λ (a : AcceptorValue). Contains a.state.votes v) accepts.acceptor c)) [
             | inl is ↦ absurd (omega (arith, later, from_j, ap (λ (y : Vote). y.position) is))
-            | inr before ↦ k.older v before (omega (arith, later, from_j))
+            | inr before ↦ k.from.older v before (omega (arith, later, from_j))
           ];
     }
 
@@ -221,9 +216,9 @@ module _ (m : Meaning) (IsText : List ℕ → Type 0) (law : NearNodeAccepts m I
       acceptor_is = elim k.given [
         | inl granted ↦ ap (λ (a : AcceptorValue). a.state.promised) granted.1.state
         | inr refused ↦ absurd (refused.0 (record {
-          ballot = voter.ballot;
-          above = omega (arith, voter.near.snapshot);
-          near = omega (arith, voter.within, voter.near.alpha_is);
+          ballot = voter.from.ballot;
+          above = omega (arith, voter.from.near.snapshot);
+          near = omega (arith, voter.within, voter.from.near.alpha_is);
           agree = (near_vote old x voter).agrees;
         }))
       ]

@@ -17,21 +17,25 @@ use Rattle.lk_progress.specs.Hearing.{Hears}
 use Rattle.lk_progress.specs.Rejecting.{Accepts}
 use Rattle.lk_leftovers.specs.Filling.{FillsUp}
 
--- The position is one of the node's next 2 alpha. It has promised no ballot above this one, and at the position and
--- above it, it keeps votes of smaller ballots alone.
-pub record IsVoterAt (node : NodeValue) (b : BallotValue) (i : ℕ) : Type 0 where
+-- The node has promised no ballot above this one, and has not executed the position. There and above it, it keeps votes
+-- of smaller ballots alone.
+pub record IsVoterFrom (node : NodeValue) (b : BallotValue) (i : ℕ) : Type 0 where
   pub near : AreNear node.acceptor node.learner
   pub ballot : IsAtMost node.acceptor.state.promised b
   pub above : executed node.learner < i
-  pub within : i ≤ executed node.learner + 2 * alpha node.learner
   pub older : (v : Vote) → Contains node.acceptor.state.votes v → i ≤ v.position → IsBelow v.ballot b
+
+-- the same, and the position is one of its next 2 alpha
+pub record IsVoterAt (node : NodeValue) (b : BallotValue) (i : ℕ) : Type 0 where
+  pub from : IsVoterFrom node b i
+  pub within : i ≤ executed node.learner + 2 * alpha node.learner
 
 -- ---- a voter
 
--- it accepts, and is such a voter at each later position that is one of its next 2 alpha
+-- it accepts, and is such a voter from each later position on
 pub record AcceptsAndStays (old : NodeValue) (from : ℕ) (x : Vote) (new : NodeValue) (out : OutboxValue) : Type 0 where
   pub accepts : Accepts old from x new out
-  pub stays : (j : ℕ) → x.position < j → j ≤ executed old.learner + 2 * alpha old.learner → IsVoterAt new x.ballot j
+  pub stays : (j : ℕ) → x.position < j → IsVoterFrom new x.ballot j
 
 abbrev pub VoterAccepts : Meaning → (List ℕ → Type 0) → Type 0
 VoterAccepts m IsText = (old new : NodeValue) (from : ℕ) (x : Vote) (out : OutboxValue)

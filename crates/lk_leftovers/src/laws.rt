@@ -27,7 +27,7 @@ pub fn a_leader_fills_on<M: Machine>()
 }
 
 /// A near node that keeps only votes of smaller ballots from a position on accepts a vote there, and goes on like that:
-/// it accepts at each later position that is one of its next 2 alpha.
+/// it keeps only such votes from each later position on.
 pub fn a_voter_accepts_and_stays<M: Machine>()
     ensures { VoterAccepts M.meaning M.IsText }
 {

@@ -1,9 +1,9 @@
 pub mod Knowing
-mod Taking
+pub mod Taking
 mod Nudging
 mod Asking
 mod Serving
 mod Feeding
-mod Gathering
+pub mod Gathering
 mod Snapshots
 mod Ways

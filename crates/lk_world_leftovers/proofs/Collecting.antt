@@ -1,5 +1,5 @@
 -- A candidate of a world hears the promises of a majority, leads and fills up.
-use Rattle.std.proofs.Common.{◌≡◌, ◌∙◌, inl, inr, ℕ, ◌+◌, ◌*◌, ◌<◌, ◌≤◌, List, [], ◌∷◌, map, Some, Contains, refl, ap}
+use Rattle.std.proofs.Common.{◌≡◌, ◌∙◌, inl, inr, ℕ, ◌+◌, ◌*◌, ◌≤◌, List, [], ◌∷◌, map, Some, Contains, refl, ap}
 use Rattle.std.proofs.Common.{sym, subst, arith}
 use Rattle.lk_types.specs.BallotValue.{BallotValue}
 use Rattle.lk_types.specs.Ballots.{IsAtMost, IsBelow}
@@ -34,7 +34,7 @@ use Rattle.lk_progress.specs.Exchanges.{prepare_by}
 use Rattle.lk_progress.specs.Rejecting.{PrepareIsPromisedOrRejected}
 use Rattle.lk_rebases.specs.Pasts.{IsPlain}
 use Rattle.lk_leftovers.proofs.Offering.{Offers, Tells, promises_offer, vote_in}
-use Rattle.lk_leftovers.specs.Accepting.{IsVoterAt}
+use Rattle.lk_leftovers.specs.Accepting.{IsVoterAt, IsVoterFrom}
 use Rattle.lk_leftovers.specs.Collecting.{HasBegun, LeadsToFill, MayBeHeard, PromisedCandidateFills}
 use Rattle.lk_replica.specs.ReplicaValue.{ReplicaValue}
 use Rattle.lk_sim.specs.Scenes.{Scene}
@@ -58,7 +58,7 @@ use Rattle.lk_world_leftovers.proofs.Promising.{knows_alike, knows_snapshot, own
 use Rattle.lk_world_leftovers.proofs.Promising.{stands_promised, stands_snapshot, then_votes}
 use Rattle.lk_world_leftovers.specs.Collecting.{AreLeftovers, CandidateFillsIn, Collects, HasCollected, HasLeftovers}
 use Rattle.lk_world_leftovers.specs.Collecting.{IsNearVoter, promise_in}
-use Rattle.lk_world_leftovers.specs.Filling.{IsFilling, VotesIn}
+use Rattle.lk_world_leftovers.specs.Filling.{IsFilling, PairsUpTo, VotesIn}
 
 -- ---- the exchange
 
@@ -257,11 +257,16 @@ module _ (m : Meaning) (IsText : List ℕ → Type 0) (asks_law : DueNodeAsks)
         (taken.genesis ∙ began.genesis)
         (promising.sent (letter_to promising.start (kinds.Promise (promise_in c.node r)) x) their_promise.told)
 
-    they_reach : highest < executed promising.after.node.learner + 2 * alpha promising.after.node.learner
-    they_reach = subst (λ (l : LearnerValue). highest < executed l + 2 * alpha l)
+    they_reach : highest ≤ executed promising.after.node.learner + 2 * alpha promising.after.node.learner
+    they_reach = subst (λ (l : LearnerValue). highest ≤ executed l + 2 * alpha l)
         (sym their_promise.promises.learner)
         (found_has r promising.start promising.found
-        (λ node. highest < executed node.learner + 2 * alpha node.learner) (λ q. q) near_voter.reaches)
+        (λ node. highest ≤ executed node.learner + 2 * alpha node.learner) (λ q. q) near_voter.reaches)
+
+    they_know : PairsUpTo promising.after.node highest
+    they_know = subst (λ (l : LearnerValue). (p : Pair) → Contains l.pairs p → p.0 ≤ highest)
+        (sym their_promise.promises.learner)
+        (found_has r promising.start promising.found (λ node. PairsUpTo node highest) (λ q. q) near_voter.pairs)
 
   all_sent : (r : ReplicaValue) → Contains (c ∷ others) r
       → HasSentTo run.asked (number_of r) x (kinds.Promise (promise_in c.node r))
@@ -382,16 +387,17 @@ module _ (m : Meaning) (IsText : List ℕ → Type 0) (asks_law : DueNodeAsks)
 
   own_voter : IsVoterAt last_node b (e + 1)
   own_voter =
-      let v : IsVoterAt second b (e + 1) = then_votes start second x b e highest own_votes own.out own_promise
-      (omega (arith, second_knows.reach, some)) in
+      let v : IsVoterFrom second b (e + 1) = then_votes start second x b e highest own_votes own.out own_promise in
       record {
-        near = subst (λ (l : LearnerValue). AreNear last_node.acceptor l) (sym leads.learner)
-            (subst (λ (a : AcceptorValue). AreNear a second.learner) (sym offers.acceptor) v.near);
-        ballot = subst (λ (a : AcceptorValue). IsAtMost a.state.promised b) (sym offers.acceptor) v.ballot;
-        above = omega (arith, last_reach);
+        from = record {
+          near = subst (λ (l : LearnerValue). AreNear last_node.acceptor l) (sym leads.learner)
+              (subst (λ (a : AcceptorValue). AreNear a second.learner) (sym offers.acceptor) v.near);
+          ballot = subst (λ (a : AcceptorValue). IsAtMost a.state.promised b) (sym offers.acceptor) v.ballot;
+          above = omega (arith, last_reach);
+          older = subst (λ (a : AcceptorValue). (y : Vote) → Contains a.state.votes y → e + 1 ≤ y.position
+              → IsBelow y.ballot b) (sym offers.acceptor) v.older;
+        };
         within = omega (arith, last_reach, ap (λ (l : LearnerValue). alpha l) leads.learner, some);
-        older = subst (λ (a : AcceptorValue). (y : Vote) → Contains a.state.votes y → e + 1 ≤ y.position
-            → IsBelow y.ballot b) (sym offers.acceptor) v.older;
       }
 
   voter_in : (r : ReplicaValue) → Contains others r
@@ -399,12 +405,12 @@ module _ (m : Meaning) (IsText : List ℕ → Type 0) (asks_law : DueNodeAsks)
   voter_in r other = record {
     replica = (promising r other).after;
     up = chain.others (number_of r) (Up (promising r other).after) (apart r other) (promising r other).is;
-    votes = subst (λ (y : BallotValue). IsVoterAt (promising r other).after.node y
+    votes = subst (λ (y : BallotValue). IsVoterFrom (promising r other).after.node y
         (executed chain.after.node.learner + 1)) (sym leads.ballot)
-        (subst (λ (i : ℕ). IsVoterAt (promising r other).after.node b (i + 1)) (sym after_reach)
+        (subst (λ (i : ℕ). IsVoterFrom (promising r other).after.node b (i + 1)) (sym after_reach)
         (then_votes (promising r other).start (promising r other).after.node x b e highest
-        (votes_from (e + 1) r.node.acceptor.state.votes) (promising r other).out (their_promise r other)
-        (omega (arith, they_reach r other, k.candidate_is.within))));
+        (votes_from (e + 1) r.node.acceptor.state.votes) (promising r other).out (their_promise r other)));
+    pairs = they_know r other;
     reaches = they_reach r other;
   }
 

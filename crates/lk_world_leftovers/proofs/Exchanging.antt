@@ -1,5 +1,6 @@
 -- Positions are filled one after another, and then a request is answered.
 use Rattle.std.proofs.Common.{◌≡◌, ◌∙◌, ℕ, true, Some, List, [], ◌∷◌, map, refl, ap, sym, subst, arith}
+use Rattle.std.proofs.lemmas.List.{length-map}
 use Rattle.lk_types.specs.declared.command.Request.{Request as RequestValue}
 use Rattle.lk_types.specs.declared.member.Member.{Member}
 use Rattle.lk_types.specs.declared.vote.Vote.{Vote}
@@ -17,8 +18,8 @@ use Rattle.lk_world_progress.specs.Stepping.{IsUpAs}
 use Rattle.lk_world_leftovers.proofs.Filling.{next_offered}
 use Rattle.lk_world_leftovers.specs.Answering.{IsReadyIn, ReadyLeaderAnswers}
 use Rattle.lk_world_leftovers.specs.Collecting.{CandidateFillsIn, HasCollected, HasLeftovers}
-use Rattle.lk_world_leftovers.specs.Exchanging.{Exchanges, HaveFilled, IsNextIn, LeftoversAnswer, LeftoversAreFilled}
-use Rattle.lk_world_leftovers.specs.Exchanging.{WorldWithLeftoversAnswers}
+use Rattle.lk_world_leftovers.specs.Exchanging.{Exchanges, HaveCaughtUp, HaveFilled, IsNextIn, LeftoversAnswer}
+use Rattle.lk_world_leftovers.specs.Exchanging.{LeftoversAreFilled, VotersCatchUp, WorldWithLeftoversAnswers}
 use Rattle.lk_world_leftovers.specs.Filling.{FillsOnIn, IsFilling, IsNextVote, PositionIsFilled}
 
 module _ (m : Meaning) (IsText : List ℕ → Type 0) where
@@ -62,6 +63,7 @@ module _ (m : Meaning) (IsText : List ℕ → Type 0) where
             λ n c. subst (λ (y : Vote). HasSentTo old x n (kinds.Accept y)) (sym next.is)
                 (next_offered m IsText old x leader t set others last k next.proposal next.there n c),
             one.accepts,
+            one.tells,
             rest.offered,
           );
           after = rest.after;
@@ -74,9 +76,10 @@ module _ (m : Meaning) (IsText : List ℕ → Type 0) where
 
   -- ---- the whole exchange
 
-  module _ (collects : CandidateFillsIn m IsText) (fills : LeftoversAreFilled m IsText) (ready : FilledLeaderIsReady)
-      (answers : ReadyLeaderAnswers m IsText) (c : ReplicaValue) (set : List Member) (r : RequestValue)
-      (others : List ReplicaValue) (highest : ℕ) (first last : Scene ReplicaValue)
+  module _ (collects : CandidateFillsIn m IsText) (fills : LeftoversAreFilled m IsText)
+      (catches : VotersCatchUp m IsText) (ready : FilledLeaderIsReady) (answers : ReadyLeaderAnswers m IsText)
+      (c : ReplicaValue) (set : List Member) (r : RequestValue) (others : List ReplicaValue) (highest : ℕ)
+      (first last : Scene ReplicaValue)
       (k : HasLeftovers m IsText first c set others highest)
       (run : Exchanges m IsText c r others first last)
       (fresh : is_new (session_of r.client run.leader.node.learner.whole.sessions) r.number ≡ true) where
@@ -91,23 +94,30 @@ module _ (m : Meaning) (IsText : List ℕ → Type 0) where
     filled = fills x collected.leader collected.term set (map number_of others) highest run.votes run.promised
         run.filled collected.fills run.fills
 
+    caught : HaveCaughtUp m IsText x filled.after filled.term set (map number_of others) highest run.caught run.ready
+    caught = catches x filled.after filled.term set (map number_of others) highest run.caught run.filled run.ready
+        filled.fills run.among run.catch_up
+
     one : (filled.after ≡ run.leader) × (filled.term ≡ run.term)
-    one = one_term run.filled x filled.after filled.term set (map number_of others) highest filled.fills run.leader
+    one = one_term run.ready x filled.after filled.term set (map number_of others) highest caught.fills run.leader
         run.is run.term run.current
 
-    filling : IsFilling m IsText run.filled x run.leader run.term set (map number_of others) highest
+    filling : IsFilling m IsText run.ready x run.leader run.term set (map number_of others) highest
     filling = subst
-        (λ (q : ReplicaValue). IsFilling m IsText run.filled x q run.term set (map number_of others) highest) one.0
-        (subst (λ (t : TermValue). IsFilling m IsText run.filled x filled.after t set (map number_of others)
-        highest) one.1 filled.fills)
+        (λ (q : ReplicaValue). IsFilling m IsText run.ready x q run.term set (map number_of others) highest) one.0
+        (subst (λ (t : TermValue). IsFilling m IsText run.ready x filled.after t set (map number_of others)
+        highest) one.1 caught.fills)
 
-    ready_in : IsReadyIn m IsText run.filled x run.leader run.term set (map number_of others)
+    ready_in : IsReadyIn m IsText run.ready x run.leader run.term set (map number_of others)
     ready_in = record {
       holds = filling.holds;
       up = filling.up;
       ready = ready run.leader.node run.term set filling.fills run.none_left;
       own = filling.own;
-      voters = λ n d. let v = filling.voters n d in (v.replica, v.up, v.votes);
+      voters = λ n d.
+          let v = filling.voters n d in
+          let near = run.reach n d v.replica v.up in
+          (v.replica, v.up, record { from = v.votes; within = omega (arith, near) });
       distinct = filling.distinct;
       majority = filling.majority;
     }
@@ -117,11 +127,12 @@ module _ (m : Meaning) (IsText : List ℕ → Type 0) where
       collected = collected;
       offered = filled.offered;
       few = omega (arith, filled.moves, filled.fills.within, collected.executed_is);
-      served = answers x run.leader run.term set r (map number_of others) run.filled last ready_in fresh run.serves;
+      few_caught = omega (arith, caught.few, length-map others number_of);
+      served = answers x run.leader run.term set r (map number_of others) run.ready last ready_in fresh run.serves;
     }
 
 pub leftovers_answer : (m : Meaning) (IsText : List ℕ → Type 0) → CandidateFillsIn m IsText
-    → LeftoversAreFilled m IsText → FilledLeaderIsReady → ReadyLeaderAnswers m IsText
+    → LeftoversAreFilled m IsText → VotersCatchUp m IsText → FilledLeaderIsReady → ReadyLeaderAnswers m IsText
     → WorldWithLeftoversAnswers m IsText
-leftovers_answer m IsText collects fills ready answers c set r others highest first last k run fresh =
-    answered m IsText collects fills ready answers c set r others highest first last k run fresh
+leftovers_answer m IsText collects fills catches ready answers c set r others highest first last k run fresh =
+    answered m IsText collects fills catches ready answers c set r others highest first last k run fresh

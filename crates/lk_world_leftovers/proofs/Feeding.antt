@@ -190,10 +190,11 @@ module _ (m : Meaning) (IsText : List ℕ → Type 0) (x e top : ℕ) (others : 
     fed_kept : (v : Vote) → Contains fed_after.acceptor.state.votes v → Contains fed_start.acceptor.state.votes v
     fed_kept v c = subst (λ (y : AcceptorValue). Contains y.state.votes v) after_feeds.fed.acceptor c
 
-    fed_contends : (f : ℕ) × (e ≤ f) × Contends m IsText new x f top others last
+    fed_contends : (f : ℕ) × (e ≤ f) × (f ≤ last) × Contends m IsText new x f top others last
     fed_contends = (
       executed fed_after.learner,
       after_feeds.fed.grows,
+      after_feeds.reaches.within,
       record {
         holds = hears.goes.after;
         candidate = fed_from.after;

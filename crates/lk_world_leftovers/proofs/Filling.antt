@@ -27,14 +27,18 @@ use Rattle.lk_node_interface.specs.Letters.{batch_of}
 use Rattle.lk_node.specs.Leavings.{header_of}
 use Rattle.lk_node.specs.NodeValue.{NodeValue}
 use Rattle.lk_node.specs.Telling.{letter_to}
+use Rattle.lk_progress.proofs.Electing.{named_by}
+use Rattle.lk_progress.proofs.Exchanges.{node_named}
 use Rattle.lk_progress.proofs.LeadingOn.{Keeps}
+use Rattle.lk_progress.proofs.Proposing.{next_set}
 use Rattle.lk_progress.specs.Deciding.{acceptances, vote_for_next}
 use Rattle.lk_progress.specs.Hearing.{Hears as NodeHears, TakesEach}
 use Rattle.lk_progress.specs.LeadingOn.{KeepsMembers}
 use Rattle.lk_rebases.specs.Pasts.{IsPlain}
 use Rattle.lk_leftovers.proofs.Filling.{found_at}
 use Rattle.lk_leftovers.proofs.Offering.{Fares, Offers, Reaches, Tells, all_fare, vote_in}
-use Rattle.lk_leftovers.specs.Accepting.{AcceptsAndStays, AcceptsItself, IsVoterAt, LeaderAccepts, VoterAccepts}
+use Rattle.lk_leftovers.specs.Accepting.{AcceptsAndStays, AcceptsItself, IsVoterAt, IsVoterFrom, LeaderAccepts}
+use Rattle.lk_leftovers.specs.Accepting.{VoterAccepts}
 use Rattle.lk_leftovers.specs.Filling.{FillsNext, FillsOn, FillsUp, LeaderFillsOn}
 use Rattle.lk_replica.specs.ReplicaValue.{ReplicaValue}
 use Rattle.lk_sim.specs.Scenes.{Scene}
@@ -47,9 +51,11 @@ use Rattle.lk_world_progress.proofs.Shadowing.{ShadowTakesAll, shadow_in_turn, s
 use Rattle.lk_world_progress.proofs.Stepping.{found_header, has_header}
 use Rattle.lk_world_progress.specs.Balloting.{HasSentTo}
 use Rattle.lk_world_progress.specs.Delivering.{InstallsNothing}
-use Rattle.lk_world_leftovers.proofs.Keeping.{fills_itself, fills_snapshot, votes_itself, voter_snapshot}
+use Rattle.lk_world_leftovers.proofs.Keeping.{fills_itself, fills_snapshot, from_snapshot, votes_itself}
+use Rattle.lk_world_leftovers.proofs.Keeping.{voter_snapshot}
+use Rattle.lk_world_leftovers.proofs.Telling.{IsBefore, all_tell}
 use Rattle.lk_world_leftovers.specs.Filling.{Fills, FillingLeaderOffers, FillsOnIn, IsFilling, IsNextVote}
-use Rattle.lk_world_leftovers.specs.Filling.{PositionIsFilled, VotesIn}
+use Rattle.lk_world_leftovers.specs.Filling.{PairsUpTo, PositionIsFilled, VotesIn, decided_by}
 
 -- what was sent stays sent
 pub still_sent : (old new : Scene ReplicaValue) (n k : ℕ) (y : NodeMessage)
@@ -136,6 +142,12 @@ module _ (m : Meaning) (IsText : List ℕ → Type 0) (leader_law : LeaderAccept
   reported = subst (λ (i : ℕ). has_vote_from t.received i ≡ true) in_list.1
       (k.fills.proposed next.proposal in_list.0 (omega (arith, in_list.1))).reported
 
+  low : v.position ≤ last
+  low = omega (arith, position_is, next_low)
+    where
+      next_low : e + 1 ≤ last
+      next_low = found_vote (e + 1) t.received reported last k.reported
+
   plain : KeepsMembers v.command
   plain = subst (λ (y : Vote). KeepsMembers y.command) (sym next.is)
       (k.fills.proposed next.proposal in_list.0 (omega (arith, in_list.1))).keeps
@@ -156,18 +168,26 @@ module _ (m : Meaning) (IsText : List ℕ → Type 0) (leader_law : LeaderAccept
     voting : HeardIt m IsText n accept voter.replica run.accepted
     voting = taken.heard n voter.replica (contains_more x others n other) voter.up
 
+    voter_reaches : last ≤ executed voting.start.learner + 2 * alpha voting.start.learner
+    voter_reaches = found_has voter.replica voting.start voting.found
+        (λ node. last ≤ executed node.learner + 2 * alpha node.learner) (λ r. r) voter.reaches
+
     ready_to_vote : IsVoterAt voting.start v.ballot v.position
-    ready_to_vote = subst (λ (b : BallotValue). IsVoterAt voting.start b v.position) (sym ballot_is)
-        (subst (λ (i : ℕ). IsVoterAt voting.start t.ballot i) (sym position_is)
-        (found_has voter.replica voting.start voting.found (λ node. IsVoterAt node t.ballot (e + 1))
-        (voter_snapshot voter.replica.node t.ballot (e + 1)) voter.votes))
+    ready_to_vote = record {
+      from = subst (λ (b : BallotValue). IsVoterFrom voting.start b v.position) (sym ballot_is)
+          (subst (λ (i : ℕ). IsVoterFrom voting.start t.ballot i) (sym position_is)
+          (found_has voter.replica voting.start voting.found (λ node. IsVoterFrom node t.ballot (e + 1))
+          (from_snapshot voter.replica.node t.ballot (e + 1)) voter.votes));
+      within = omega (arith, low, voter_reaches);
+    }
 
     voted : AcceptsAndStays voting.start x v voting.after.node voting.out
     voted = voter_law voting.start voting.after.node x v voting.out ready_to_vote voting.takes
 
-    voter_reaches : last < executed voting.start.learner + 2 * alpha voting.start.learner
-    voter_reaches = found_has voter.replica voting.start voting.found
-        (λ node. last < executed node.learner + 2 * alpha node.learner) (λ r. r) voter.reaches
+    voted_pairs : PairsUpTo voting.after.node last
+    voted_pairs = subst (λ (l : LearnerValue). (p : Pair) → Contains l.pairs p → p.0 ≤ last)
+        (sym voted.accepts.learner)
+        (found_has voter.replica voting.start voting.found (λ node. PairsUpTo node last) (λ r. r) voter.pairs)
 
     voted_sent : HasSentTo run.accepted n x (kinds.Accepted v)
     voted_sent = sent_as old run.accepted n x voting.start (kinds.Accepted v)
@@ -239,9 +259,8 @@ module _ (m : Meaning) (IsText : List ℕ → Type 0) (leader_law : LeaderAccept
   some : 1 ≤ alpha accepted.learner
   some = omega (arith, k.own.within, width_is)
 
-  later_voter : IsVoterAt accepted t.ballot (e + 2)
+  later_voter : IsVoterFrom accepted t.ballot (e + 2)
   later_voter = accepts.accepts.stays (e + 2) (omega (arith, start_executed))
-      (omega (arith, start_executed, start_alpha, width_is, some))
 
   chain : ShadowTakesAll m IsText x (acceptances (x ∷ others) v) accepted run.accepted new
   chain = shadow_in_turn m IsText x (acceptances (x ∷ others) v) accepted run.accepted new own.after taken.holds own.is
@@ -331,12 +350,6 @@ module _ (m : Meaning) (IsText : List ℕ → Type 0) (leader_law : LeaderAccept
     keeps = accepts.fills.leads.keeps;
   }
 
-  low : v.position ≤ last
-  low = omega (arith, position_is, next_low)
-    where
-      next_low : e + 1 ≤ last
-      next_low = found_vote (e + 1) t.received reported last k.reported
-
   fares : Fares t.ballot accepted.header accepted.acceptor F G set chain.letters told width last some t.received m
       IsText v low plain last_node
   fares = all_fare t.ballot accepted.header accepted.acceptor F G set chain.letters told width last some t.received m
@@ -351,27 +364,30 @@ module _ (m : Meaning) (IsText : List ℕ → Type 0) (leader_law : LeaderAccept
 
   own_later : IsVoterAt last_node t.ballot (f + 1)
   own_later = record {
-    near = record {
-      alpha_is = ap (λ (a : AcceptorValue). a.alpha) fares.offers.acceptor ∙ later_voter.near.alpha_is
-          ∙ sym fares.reaches.width_is;
-      snapshot = omega (
-        arith,
-        ap (λ (a : AcceptorValue). a.state.snapshot_position) fares.offers.acceptor,
-        later_voter.near.snapshot,
-        accepted_executed,
-        moves,
-      );
-      votes = λ y c.
-          let kept : y.position ≤ executed accepted.learner + 2 * alpha accepted.learner = later_voter.near.votes y
-          (subst (λ (a : AcceptorValue). Contains a.state.votes y) fares.offers.acceptor c) in
-          omega (arith, kept, accepted_executed, moves, fares.reaches.width_is);
+    from = record {
+      near = record {
+        alpha_is = ap (λ (a : AcceptorValue). a.alpha) fares.offers.acceptor ∙ later_voter.near.alpha_is
+            ∙ sym fares.reaches.width_is;
+        snapshot = omega (
+          arith,
+          ap (λ (a : AcceptorValue). a.state.snapshot_position) fares.offers.acceptor,
+          later_voter.near.snapshot,
+          accepted_executed,
+          moves,
+        );
+        votes = λ y c.
+            let kept : y.position ≤ executed accepted.learner + 2 * alpha accepted.learner = later_voter.near.votes y
+            (subst (λ (a : AcceptorValue). Contains a.state.votes y) fares.offers.acceptor c) in
+            omega (arith, kept, accepted_executed, moves, fares.reaches.width_is);
+      };
+      ballot = subst (λ (a : AcceptorValue). IsAtMost a.state.promised t.ballot) (sym fares.offers.acceptor)
+          later_voter.ballot;
+      above = omega arith;
+      older = λ y c from. later_voter.older y
+          (subst (λ (a : AcceptorValue). Contains a.state.votes y) fares.offers.acceptor c)
+          (omega (arith, from, moves));
     };
-    ballot = subst (λ (a : AcceptorValue). IsAtMost a.state.promised t.ballot) (sym fares.offers.acceptor)
-        later_voter.ballot;
-    above = omega arith;
     within = omega (arith, some, fares.reaches.width_is);
-    older = λ y c from. later_voter.older y
-        (subst (λ (a : AcceptorValue). Contains a.state.votes y) fares.offers.acceptor c) (omega (arith, from, moves));
   }
 
   after_executed : executed chain.after.node.learner ≡ f
@@ -400,12 +416,13 @@ module _ (m : Meaning) (IsText : List ℕ → Type 0) (leader_law : LeaderAccept
   voters_later n other = record {
     replica = (voting n other).after;
     up = chain.others n (Up (voting n other).after) (apart n other) (voting n other).is;
-    votes = subst (λ (b : BallotValue). IsVoterAt (voting n other).after.node b (executed chain.after.node.learner + 1))
+    votes = subst
+        (λ (b : BallotValue). IsVoterFrom (voting n other).after.node b (executed chain.after.node.learner + 1))
         (ballot_is ∙ sym term_ballot)
-        (subst (λ (i : ℕ). IsVoterAt (voting n other).after.node v.ballot (i + 1)) (sym after_executed)
-        ((voted n other).stays (f + 1) (omega (arith, position_is, moves))
-        (omega (arith, voter_reaches n other, fares.reaches.within))));
-    reaches = subst (λ (l : LearnerValue). last < executed l + 2 * alpha l) (sym (voted n other).accepts.learner)
+        (subst (λ (i : ℕ). IsVoterFrom (voting n other).after.node v.ballot (i + 1)) (sym after_executed)
+        ((voted n other).stays (f + 1) (omega (arith, position_is, moves))));
+    pairs = voted_pairs n other;
+    reaches = subst (λ (l : LearnerValue). last ≤ executed l + 2 * alpha l) (sym (voted n other).accepts.learner)
         (voter_reaches n other);
   }
 
@@ -437,9 +454,33 @@ module _ (m : Meaning) (IsText : List ℕ → Type 0) (leader_law : LeaderAccept
     | inr other ↦ voted_sent n other
   ]
 
+  -- it has told each other member
+  module _ (n : ℕ) (in_set : Contains (nodes_of set) n) (above : 1 ≤ n) (differs : n ≡ x → ⊥) where
+    not_own : n ≡ accepted.header.node → ⊥
+    not_own is = differs (is ∙ ap (λ (h : HeaderValue). h.node) accepted_header)
+
+    before_telling : IsBefore m IsText v accepted.header e n above not_own accepted
+    before_telling = record {
+      header = refl;
+      reach = accepted_executed;
+      named = named_by accepted.learner.whole.roster.sets set n
+          (next_set accepted.learner.whole.roster set accepts.fills.leads.leads.members) (node_named set n in_set);
+    }
+
+    told_others : HasSentTo new x n (kinds.Decided (decided_by v))
+    told_others = elim (all_tell m IsText v accepted.header e n above not_own (x ∷ others) accepted last_node
+        chain.letters chain.takes before_telling) [
+          | inl still ↦ absurd (omega (arith, still, moves))
+          | inr s ↦ sent_as run.accepted new x n s.node (kinds.Decided (decided_by v)) (s.header ∙ accepted_header)
+              chain.genesis
+              (among x chain.letters run.accepted new chain.sent
+              (letter_to s.node (kinds.Decided (decided_by v)) n) s.told)
+        ]
+
   filled : FillsOnIn m IsText x leader t set others last v old new run
   filled = record {
     accepts = replied;
+    tells = told_others;
     after = chain.after;
     term = later_term;
     ballot = term_ballot;

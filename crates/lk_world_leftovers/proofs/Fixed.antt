@@ -243,7 +243,7 @@ module _ (m : Meaning) (IsText : List ℕ → Type 0) (w : Scene ReplicaValue) (
           unchanged = known.unchanged;
           near = k.near;
           keeps = known.pairs;
-          pairs = k.pairs;
+          pairs = k.pairs c (0, omega arith, refl);
           within = k.within;
           votes = left_at c k.up (inl (next_above c.node)) (0, omega arith, refl);
         };
@@ -252,6 +252,7 @@ module _ (m : Meaning) (IsText : List ℕ → Type 0) (w : Scene ReplicaValue) (
       near = k.others_near r d;
       ballot = k.ballot r d;
       behind = k.behind r d;
+      pairs = k.pairs r (contains_more c others r d);
       reaches = k.reaches r d;
       votes = left_at r (k.others_up r d) (k.ballot r d) (contains_more c others r d);
     };

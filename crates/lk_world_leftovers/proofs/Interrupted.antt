@@ -24,7 +24,7 @@ use Rattle.lk_progress.specs.Electing.{promises}
 use Rattle.lk_progress.specs.Exchanges.{IsQuietVoter, prepare_by, promise_to, vote_by}
 use Rattle.lk_progress.specs.Rejecting.{PrepareIsPromisedOrRejected}
 use Rattle.lk_leftovers.proofs.Accepting.{kept_or_new}
-use Rattle.lk_leftovers.specs.Accepting.{AcceptsAndStays, IsVoterAt, VoterAccepts}
+use Rattle.lk_leftovers.specs.Accepting.{AcceptsAndStays, IsVoterAt, IsVoterFrom, VoterAccepts}
 use Rattle.lk_replica.specs.ReplicaValue.{ReplicaValue}
 use Rattle.lk_sim.specs.Events.{IsAsked}
 use Rattle.lk_sim.specs.Scenes.{Scene}
@@ -39,7 +39,7 @@ use Rattle.lk_world_progress.specs.Beginning.{IsNewIn, IsNewWorld}
 use Rattle.lk_world_progress.specs.Delivering.{HearsInTurn}
 use Rattle.lk_world_progress.specs.Exchanging.{number_of}
 use Rattle.lk_world_progress.specs.Stepping.{IsUpAs, Lives, TakesStep}
-use Rattle.lk_world_leftovers.proofs.Keeping.{voter_snapshot}
+use Rattle.lk_world_leftovers.proofs.Keeping.{from_snapshot}
 use Rattle.lk_world_leftovers.proofs.Promising.{PromisesFrom, Stands, promises_from, stands_snapshot, then_votes}
 use Rattle.lk_world_leftovers.specs.Interrupted.{HasVoteLeft, InterruptedWorldsContend, IsInterrupted, KeepsVote}
 use Rattle.lk_world_leftovers.specs.Persisting.{MayVote}
@@ -186,11 +186,31 @@ module _ (m : Meaning) (IsText : List ℕ → Type 0) (prepare_law : PrepareIsPr
     accepting : HeardIt m IsText n accept promising.after last
     accepting = accepted.heard n promising.after there (stays_on n (Up promising.after) apart promising.is)
 
+    start_reaches : 0 < executed accepting.start.learner + 2 * alpha accepting.start.learner
+    start_reaches = found_has promising.after accepting.start accepting.found
+        (λ node. 0 < executed node.learner + 2 * alpha node.learner) (λ q. q) reaches
+
+    start_behind : executed accepting.start.learner ≤ 0
+    start_behind = found_has promising.after accepting.start accepting.found (λ node. executed node.learner ≤ 0)
+        (λ q. q) behind
+
+    -- it knows no pair
+    start_pairs : (p : Pair) → Contains accepting.start.learner.pairs p → p.0 ≤ 1
+    start_pairs = found_has promising.after accepting.start accepting.found
+        (λ node. (p : Pair) → Contains node.learner.pairs p → p.0 ≤ 1) (λ q. q)
+        (subst (λ (l : LearnerValue). (p : Pair) → Contains l.pairs p → p.0 ≤ 1) (sym promise.promises.learner)
+        (found_has voter promising.start promising.found
+        (λ node. (p : Pair) → Contains node.learner.pairs p → p.0 ≤ 1) (λ q. q)
+        (subst (λ (node : NodeValue). (p : Pair) → Contains node.learner.pairs p → p.0 ≤ 1) (sym is_new.1)
+        (λ p d. absurd (omega (arith, d.1))))))
+
     ready : IsVoterAt accepting.start b (e + 1)
-    ready = found_has promising.after accepting.start accepting.found (λ node. IsVoterAt node b (e + 1))
-        (voter_snapshot promising.after.node b (e + 1))
-        (then_votes promising.start promising.after.node own b e 0 [] promising.out promise
-        (omega (arith, reach, reaches)))
+    ready = record {
+      from = found_has promising.after accepting.start accepting.found (λ node. IsVoterFrom node b (e + 1))
+          (from_snapshot promising.after.node b (e + 1))
+          (then_votes promising.start promising.after.node own b e 0 [] promising.out promise);
+      within = omega (arith, reach, start_reaches, start_behind);
+    }
 
     low : (v : Vote) → Contains accepting.start.acceptor.state.votes v → v.position ≤ 0
     low = (found_has promising.after accepting.start accepting.found (Stands b e 0 [])
@@ -202,22 +222,16 @@ module _ (m : Meaning) (IsText : List ℕ → Type 0) (prepare_law : PrepareIsPr
     abbrev after : NodeValue
     after = accepting.after.node
 
-    start_reaches : 0 < executed accepting.start.learner + 2 * alpha accepting.start.learner
-    start_reaches = found_has promising.after accepting.start accepting.found
-        (λ node. 0 < executed node.learner + 2 * alpha node.learner) (λ q. q) reaches
-
-    start_behind : executed accepting.start.learner ≤ 0
-    start_behind = found_has promising.after accepting.start accepting.found (λ node. executed node.learner ≤ 0)
-        (λ q. q) behind
-
     may_vote : MayVote last 0 1 n
     may_vote = record {
       replica = accepting.after;
       up = accepting.is;
-      near = (voted.stays (e + 2) (omega arith) (omega (arith, reach, start_reaches, start_behind))).near;
+      near = (voted.stays (e + 2) (omega arith)).near;
       behind = subst (λ (l : LearnerValue). executed l ≤ 0) (sym voted.accepts.learner) start_behind;
-      reaches = subst (λ (l : LearnerValue). 1 < executed l + 2 * alpha l) (sym voted.accepts.learner)
-          (omega (arith, start_reaches, start_behind));
+      reaches = subst (λ (l : LearnerValue). 1 ≤ executed l + 2 * alpha l) (sym voted.accepts.learner)
+          (omega (arith, start_reaches));
+      pairs = subst (λ (l : LearnerValue). (p : Pair) → Contains l.pairs p → p.0 ≤ 1) (sym voted.accepts.learner)
+          start_pairs;
       votes = λ v d. elim (kept_or_new (vote_by c.node r) accepting.start.acceptor.state.votes v
           (subst (λ (a : AcceptorValue). Contains a.state.votes v) voted.accepts.acceptor d)) [
             | inl is ↦ (let at : e + 1 ≡ v.position = ap (λ (y : Vote). y.position) is in omega (arith, at, reach))

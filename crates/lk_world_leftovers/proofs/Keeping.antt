@@ -12,7 +12,7 @@ use Rattle.lk_node.specs.NewBases.{with_snapshot}
 use Rattle.lk_node.specs.NodeValue.{NodeValue}
 use Rattle.lk_rebases.proofs.Rebases.{still_has}
 use Rattle.lk_rebases.specs.Pasts.{Fits, Past, with_past}
-use Rattle.lk_leftovers.specs.Accepting.{IsVoterAt}
+use Rattle.lk_leftovers.specs.Accepting.{IsVoterAt, IsVoterFrom}
 use Rattle.lk_leftovers.specs.Filling.{FillsUp}
 use Rattle.lk_world_progress.proofs.Shadowing.{Shadows}
 
@@ -63,9 +63,9 @@ fills_snapshot node t set f = record {
   all = f.all;
 }
 
-pub voter_snapshot : (node : NodeValue) (b : BallotValue) (i : ℕ) → IsVoterAt node b i
-    → IsVoterAt (with_snapshot node) b i
-voter_snapshot node b i k = record {
+pub from_snapshot : (node : NodeValue) (b : BallotValue) (i : ℕ) → IsVoterFrom node b i
+    → IsVoterFrom (with_snapshot node) b i
+from_snapshot node b i k = record {
   near = record {
     alpha_is = k.near.alpha_is;
     snapshot = omega arith;
@@ -73,7 +73,6 @@ voter_snapshot node b i k = record {
   };
   ballot = k.ballot;
   above = k.above;
-  within = k.within;
   older = λ v c. k.older v (kept v c);
 }
   where
@@ -81,23 +80,29 @@ voter_snapshot node b i k = record {
         → Contains node.acceptor.state.votes v
     kept v c = filter_from (λ (x : Vote). nat_lt (executed node.learner) x.position) node.acceptor.state.votes v c
 
+pub voter_snapshot : (node : NodeValue) (b : BallotValue) (i : ℕ) → IsVoterAt node b i
+    → IsVoterAt (with_snapshot node) b i
+voter_snapshot node b i k = record { from = from_snapshot node b i k.from; within = k.within }
+
 -- ---- another past
 
 voter_past : (p : Past) (node : NodeValue) (b : BallotValue) (i : ℕ) → Fits p node
     → IsVoterAt (with_past p node) b i → IsVoterAt node b i
 voter_past p node b i f k = record {
-  near = record {
-    alpha_is = k.near.alpha_is;
-    snapshot = f.own;
-    votes = λ v c. elim (cases_lt (executed node.learner) v.position) [
-      | inl late ↦ k.near.votes v (there v late c)
-      | inr early ↦ omega (arith, early)
-    ];
+  from = record {
+    near = record {
+      alpha_is = k.from.near.alpha_is;
+      snapshot = f.own;
+      votes = λ v c. elim (cases_lt (executed node.learner) v.position) [
+        | inl late ↦ k.from.near.votes v (there v late c)
+        | inr early ↦ omega (arith, early)
+      ];
+    };
+    ballot = k.from.ballot;
+    above = k.from.above;
+    older = λ v c above. k.from.older v (there v (omega (arith, k.from.above, above)) c) above;
   };
-  ballot = k.ballot;
-  above = k.above;
   within = k.within;
-  older = λ v c from. k.older v (there v (omega (arith, k.above, from)) c) from;
 }
   where
     there : (v : Vote) → executed node.learner < v.position → Contains node.acceptor.state.votes v

@@ -1,5 +1,5 @@
 -- What rejections leave of a node, and which nodes contend for answering a request.
-use Rattle.std.proofs.Common.{◌≡◌, ◌∙◌, inl, inr, ℕ, ◌+◌, ◌*◌, ◌<◌, ◌≤◌, Bool, true, false, cond, List, [], None}
+use Rattle.std.proofs.Common.{◌≡◌, ◌∙◌, inl, inr, ℕ, ◌+◌, ◌*◌, ◌≤◌, Bool, true, false, cond, List, [], None}
 use Rattle.std.proofs.Common.{length, Contains, nat_lt, refl, ap, sym, subst, arith}
 use Rattle.lk_types.specs.BallotValue.{BallotValue}
 use Rattle.lk_types.specs.declared.vote.Vote.{Vote}
@@ -11,7 +11,7 @@ use Rattle.lk_state.specs.Meanings.{Meaning}
 use Rattle.lk_state.specs.States.{WholeValue}
 use Rattle.lk_acceptor.specs.AcceptorValue.{AcceptorValue}
 use Rattle.lk_leader.specs.Terms.{is_term_below}
-use Rattle.lk_learner.specs.Learners.{LearnerValue, Pair, alpha, executed}
+use Rattle.lk_learner.specs.Learners.{LearnerValue, Pair, executed}
 use Rattle.lk_node_interface.specs.Outboxes.{OutboxValue}
 use Rattle.lk_node.specs.Beginning.{next_ballot}
 use Rattle.lk_node.specs.Executing.{NothingToRun}
@@ -151,7 +151,8 @@ may_vote old new top last n k q up l = record {
   up = up;
   near = l.near k.near;
   behind = subst (λ (w : WholeValue). w.roster.executed ≤ top) (sym l.whole) k.behind;
-  reaches = subst (λ (w : WholeValue). last < w.roster.executed + 2 * length w.roster.sets) (sym l.whole) k.reaches;
+  reaches = subst (λ (w : WholeValue). last ≤ w.roster.executed + 2 * length w.roster.sets) (sym l.whole) k.reaches;
+  pairs = subst (λ (ps : List Pair). (p : Pair) → Contains ps p → p.0 ≤ last) (sym l.pairs) k.pairs;
   votes = λ v c. k.votes v (l.votes v c);
 }
 
@@ -210,8 +211,9 @@ module _ (m : Meaning) (IsText : List ℕ → Type 0) (w : Scene ReplicaValue) (
           up = v.2.0;
           near = subst (λ (node : NodeValue). AreNear node.acceptor node.learner) (sym v.2.1) is.near;
           behind = subst (λ (node : NodeValue). executed node.learner ≤ 0) (sym v.2.1) is.behind;
-          reaches = subst (λ (node : NodeValue). 0 < executed node.learner + 2 * alpha node.learner) (sym v.2.1)
-              is.within;
+          reaches = omega arith;
+          pairs = subst (λ (node : NodeValue). (p : Pair) → Contains node.learner.pairs p → p.0 ≤ 0) (sym v.2.1)
+              (λ p c. absurd (omega (arith, c.1)));
           votes = subst (λ (node : NodeValue). VotesUpTo node 0) (sym v.2.1) is.votes;
         };
     distinct = new.distinct;

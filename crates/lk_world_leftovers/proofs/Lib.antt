@@ -1,5 +1,8 @@
 mod Keeping
+mod Telling
 mod Filling
+mod Taking
+mod Catching
 mod Serving
 mod Promising
 mod Collecting
@@ -8,6 +11,10 @@ mod Fixed
 mod Lasting
 mod Feeding
 mod Lagging
+mod Asking
+mod Installing
+mod Parting
+mod Leveling
 mod Retrying
 mod Persisting
 mod Restarted

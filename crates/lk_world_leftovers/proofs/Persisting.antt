@@ -8,7 +8,7 @@ use Rattle.lk_agreement_laws.proofs.Histories.{at_most_unless_below, cons_cases}
 use Rattle.lk_members.specs.Majorities.{IsMajority}
 use Rattle.lk_members.specs.Rosters.{is_member}
 use Rattle.lk_state.specs.Meanings.{Meaning}
-use Rattle.lk_learner.specs.Learners.{Pair, alpha, executed}
+use Rattle.lk_learner.specs.Learners.{alpha, executed}
 use Rattle.lk_node.proofs.Nodes.{map_has}
 use Rattle.lk_node.specs.Beginning.{next_ballot}
 use Rattle.lk_node.specs.Executing.{NothingToRun}
@@ -21,6 +21,7 @@ use Rattle.lk_world_progress.specs.Exchanging.{number_of}
 use Rattle.lk_world_progress.specs.Stepping.{IsUpAs}
 use Rattle.lk_world_leftovers.proofs.Retrying.{waited}
 use Rattle.lk_world_leftovers.specs.Exchanging.{WorldWithLeftoversAnswers}
+use Rattle.lk_world_leftovers.specs.Filling.{PairsUpTo}
 use Rattle.lk_world_leftovers.specs.Fixed.{FixedWorldHasLeftovers, FreshRequestsAreNew, IsFresh, NobodyIsAhead}
 use Rattle.lk_world_leftovers.specs.Persisting.{AreFixed, Contends, HasAnsweredInTime, HasPersisted}
 use Rattle.lk_world_leftovers.specs.Persisting.{MayVote, Persists}
@@ -35,7 +36,7 @@ module _ (m : Meaning) (IsText : List ℕ → Type 0) (few_law : RejectionsAreFe
     (k : Contends m IsText first x e top others highest) (ahead_of : top ≤ e) (low : e ≤ highest)
     (room : highest < 281474976710656)
     (run : Persists m IsText x others r first last) (fixed : AreFixed run.ready x others)
-    (fresh : IsFresh run.exchanges.filled r) where
+    (fresh : IsFresh run.exchanges.ready r) where
   persisted : HasPersisted m IsText x e top others highest run.rivals run.retried
   persisted = few_law x e top others highest run.rivals first run.retried k run.retries
 
@@ -89,15 +90,19 @@ module _ (m : Meaning) (IsText : List ℕ → Type 0) (few_law : RejectionsAreFe
     idle = on (λ q. q.node.leader.waiting ≡ []) ready.waiting;
     known = on (λ q. NothingToRun q.node) ready.known;
     near = on (λ q. AreNear q.node.acceptor q.node.learner) ready.near;
-    pairs = on (λ q. (p : Pair) → Contains q.node.learner.pairs p → p.0 ≤ highest) ready.pairs;
     within = omega (arith, reach, low);
     others_up = run.voters_up;
     others_near = λ q c. of_voter q c (λ y. AreNear y.node.acceptor y.node.learner) (may q c).near;
     ballot = not_above;
     behind = λ q c. of_voter q c (λ y. executed y.node.learner ≤ executed run.candidate.node.learner)
         (let low_one = (may q c).behind in omega (arith, reach, low_one, ahead_of));
-    reaches = λ q c. of_voter q c (λ y. highest < executed y.node.learner + 2 * alpha y.node.learner)
+    reaches = λ q c. of_voter q c (λ y. highest ≤ executed y.node.learner + 2 * alpha y.node.learner)
         (may q c).reaches;
+    pairs = λ q c. elim (cons_cases run.candidate run.voters q c) [
+      | inl is ↦ subst (λ (y : ReplicaValue). PairsUpTo y.node highest) is
+          (on (λ y. PairsUpTo y.node highest) ready.pairs)
+      | inr other ↦ of_voter q other (λ y. PairsUpTo y.node highest) (may q other).pairs
+    ];
     votes = λ q c. elim (cons_cases run.candidate run.voters q c) [
       | inl is ↦ subst (λ (y : ReplicaValue). VotesUpTo y.node highest) is
           (on (λ y. VotesUpTo y.node highest) ready.votes)
@@ -113,7 +118,7 @@ module _ (m : Meaning) (IsText : List ℕ → Type 0) (few_law : RejectionsAreFe
     few = persisted.few;
     answer = answers_law run.candidate run.ready.genesis.members r run.voters highest run.ready last
         (fixed_law run.ready run.candidate run.voters highest ahead) run.exchanges
-        (new_law run.exchanges.filled (number_of run.candidate) run.exchanges.leader r
+        (new_law run.exchanges.ready (number_of run.candidate) run.exchanges.leader r
         run.exchanges.serves.requests.before run.exchanges.is fresh);
     reach = reach;
   }

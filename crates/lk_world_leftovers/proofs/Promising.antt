@@ -1,5 +1,5 @@
 -- What nodes that promise keep, and a candidate that takes its own Prepare.
-use Rattle.std.proofs.Common.{◌≡◌, ◌∙◌, ◌⊎◌, inl, inr, ℕ, ◌+◌, ◌*◌, ◌<◌, ◌≤◌, true, false, nat_lt, nat_le, List, []}
+use Rattle.std.proofs.Common.{◌≡◌, ◌∙◌, ◌⊎◌, inl, inr, ℕ, ◌+◌, ◌<◌, ◌≤◌, true, false, nat_lt, nat_le, List, []}
 use Rattle.std.proofs.Common.{◌∷◌, Some, Contains, ap, sym, subst, arith}
 use Rattle.std.proofs.lemmas.Bool.{leb-true}
 use Rattle.std.proofs.lemmas.Bool.Decides.{nat_tests}
@@ -21,7 +21,7 @@ use Rattle.lk_acceptor.specs.VoteLists.{votes_above, votes_from}
 use Rattle.lk_leader.specs.Proposing.{AreMembersAt}
 use Rattle.lk_leader.specs.Terms.{LeaderValue, begun}
 use Rattle.lk_leader.specs.Values.{is_changing_at}
-use Rattle.lk_learner.specs.Learners.{IsNext, LearnerValue, Pair, alpha, executed}
+use Rattle.lk_learner.specs.Learners.{IsNext, LearnerValue, Pair, executed}
 use Rattle.lk_node_interface.specs.Outboxes.{OutboxValue}
 use Rattle.lk_node.specs.Executing.{NothingToRun}
 use Rattle.lk_node.specs.Leading.{NothingToPropose, ProposesAll, having_proposed}
@@ -37,7 +37,7 @@ use Rattle.lk_progress.specs.Hearing.{Takes}
 use Rattle.lk_progress.specs.LeadingOn.{AreAll, KeepsMembers}
 use Rattle.lk_progress.specs.Rejecting.{PrepareIsPromisedOrRejected, Promises, RejectsPrepare}
 use Rattle.lk_rebases.proofs.Rebases.{strict_filter}
-use Rattle.lk_leftovers.specs.Accepting.{IsVoterAt}
+use Rattle.lk_leftovers.specs.Accepting.{IsVoterFrom}
 use Rattle.lk_world_progress.proofs.Balloting.{near_snapshot}
 use Rattle.lk_world_leftovers.specs.Collecting.{AreLeftovers}
 
@@ -135,15 +135,14 @@ promises_from m IsText law old new from b e highest votes out s ballot takes =
       stands = stands_promised b b e highest votes old new promises.acceptor promises.learner s;
     }
 
--- and is then a voter at the next position
+-- and is then a voter from the next position on
 pub then_votes : (old new : NodeValue) (from : ℕ) (b : BallotValue) (e highest : ℕ) (votes : List Vote)
     (out : OutboxValue) → PromisesFrom old from b e highest votes new out
-    → e < executed new.learner + 2 * alpha new.learner → IsVoterAt new b (e + 1)
-then_votes old new from b e highest votes out p within = record {
+    → IsVoterFrom new b (e + 1)
+then_votes old new from b e highest votes out p = record {
   near = p.stands.near;
   ballot = inr (ap (λ (a : AcceptorValue). a.state.promised) p.promises.acceptor);
   above = omega (arith, p.stands.behind);
-  within = omega (arith, within);
   older = λ v c above. p.stands.left.older v c (omega (arith, above));
 }
 

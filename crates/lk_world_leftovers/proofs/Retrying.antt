@@ -377,7 +377,7 @@ still_there n k (m ∷ ms) ne c = elim (cases_Bool (eqb m n)) [
   ])
 ]
 
-few_distinct : (ns ms : List ℕ) → AreDistinct ns → ((n : ℕ) → Contains ns n → Contains ms n) → length ns ≤ length ms
+pub few_distinct : (ns ms : List ℕ) → AreDistinct ns → ((n : ℕ) → Contains ns n → Contains ms n) → length ns ≤ length ms
 few_distinct [] ms distinct among = omega arith
 few_distinct (n ∷ ns) ms distinct among =
     let rest : length ns ≤ length (without_first n ms) = few_distinct ns (without_first n ms) distinct.1

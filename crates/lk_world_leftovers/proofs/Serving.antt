@@ -104,7 +104,7 @@ module _ (m : Meaning) (IsText : List ℕ → Type 0) (keeps : KeepsTexts IsText
   one : ShadowTakes m IsText leader.node (content.Request r) request.after.node request.out
   one = shadow_from m IsText leader.node x (content.Request r) run.requested run.proposed leader run.requests.after
       (requested_lives x (Up leader) k.up) tt request
-      (shadows_itself leader.node (omega (arith, k.own.within)) k.own.near.snapshot) tt
+      (shadows_itself leader.node (omega (arith, k.own.within)) k.own.from.near.snapshot) tt
 
   abbrev asked : NodeValue
   asked = one.shadow_after
@@ -114,18 +114,21 @@ module _ (m : Meaning) (IsText : List ℕ → Type 0) (keeps : KeepsTexts IsText
 
   asked_votes : IsVoterAt asked t.ballot (e + 1)
   asked_votes = record {
-    near = subst (λ (l : LearnerValue). AreNear asked.acceptor l) (sym asks.learner)
-        (subst (λ (a : AcceptorValue). AreNear a leader.node.learner) (sym asks.acceptor) k.own.near);
-    ballot = subst (λ (a : AcceptorValue). IsAtMost a.state.promised t.ballot) (sym asks.acceptor) k.own.ballot;
-    above = omega (arith, ap (λ (l : LearnerValue). executed l) asks.learner);
+    from = record {
+      near = subst (λ (l : LearnerValue). AreNear asked.acceptor l) (sym asks.learner)
+          (subst (λ (a : AcceptorValue). AreNear a leader.node.learner) (sym asks.acceptor) k.own.from.near);
+      ballot = subst (λ (a : AcceptorValue). IsAtMost a.state.promised t.ballot) (sym asks.acceptor)
+          k.own.from.ballot;
+      above = omega (arith, ap (λ (l : LearnerValue). executed l) asks.learner);
+      older = subst (λ (a : AcceptorValue). (v : Vote) → Contains a.state.votes v → e + 1 ≤ v.position
+          → IsBelow v.ballot t.ballot) (sym asks.acceptor) k.own.from.older;
+    };
     within = omega (
       arith,
       k.own.within,
       ap (λ (l : LearnerValue). executed l) asks.learner,
       ap (λ (l : LearnerValue). alpha l) asks.learner,
     );
-    older = subst (λ (a : AcceptorValue). (v : Vote) → Contains a.state.votes v → e + 1 ≤ v.position
-        → IsBelow v.ballot t.ballot) (sym asks.acceptor) k.own.older;
   }
 
   ballot_is : asks.term.ballot ≡ t.ballot

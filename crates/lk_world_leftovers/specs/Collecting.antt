@@ -32,7 +32,7 @@ use Rattle.lk_world_progress.specs.Balloting.{HasSentTo}
 use Rattle.lk_world_progress.specs.Delivering.{AreDistinct, HearsEach, HearsInTurn}
 use Rattle.lk_world_progress.specs.Exchanging.{number_of}
 use Rattle.lk_world_progress.specs.Stepping.{GoesWell, Holds, IsUpAs}
-use Rattle.lk_world_leftovers.specs.Filling.{IsFilling}
+use Rattle.lk_world_leftovers.specs.Filling.{IsFilling, PairsUpTo}
 
 -- ---- who takes part
 
@@ -55,17 +55,18 @@ pub record IsCandidate (node : NodeValue) (set : List Member) (last : ℕ) : Typ
   pub unchanged : is_changing_at node.learner.whole.roster (executed node.learner + 1) ≡ false
   pub near : AreNear node.acceptor node.learner
   pub keeps : (p : Pair) → Contains node.learner.pairs p → KeepsMembers p.1
-  pub pairs : (p : Pair) → Contains node.learner.pairs p → p.0 ≤ last
+  pub pairs : PairsUpTo node last
   pub within : executed node.learner ≤ last
   pub votes : AreLeftovers node (next_ballot node) (executed node.learner) last
 
--- Another node has promised no ballot above this one, and has executed at most e positions. Each position up to the one
--- after the last is one of its next 2 alpha.
+-- Another node has promised no ballot above this one, and has executed at most e positions. It knows no pair above the
+-- last position, and each position up to that is one of its next 2 alpha.
 pub record IsNearVoter (node : NodeValue) (b : BallotValue) (e last : ℕ) : Type 0 where
   pub near : AreNear node.acceptor node.learner
   pub ballot : IsAtMost node.acceptor.state.promised b
   pub behind : executed node.learner ≤ e
-  pub reaches : last < executed node.learner + 2 * alpha node.learner
+  pub pairs : PairsUpTo node last
+  pub reaches : last ≤ executed node.learner + 2 * alpha node.learner
   pub votes : AreLeftovers node b e last
 
 -- the candidate and these others are up, and with it they are a majority of the set

@@ -1,10 +1,11 @@
 -- A leader of a world to which votes of earlier ballots are reported fills one position after another. The members do
 -- not change.
-use Rattle.std.specs.Prelude.{◌≡◌, ℕ, ◌+◌, ◌*◌, ◌<◌, ◌≤◌, true, Some, List, ◌∷◌, Contains}
+use Rattle.std.specs.Prelude.{◌≡◌, ℕ, ◌+◌, ◌*◌, ◌<◌, ◌≤◌, true, Some, List, [], ◌∷◌, Contains}
 use Rattle.lk_types.specs.BallotValue.{BallotValue}
 use Rattle.lk_types.specs.Limits.{max_count}
 use Rattle.lk_types.specs.declared.member.Member.{Member}
 use Rattle.lk_types.specs.declared.vote.Vote.{Vote}
+use Rattle.lk_messages.specs.Values.{DecidedValue}
 use Rattle.lk_messages.specs.declared.message.Content.TheVariants as content
 use Rattle.lk_messages.specs.declared.message.NodeMessage.TheVariants as kinds
 use Rattle.lk_members.specs.Majorities.{IsMajority}
@@ -15,7 +16,7 @@ use Rattle.lk_leader.specs.Values.{has_vote_from}
 use Rattle.lk_learner.specs.Learners.{Pair, executed, alpha}
 use Rattle.lk_node.specs.NodeValue.{NodeValue}
 use Rattle.lk_progress.specs.Deciding.{acceptances, vote_for_next}
-use Rattle.lk_leftovers.specs.Accepting.{IsVoterAt}
+use Rattle.lk_leftovers.specs.Accepting.{IsVoterAt, IsVoterFrom}
 use Rattle.lk_leftovers.specs.Filling.{FillsUp}
 use Rattle.lk_replica.specs.ReplicaValue.{ReplicaValue}
 use Rattle.lk_sim.specs.Scenes.{Scene}
@@ -25,13 +26,18 @@ use Rattle.lk_world_progress.specs.Stepping.{Holds, IsUpAs}
 
 -- ---- who takes part
 
--- the node is up, and a voter of the ballot at the position. Each position up to the one after the last is one of its
--- next 2 alpha
+-- the node knows no pair above the last position
+abbrev pub PairsUpTo : NodeValue → ℕ → Type 0
+PairsUpTo node last = (p : Pair) → Contains node.learner.pairs p → p.0 ≤ last
+
+-- The node is up, and a voter of the ballot from the position on. It knows no pair above the last position, and each
+-- position up to that is one of its next 2 alpha.
 pub record VotesIn (w : Scene ReplicaValue) (b : BallotValue) (i last : ℕ) (n : ℕ) : Type 0 where
   pub replica : ReplicaValue
   pub up : IsUpAs w n replica
-  pub votes : IsVoterAt replica.node b i
-  pub reaches : last < executed replica.node.learner + 2 * alpha replica.node.learner
+  pub votes : IsVoterFrom replica.node b i
+  pub pairs : PairsUpTo replica.node last
+  pub reaches : last ≤ executed replica.node.learner + 2 * alpha replica.node.learner
 
 -- the vote for what the term has proposed
 abbrev pub vote_of : TermValue → ProposalValue → Vote
@@ -51,7 +57,7 @@ pub record IsFilling (m : Meaning) (IsText : List ℕ → Type 0) (w : Scene Rep
   pub majority : IsMajority (x ∷ others) set
   pub within : executed leader.node.learner ≤ last
   pub room : last < max_count
-  pub pairs : (p : Pair) → Contains leader.node.learner.pairs p → p.0 ≤ last
+  pub pairs : PairsUpTo leader.node last
   pub reported : (q : ReceivedPromise) → Contains t.received q → (v : Vote) → Contains q.votes v → v.position ≤ last
   pub sent : (p : ProposalValue) → Contains t.proposals p → (n : ℕ) → Contains (nodes_of set) n
       → HasSentTo w x n (kinds.Accept (vote_of t p))
@@ -85,13 +91,19 @@ pub record Fills (m : Meaning) (IsText : List ℕ → Type 0) (x : ℕ) (nodes :
   pub accepts : HearsEach m IsText (content.Node x (kinds.Accept v)) nodes old accepted
   pub replies : HearsInTurn m IsText x (acceptances nodes v) accepted new
 
--- Each reply was sent before it is delivered. The leader has executed more, and fills on in the same ballot with the
--- same promises.
+-- that the command of the vote is decided
+abbrev pub decided_by : Vote → DecidedValue
+decided_by v = record { first = v.position; commands = v.command ∷ [] }
+
+-- Each reply was sent before it is delivered. The leader has told each other member what is decided at the position,
+-- has executed more, and fills on in the same ballot with the same promises.
 pub record FillsOnIn (m : Meaning) (IsText : List ℕ → Type 0) (x : ℕ) (leader : ReplicaValue) (t : TermValue)
     (set : List Member) (others : List ℕ) (last : ℕ) (v : Vote) (old new : Scene ReplicaValue)
     (k : Fills m IsText x (x ∷ others) v old new) : Type 0 where
   pub accepts : (n : ℕ) → Contains (x ∷ others) n
       → HasSentTo k.accepted n x (kinds.Accepted v)
+  pub tells : (n : ℕ) → Contains (nodes_of set) n → 1 ≤ n → (n ≡ x → ⊥)
+      → HasSentTo new x n (kinds.Decided (decided_by v))
   pub after : ReplicaValue
   pub term : TermValue
   pub ballot : term.ballot ≡ t.ballot

@@ -26,6 +26,7 @@ use Rattle.lk_world_progress.specs.Delivering.{AreDistinct}
 use Rattle.lk_world_progress.specs.Exchanging.{number_of}
 use Rattle.lk_world_progress.specs.Stepping.{Holds, IsUpAs}
 use Rattle.lk_world_leftovers.specs.Collecting.{HasLeftovers}
+use Rattle.lk_world_leftovers.specs.Filling.{PairsUpTo}
 
 -- ---- members
 
@@ -70,8 +71,8 @@ VotesAreOlder m IsText = (w : Scene ReplicaValue) (n x : ℕ) (r c : ReplicaValu
 
 -- The candidate is up and due to begin a ballot, and is a member of the genesis. Nothing waits at it, and nothing is
 -- left to execute. The others are up, and with it they are a majority of these members. None of them has promised a
--- ballot above its next one, or has executed more. No vote that they all keep, and no pair that it knows, is above the
--- last position, and each position up to the one after that is one of the next 2 alpha of each of the others.
+-- ballot above its next one, or has executed more. No vote that they all keep, and no pair that they know, is above the
+-- last position, and each position up to that is one of the next 2 alpha of each of the others.
 pub record NobodyIsAhead (m : Meaning) (IsText : List ℕ → Type 0) (w : Scene ReplicaValue) (candidate : ReplicaValue)
     (others : List ReplicaValue) (last : ℕ) : Type 0 where
   pub holds : Holds m IsText w
@@ -82,14 +83,14 @@ pub record NobodyIsAhead (m : Meaning) (IsText : List ℕ → Type 0) (w : Scene
   pub idle : candidate.node.leader.waiting ≡ []
   pub known : NothingToRun candidate.node
   pub near : AreNear candidate.node.acceptor candidate.node.learner
-  pub pairs : (p : Pair) → Contains candidate.node.learner.pairs p → p.0 ≤ last
   pub within : executed candidate.node.learner ≤ last
   pub others_up : (r : ReplicaValue) → Contains others r → IsUpAs w (number_of r) r
   pub others_near : (r : ReplicaValue) → Contains others r → AreNear r.node.acceptor r.node.learner
   pub ballot : (r : ReplicaValue) → Contains others r
       → IsAtMost r.node.acceptor.state.promised (next_ballot candidate.node)
   pub behind : (r : ReplicaValue) → Contains others r → executed r.node.learner ≤ executed candidate.node.learner
-  pub reaches : (r : ReplicaValue) → Contains others r → last < executed r.node.learner + 2 * alpha r.node.learner
+  pub reaches : (r : ReplicaValue) → Contains others r → last ≤ executed r.node.learner + 2 * alpha r.node.learner
+  pub pairs : (r : ReplicaValue) → Contains (candidate ∷ others) r → PairsUpTo r.node last
   pub votes : (r : ReplicaValue) → Contains (candidate ∷ others) r
       → (v : Vote) → Contains r.node.acceptor.state.votes v → v.position ≤ last
   pub distinct : AreDistinct (map number_of (candidate ∷ others))

@@ -1,15 +1,13 @@
--- Others of a candidate's majority that have executed too little: each is fed by a rejection of its own, until the
--- positions of the votes that are left are among its next ones.
-use Rattle.std.specs.Prelude.{◌≡◌, ◌⊎◌, ℕ, suc, ◌+◌, ◌*◌, ◌<◌, ◌≤◌, ◌==◌, if◌then◌else◌, Bool, None, List, []}
-use Rattle.std.specs.Prelude.{◌∷◌, Contains}
+-- Nodes of a candidate's majority that have executed too little, the candidate or others: each is fed the commands that
+-- it lacks, after a rejection.
+use Rattle.std.specs.Prelude.{◌≡◌, ◌⊎◌, ℕ, ◌+◌, ◌<◌, ◌≤◌, Bool, None, List, [], ◌∷◌, Contains}
 use Rattle.lk_types.specs.Limits.{max_commands}
 use Rattle.lk_types.specs.declared.vote.Vote.{Vote}
 use Rattle.lk_messages.specs.declared.message.Content.TheVariants as content
 use Rattle.lk_messages.specs.declared.message.Nack.{Nack}
 use Rattle.lk_messages.specs.declared.message.NodeMessage.TheVariants as kinds
-use Rattle.lk_members.specs.Effects.{Command}
 use Rattle.lk_state.specs.Meanings.{Meaning}
-use Rattle.lk_learner.specs.Learners.{alpha, decided_from, executed}
+use Rattle.lk_learner.specs.Learners.{decided_from, executed, wanted}
 use Rattle.lk_node.specs.Nearness.{AreNear}
 use Rattle.lk_node.specs.NodeValue.{NodeValue}
 use Rattle.lk_replica.specs.ReplicaValue.{ReplicaValue}
@@ -18,29 +16,27 @@ use Rattle.lk_sim.specs.declared.event.Event.TheVariants as event
 use Rattle.lk_world_progress.specs.Balloting.{HasSentTo}
 use Rattle.lk_world_progress.specs.Delivering.{AreDistinct, Delivers, Hears}
 use Rattle.lk_world_progress.specs.Stepping.{GoesWell, Holds, IsUpAs}
+use Rattle.lk_world_leftovers.specs.Filling.{PairsUpTo}
 use Rattle.lk_world_leftovers.specs.Persisting.{Contends, VotesUpTo}
 
 -- ---- who takes part
 
--- the node does not know the command of the position after e
-abbrev pub LacksNext : NodeValue → ℕ → Type 0
-LacksNext node e = (v : Command) → Contains node.learner.pairs (e + 1, v) → ⊥
-
--- the node is up, has executed at most e positions, and keeps no vote above the last one; if it is one of those that
--- are fed, it does not know the command of the position after e
-pub record MayLag (w : Scene ReplicaValue) (e last : ℕ) (fed : List ℕ) (n : ℕ) : Type 0 where
+-- the node is up, has executed no position above the last one, and keeps no vote, and knows no pair, above that
+pub record MayLag (w : Scene ReplicaValue) (last : ℕ) (n : ℕ) : Type 0 where
   pub replica : ReplicaValue
   pub up : IsUpAs w n replica
   pub near : AreNear replica.node.acceptor replica.node.learner
-  pub behind : executed replica.node.learner ≤ e
-  pub lacks : Contains fed n → LacksNext replica.node e
+  pub within : executed replica.node.learner ≤ last
+  pub pairs : PairsUpTo replica.node last
   pub votes : VotesUpTo replica.node last
 
--- The candidate is as one that contends and has executed e positions. Each of the others may lag, however far.
+-- The candidate is as one that contends and has executed e positions. Each of the others may lag behind it, or be ahead
+-- of it, however far.
 pub record MayContend (m : Meaning) (IsText : List ℕ → Type 0) (w : Scene ReplicaValue) (x e : ℕ) (others : List ℕ)
-    (last : ℕ) (fed : List ℕ) : Type 0 where
+    (last : ℕ) : Type 0 where
   pub candidate : Contends m IsText w x e e [] last
-  pub others_lag : (n : ℕ) → Contains others n → MayLag w e last fed n
+  pub within : e ≤ last
+  pub others_lag : (n : ℕ) → Contains others n → MayLag w last n
   pub distinct : AreDistinct (x ∷ others)
 
 -- ---- what may happen in between
@@ -64,11 +60,11 @@ pub record AllLast (m : Meaning) (IsText : List ℕ → Type 0) (x : ℕ) (other
 
 -- so it is after a nudge of one of the others, by which this one tells the rest what it has executed
 abbrev pub NudgedVoterLasts : Meaning → (List ℕ → Type 0) → Type 0
-NudgedVoterLasts m IsText = (x e n : ℕ) (others : List ℕ) (last : ℕ) (fed : List ℕ) (withheld : Bool)
-    (old new : Scene ReplicaValue) → MayContend m IsText old x e others last fed → Contains others n
+NudgedVoterLasts m IsText = (x e n : ℕ) (others : List ℕ) (last : ℕ) (withheld : Bool) (old new : Scene ReplicaValue)
+    → MayContend m IsText old x e others last → Contains others n
     → GoesWell m IsText old (event.Nudge n withheld) new → AllLast m IsText x others old new
 
--- ---- one that is fed
+-- ---- another node is fed
 
 -- The candidate takes a rejection of this node, which tells what it has executed, and the node takes the commands that
 -- the candidate sends for that. The candidate has executed more, keeps the commands after that, and has no rebase due.
@@ -86,50 +82,68 @@ pub record Feeds (m : Meaning) (IsText : List ℕ → Type 0) (x n : ℕ) (old n
   pub takes : Hears m IsText n
       (content.Node x (kinds.Decided (decided_from (nack.executed + 1) candidate.node.learner))) told new
 
--- The commands were sent before they are delivered. The node has executed 16 of them, or as much as the candidate, and
--- all of them may contend as before. Nobody else has changed.
-pub record IsFedIn (m : Meaning) (IsText : List ℕ → Type 0) (x e n : ℕ) (others : List ℕ) (last : ℕ) (fed : List ℕ)
+-- the second replica has executed more than the first one: 16 commands, or as much as the one that has fed it
+abbrev pub Gains : ReplicaValue → ReplicaValue → ReplicaValue → Type 0
+Gains feeder old new = (executed old.node.learner < executed new.node.learner)
+    × ((executed feeder.node.learner ≤ executed new.node.learner)
+    ⊎ (executed old.node.learner + max_commands ≤ executed new.node.learner))
+
+-- The commands were sent before they are delivered. The node has gained by them, and all of them may contend as before.
+-- Nobody else has changed what it has executed.
+pub record IsFedIn (m : Meaning) (IsText : List ℕ → Type 0) (x e n : ℕ) (others : List ℕ) (last : ℕ)
     (old new : Scene ReplicaValue) (k : Feeds m IsText x n old new) : Type 0 where
   pub sends : HasSentTo k.told x n
       (kinds.Decided (decided_from (k.nack.executed + 1) k.candidate.node.learner))
-  pub may : MayContend m IsText new x e others last fed
+  pub may : MayContend m IsText new x e others last
   pub after : ReplicaValue
   pub is : IsUpAs new n after
-  pub window : alpha after.node.learner ≡ alpha k.voter.node.learner
-  pub gains : (e ≤ executed after.node.learner)
-      ⊎ (executed k.voter.node.learner + max_commands ≤ executed after.node.learner)
+  pub gains : Gains k.candidate k.voter after
   pub rest : (j : ℕ) (r : ReplicaValue) → (j ≡ x → ⊥) → (j ≡ n → ⊥) → IsUpAs old j r → IsUpAs new j r
 
 abbrev pub LaggingVoterIsFed : Meaning → (List ℕ → Type 0) → Type 0
-LaggingVoterIsFed m IsText = (x e n : ℕ) (others : List ℕ) (last : ℕ) (fed : List ℕ) (old new : Scene ReplicaValue)
-    → MayContend m IsText old x e others last fed → Contains others n → Contains fed n
-    → (k : Feeds m IsText x n old new) → IsFedIn m IsText x e n others last fed old new k
+LaggingVoterIsFed m IsText = (x e n : ℕ) (others : List ℕ) (last : ℕ) (old new : Scene ReplicaValue)
+    → MayContend m IsText old x e others last → Contains others n → (k : Feeds m IsText x n old new)
+    → IsFedIn m IsText x e n others last old new k
 
--- ---- one after another
+-- ---- the candidate is fed
 
--- each of these is fed, in this order. Before that anything may happen, if the candidate and the others last
-abbrev pub FeedsInTurn : Meaning → (List ℕ → Type 0) → ℕ → List ℕ → List ℕ → Scene ReplicaValue
-    → Scene ReplicaValue → Type 0
-FeedsInTurn m IsText x others [] old new = new ≡ old
-FeedsInTurn m IsText x others (n ∷ ns) old new =
-    (ready : Scene ReplicaValue) × (mid : Scene ReplicaValue) × AllLast m IsText x others old ready
-    × Feeds m IsText x n ready mid × FeedsInTurn m IsText x others ns mid new
+-- The candidate takes a rejection of this node, which tells that it has executed more, and asks for the rest. The node
+-- takes that, and the candidate takes the commands that the node then sends. The node keeps the commands after those
+-- that the candidate has executed, and has no rebase due.
+pub record IsFedBy (m : Meaning) (IsText : List ℕ → Type 0) (x n : ℕ) (old new : Scene ReplicaValue) : Type 0 where
+  pub candidate : ReplicaValue
+  pub up : IsUpAs old x candidate
+  pub voter : ReplicaValue
+  pub voter_up : IsUpAs old n voter
+  pub kept : voter.node.learner.snapshot_position ≤ executed candidate.node.learner
+  pub less : executed candidate.node.learner < executed voter.node.learner
+  pub nack : Nack
+  pub tells : executed candidate.node.learner < nack.executed
+  pub told : Scene ReplicaValue
+  pub hears : Hears m IsText x (content.Node n (kinds.Nack nack)) old told
+  pub asking : ReplicaValue
+  pub asks : IsUpAs told x asking
+  pub served : Scene ReplicaValue
+  pub serves : Delivers m IsText n (content.Node x (kinds.Want (wanted asking.node.learner))) told served
+  pub takes : Hears m IsText x
+      (content.Node n (kinds.Decided (decided_from (executed candidate.node.learner + 1) voter.node.learner)))
+      served new
 
--- how often the list names the node
-abbrev pub times : ℕ → List ℕ → ℕ
-times n [] = 0
-times n (k ∷ ks) = if k == n then suc (times n ks) else times n ks
+-- What it asks and the commands were sent before they are delivered. The candidate has gained by them, and all of them
+-- may contend as before. Nobody else has changed what it has executed.
+pub record IsFedByIn (m : Meaning) (IsText : List ℕ → Type 0) (x n : ℕ) (others : List ℕ) (last : ℕ)
+    (old new : Scene ReplicaValue) (k : IsFedBy m IsText x n old new) : Type 0 where
+  pub asks : HasSentTo k.told x n (kinds.Want (wanted k.asking.node.learner))
+  pub sends : HasSentTo k.served n x
+      (kinds.Decided (decided_from (executed k.candidate.node.learner + 1) k.voter.node.learner))
+  pub after : ReplicaValue
+  pub is : IsUpAs new x after
+  pub gains : Gains k.voter k.candidate after
+  pub may : MayContend m IsText new x (executed after.node.learner) others last
+  pub rest : (j : ℕ) (r : ReplicaValue) → Contains others j → IsUpAs old j r
+      → (q : ReplicaValue) × IsUpAs new j q × Lasts r.node q.node
 
--- Each position up to the one after the last is one of the node's next 2 alpha, or of the candidate's, which has
--- executed e positions, and the node is fed once for each 16 commands that it lacks.
-abbrev pub IsFedEnough : Scene ReplicaValue → ℕ → ℕ → List ℕ → ℕ → Type 0
-IsFedEnough w e last fed n = (r : ReplicaValue) → IsUpAs w n r
-    → (last < executed r.node.learner + 2 * alpha r.node.learner)
-    ⊎ ((last < e + 2 * alpha r.node.learner) × (e ≤ executed r.node.learner + times n fed * max_commands))
-
--- if each of the others is fed enough, they contend
-abbrev pub FedVotersContend : Meaning → (List ℕ → Type 0) → Type 0
-FedVotersContend m IsText = (x e : ℕ) (others : List ℕ) (last : ℕ) (fed : List ℕ) (old new : Scene ReplicaValue)
-    → MayContend m IsText old x e others last fed → ((n : ℕ) → Contains fed n → Contains others n)
-    → FeedsInTurn m IsText x others fed old new → ((n : ℕ) → Contains others n → IsFedEnough old e last fed n)
-    → Contends m IsText new x e e others last
+abbrev pub LaggingCandidateIsFed : Meaning → (List ℕ → Type 0) → Type 0
+LaggingCandidateIsFed m IsText = (x e n : ℕ) (others : List ℕ) (last : ℕ) (old new : Scene ReplicaValue)
+    → MayContend m IsText old x e others last → Contains others n → (k : IsFedBy m IsText x n old new)
+    → IsFedByIn m IsText x n others last old new k

@@ -5,5 +5,7 @@ pub mod Exchanging
 pub mod Fixed
 pub mod Persisting
 pub mod Lagging
+pub mod Snapshots
+pub mod Leveling
 pub mod Restarted
 pub mod Interrupted

@@ -10,7 +10,7 @@ use Rattle.lk_messages.specs.declared.message.NodeMessage.TheVariants as kinds
 use Rattle.lk_members.specs.Majorities.{IsMajority}
 use Rattle.lk_members.specs.Rosters.{is_member}
 use Rattle.lk_state.specs.Meanings.{Meaning}
-use Rattle.lk_learner.specs.Learners.{Pair, executed, alpha}
+use Rattle.lk_learner.specs.Learners.{executed, alpha}
 use Rattle.lk_node.specs.Beginning.{next_ballot}
 use Rattle.lk_node.specs.Executing.{NothingToRun}
 use Rattle.lk_node.specs.Nearness.{AreNear}
@@ -25,6 +25,7 @@ use Rattle.lk_world_progress.specs.Exchanging.{number_of}
 use Rattle.lk_world_progress.specs.Overtaking.{IsRejected, IsRival}
 use Rattle.lk_world_progress.specs.Stepping.{GoesWell, Holds, IsUpAs}
 use Rattle.lk_world_leftovers.specs.Exchanging.{Exchanges, LeftoversAnswer}
+use Rattle.lk_world_leftovers.specs.Filling.{PairsUpTo}
 use Rattle.lk_world_leftovers.specs.Fixed.{IsFresh, NobodyChanges}
 
 -- ---- who takes part
@@ -33,14 +34,15 @@ use Rattle.lk_world_leftovers.specs.Fixed.{IsFresh, NobodyChanges}
 abbrev pub VotesUpTo : NodeValue → ℕ → Type 0
 VotesUpTo node last = (v : Vote) → Contains node.acceptor.state.votes v → v.position ≤ last
 
--- the node is up, has executed at most d positions, and keeps no vote above the last one. Each position up to the one
--- after that is one of its next 2 alpha
+-- the node is up, has executed at most d positions, and keeps no vote, and knows no pair, above the last one. Each
+-- position up to that is one of its next 2 alpha
 pub record MayVote (w : Scene ReplicaValue) (d last : ℕ) (n : ℕ) : Type 0 where
   pub replica : ReplicaValue
   pub up : IsUpAs w n replica
   pub near : AreNear replica.node.acceptor replica.node.learner
   pub behind : executed replica.node.learner ≤ d
-  pub reaches : last < executed replica.node.learner + 2 * alpha replica.node.learner
+  pub reaches : last ≤ executed replica.node.learner + 2 * alpha replica.node.learner
+  pub pairs : PairsUpTo replica.node last
   pub votes : VotesUpTo replica.node last
 
 -- The candidate is up, and has executed e positions. It has no term, nothing waits, and nothing is left to execute. It
@@ -56,7 +58,7 @@ pub record Contends (m : Meaning) (IsText : List ℕ → Type 0) (w : Scene Repl
   pub waiting : candidate.node.leader.waiting ≡ []
   pub known : NothingToRun candidate.node
   pub near : AreNear candidate.node.acceptor candidate.node.learner
-  pub pairs : (p : Pair) → Contains candidate.node.learner.pairs p → p.0 ≤ last
+  pub pairs : PairsUpTo candidate.node last
   pub votes : VotesUpTo candidate.node last
   pub others_may : (n : ℕ) → Contains others n → MayVote w d last n
   pub distinct : AreDistinct (x ∷ others)
@@ -70,13 +72,13 @@ NewWorldsContend m IsText = (w : Scene ReplicaValue) (candidate : ReplicaValue) 
 -- ---- a candidate that is behind
 
 -- A node that contends, and takes decided commands of positions up to the last one, contends on, and has executed no
--- less. How much more it has executed is in the laws of feeding.
+-- less, and nothing above the last one. How much more it has executed is in the laws of feeding.
 abbrev pub FedCandidateContends : Meaning → (List ℕ → Type 0) → Type 0
 FedCandidateContends m IsText = (x e d : ℕ) (others : List ℕ) (last from : ℕ) (told : DecidedValue)
     (old new : Scene ReplicaValue) → Contends m IsText old x e d others last
     → e ≤ last → told.first + length told.commands ≤ last + 1
     → Hears m IsText x (content.Node from (kinds.Decided told)) old new
-    → (f : ℕ) × (e ≤ f) × Contends m IsText new x f d others last
+    → (f : ℕ) × (e ≤ f) × (f ≤ last) × Contends m IsText new x f d others last
 
 -- ---- rejections
 
@@ -166,4 +168,4 @@ abbrev pub PersistingCandidateAnswers : Meaning → (List ℕ → Type 0) → Ty
 PersistingCandidateAnswers m IsText = (x e d : ℕ) (others : List ℕ) (highest : ℕ) (r : RequestValue)
     (first last : Scene ReplicaValue) → Contends m IsText first x e d others highest → d ≤ e → e ≤ highest
     → highest < max_count → (k : Persists m IsText x others r first last) → AreFixed k.ready x others
-    → IsFresh k.exchanges.filled r → HasAnsweredInTime m IsText x e others highest r first last k
+    → IsFresh k.exchanges.ready r → HasAnsweredInTime m IsText x e others highest r first last k

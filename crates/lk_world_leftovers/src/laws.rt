@@ -2,15 +2,19 @@
 //! but call the laws on which it rests.
 ghost use Rattle.lk_world_leftovers.specs.Answering.{ReadyLeaderAnswers};
 ghost use Rattle.lk_world_leftovers.specs.Collecting.{CandidateFillsIn};
-ghost use Rattle.lk_world_leftovers.specs.Exchanging.{LeftoversAreFilled, WorldWithLeftoversAnswers};
+ghost use Rattle.lk_world_leftovers.specs.Exchanging.{LeftoversAreFilled, VotersCatchUp, WorldWithLeftoversAnswers};
 ghost use Rattle.lk_world_leftovers.specs.Fixed.{FixedWorldHasLeftovers, FreshRequestsAreNew, NodesKnowMembers};
 ghost use Rattle.lk_world_leftovers.specs.Fixed.{VotesAreOlder};
 ghost use Rattle.lk_world_leftovers.specs.Filling.{FillingLeaderOffers, PositionIsFilled};
 ghost use Rattle.lk_world_leftovers.specs.Interrupted.{InterruptedWorldsContend};
-ghost use Rattle.lk_world_leftovers.specs.Lagging.{FedVotersContend, LaggingVoterIsFed, NudgedVoterLasts};
+ghost use Rattle.lk_world_leftovers.specs.Lagging.{LaggingCandidateIsFed, LaggingVoterIsFed, NudgedVoterLasts};
+ghost use Rattle.lk_world_leftovers.specs.Leveling.{ExchangesFeedAll, LevelNodesContend, NewWorldsAreLevel};
+ghost use Rattle.lk_world_leftovers.specs.Leveling.{UnlevelNodesCanBeFed};
 ghost use Rattle.lk_world_leftovers.specs.Persisting.{FedCandidateContends, NewWorldsContend};
 ghost use Rattle.lk_world_leftovers.specs.Persisting.{PersistingCandidateAnswers, RejectionsAreFew};
-ghost use Rattle.lk_world_leftovers.specs.Restarted.{RestartedMajorityAnswers, RestartedNodesMayContend};
+ghost use Rattle.lk_world_leftovers.specs.Restarted.{RestartedMajorityAnswers, RestartedNodesAreOpen};
+ghost use Rattle.lk_world_leftovers.specs.Restarted.{RestartedNodesEnd, RestartedNodesMayContend};
+ghost use Rattle.lk_world_leftovers.specs.Snapshots.{PartsAreTaken};
 
 use lk_leftovers::laws::{
     a_filled_leader_is_ready, a_leader_accepts_its_own, a_leader_fills_on,
@@ -22,7 +26,10 @@ use lk_progress::laws::{
     new_clusters_are_quiet,
 };
 use lk_state::Machine;
-use lk_world_feeding::laws::a_rejection_feeds_its_sender;
+use lk_world_feeding::laws::{
+    a_node_can_be_fed, a_rejection_feeds_its_sender, an_exchange_feeds_a_node,
+    an_exchange_sends_parts, sent_commands_are_executed,
+};
 use lk_world_progress::laws::{
     a_delivered_rejection_raises, a_rejected_candidate_has_fewer_rivals, restarts_are_fresh,
 };
@@ -66,6 +73,14 @@ pub fn leftovers_are_filled<M: Machine>()
     a_position_is_filled::<M>();
 }
 
+/// A voter whose next 2 alpha positions end where the leader has executed takes decided commands, and the leader fills
+/// up as before. Each voter does so once at most.
+pub fn voters_catch_up<M: Machine>()
+    ensures { VotersCatchUp M.meaning M.IsText }
+{
+    sent_commands_are_executed::<M>();
+}
+
 // ---- an answer
 
 /// A leader that is ready answers a fresh request within four deliveries: the request, the Accept, the Accepted and the
@@ -79,12 +94,13 @@ pub fn a_ready_leader_answers<M: Machine>()
 }
 
 /// A world in which votes of earlier ballots are left answers a fresh request after one exchange: the candidate's tick,
-/// the promises of a majority, one position after another, and the request.
+/// the promises of a majority, one position after another, what voters lack to take one more, and the request.
 pub fn a_world_with_leftovers_answers<M: Machine>()
     ensures { WorldWithLeftoversAnswers M.meaning M.IsText }
 {
     a_candidate_fills_in_a_world::<M>();
     leftovers_are_filled::<M>();
+    voters_catch_up::<M>();
     a_filled_leader_is_ready();
     a_ready_leader_answers::<M>();
 }
@@ -155,14 +171,29 @@ pub fn interrupted_worlds_contend<M: Machine>()
     a_voter_accepts_and_stays::<M>();
 }
 
-// ---- voters that lag, and restarts
+// ---- nodes that lag, and restarts
 
-/// A voter that has executed too little, and whose rejection the candidate takes, executes 16 commands more, or as much
-/// as the candidate, and may contend with it as before.
+/// Another node that has executed less than the candidate, and whose rejection the candidate takes, executes 16
+/// commands more, or as much as the candidate, and may contend with it as before.
 pub fn a_lagging_voter_is_fed<M: Machine>()
     ensures { LaggingVoterIsFed M.meaning M.IsText }
 {
     a_rejection_feeds_its_sender::<M>();
+}
+
+/// So does a candidate that has executed less than another node, and takes that one's rejection: it asks, and is fed.
+pub fn a_lagging_candidate_is_fed<M: Machine>()
+    ensures { LaggingCandidateIsFed M.meaning M.IsText }
+{
+    an_exchange_feeds_a_node::<M>();
+    a_fed_candidate_contends::<M>();
+}
+
+/// Where one keeps a snapshot in place of what the other lacks, that one takes parts of it instead.
+pub fn parts_are_taken<M: Machine>()
+    ensures { PartsAreTaken M.meaning M.IsText }
+{
+    an_exchange_sends_parts::<M>();
 }
 
 /// A nudge of one of the others, which tells the rest what it has executed, leaves all of them as they were.
@@ -170,26 +201,58 @@ pub fn a_nudged_voter_lasts<M: Machine>()
     ensures { NudgedVoterLasts M.meaning M.IsText }
 {}
 
-/// Once each of the others is fed, as often as it needs, the candidate and the others meet the premises above.
-pub fn fed_voters_contend<M: Machine>()
-    ensures { FedVotersContend M.meaning M.IsText }
+/// Exchanges in which the candidate feeds others, and is fed by others, leave all of them able to contend. None is fed
+/// commands more often than there are positions that it lacks, and once for each 16 commands is enough.
+pub fn exchanges_feed_all<M: Machine>()
+    ensures { ExchangesFeedAll M.meaning M.IsText }
 {
     a_lagging_voter_is_fed::<M>();
+    a_lagging_candidate_is_fed::<M>();
+    parts_are_taken::<M>();
 }
 
-/// Nodes that have restarted, whatever they did before, may contend if nobody of them has executed more than the
-/// candidate, and no vote is above the last position.
+/// Once nobody is ahead of the candidate, and the votes are near each of the others, they meet the premises above.
+pub fn level_nodes_contend<M: Machine>()
+    ensures { LevelNodesContend M.meaning M.IsText }
+{}
+
+/// While they are not level, the candidate can be fed by another one, or another one by the candidate.
+pub fn unlevel_nodes_can_be_fed<M: Machine>()
+    ensures { UnlevelNodesCanBeFed M.meaning M.IsText }
+{
+    a_node_can_be_fed::<M>();
+}
+
+/// The nodes of a new cluster are level.
+pub fn new_worlds_are_level<M: Machine>()
+    ensures { NewWorldsAreLevel M.meaning M.IsText }
+{
+    new_worlds_contend::<M>();
+}
+
+/// Nodes that have restarted keep no vote, and know no decided command, more than 2 alpha above what the one that has
+/// executed most has executed.
+pub fn restarted_nodes_end<M: Machine>()
+    ensures { RestartedNodesEnd M.meaning M.IsText }
+{}
+
+/// They have gathered nothing of a snapshot, so each can be sent the snapshot of another one.
+pub fn restarted_nodes_are_open<M: Machine>()
+    ensures { RestartedNodesAreOpen M.meaning M.IsText }
+{}
+
+/// Nodes that have restarted, whatever they did before, may contend.
 pub fn restarted_nodes_may_contend<M: Machine>()
     ensures { RestartedNodesMayContend M.meaning M.IsText }
 {}
 
-/// A majority that restarts answers: whatever its nodes did before and have promised, if nobody of them has executed
-/// more than the candidate, and those that lag are fed.
+/// A majority that restarts answers, whatever its nodes did before and have promised, once those that lag are fed.
 pub fn a_restarted_majority_answers<M: Machine>()
     ensures { RestartedMajorityAnswers M.meaning M.IsText }
 {
     restarts_are_fresh::<M>();
     restarted_nodes_may_contend::<M>();
-    fed_voters_contend::<M>();
+    exchanges_feed_all::<M>();
+    level_nodes_contend::<M>();
     a_persisting_candidate_answers::<M>();
 }

@@ -18,7 +18,7 @@ use Rattle.lk_state.specs.Meanings.{Meaning}
 use Rattle.lk_state.specs.Runs.{ran}
 use Rattle.lk_state.specs.States.{WholeValue}
 use Rattle.lk_learner.proofs.Learnerships.{ran_moves}
-use Rattle.lk_learner.specs.Learners.{Command, Pair}
+use Rattle.lk_learner.specs.Learners.{Command, Pair, alpha, executed}
 use Rattle.lk_node.specs.Executing.{NothingToRun}
 use Rattle.lk_node.specs.Leavings.{header_of}
 use Rattle.lk_node.specs.Nearness.{AreNear}
@@ -61,6 +61,31 @@ near_revived m IsText whose s node k some sets position votes =
       snapshot = omega (arith, moves.0, position);
       votes = λ v c. omega (arith, votes v c, moves.0, moves.1, sets, position, length_is);
     })
+  where
+    moves : ((all_ran m (run_from k.0.roster.executed s.pairs) k.0).roster.executed
+        ≡ k.0.roster.executed + length (run_from k.0.roster.executed s.pairs))
+        × (length (all_ran m (run_from k.0.roster.executed s.pairs) k.0).roster.sets ≡ length k.0.roster.sets)
+    moves = all_moves m (run_from k.0.roster.executed s.pairs) k.0 (omega (arith, sets, some))
+
+    length_is : length (run_from k.0.roster.executed s.pairs) ≡ length (run_from s.position s.pairs)
+    length_is = ap (λ (e : ℕ). length (run_from e s.pairs)) position
+
+dropped : (k : ℕ) (ps : List Pair) (p : Pair) → Contains (drop k ps) p → Contains ps p
+dropped zero ps p c = c
+dropped (suc k) [] p c = c
+dropped (suc k) (q ∷ ps) p c = contains_more q ps p (dropped k ps p c)
+
+-- its pairs are near too
+near_pairs : (m : Meaning) (whose : HeaderValue) (s : StandingValue) (node : NodeValue)
+    (k : (w : WholeValue) × (node ≡ revived m whose s w)) → 1 ≤ whose.alpha → length k.0.roster.sets ≡ whose.alpha
+    → k.0.roster.executed ≡ s.position
+    → ((p : Pair) → Contains s.pairs p → p.0 ≤ reached s.position s.pairs + 2 * whose.alpha)
+    → (p : Pair) → Contains node.learner.pairs p → p.0 ≤ executed node.learner + 2 * alpha node.learner
+near_pairs m whose s node k some sets position pairs = subst
+    (λ (n : NodeValue). (p : Pair) → Contains n.learner.pairs p → p.0 ≤ executed n.learner + 2 * alpha n.learner)
+    (sym k.1) (λ p c.
+    let near = pairs p (dropped (length (run_from k.0.roster.executed s.pairs)) s.pairs p c) in
+    omega (arith, near, moves.0, moves.1, sets, position, length_is))
   where
     moves : ((all_ran m (run_from k.0.roster.executed s.pairs) k.0).roster.executed
         ≡ k.0.roster.executed + length (run_from k.0.roster.executed s.pairs))
@@ -178,6 +203,8 @@ module _ (m : Meaning) (IsText : List ℕ → Type 0) where
       gathered = ap (λ (node : NodeValue). node.learner.gathered) s.node_is;
       near = near_revived m IsText whose restores.standing v.node (s.whole, s.node_is) some s.may.unpacks.sets
           s.may.unpacks.executed s.may.votes;
+      pairs = near_pairs m whose restores.standing v.node (s.whole, s.node_is) some s.may.unpacks.sets
+          s.may.unpacks.executed s.may.pairs;
       runs = runs_revived m IsText whose restores.standing v.node (s.whole, s.node_is)
           (omega (arith, s.may.unpacks.sets, some)) s.may.unpacks.executed restores.opens.stands.pairs_rise;
     }
@@ -190,6 +217,7 @@ module _ (m : Meaning) (IsText : List ℕ → Type 0) where
       known = i.known;
       gathered = i.gathered;
       near = near_snapshot v.node i.near;
+      pairs = i.pairs;
       runs = i.runs;
     }
 

@@ -1,11 +1,12 @@
 -- Nodes of a world restart, one after another: each is then as its disks tell, and has no term.
-use Rattle.std.specs.Prelude.{◌≡◌, ◌⊎◌, ℕ, None, List, [], ◌∷◌, Contains}
+use Rattle.std.specs.Prelude.{◌≡◌, ◌⊎◌, ℕ, ◌+◌, ◌*◌, ◌≤◌, None, List, [], ◌∷◌, Contains}
 use Rattle.lk_memory_disk.specs.Memory.{Memory, disk_of}
 use Rattle.lk_log.specs.StoreValue.{StoreValue}
 use Rattle.lk_state.specs.Meanings.{Meaning}
 use Rattle.lk_leader.specs.Terms.{new_leader}
 use Rattle.lk_node_interface.specs.declared.note.Note.{Note}
 use Rattle.lk_node.specs.Leavings.{header_of}
+use Rattle.lk_learner.specs.Learners.{Pair, alpha, executed}
 use Rattle.lk_node.specs.Executing.{NothingToRun}
 use Rattle.lk_node.specs.Nearness.{AreNear}
 use Rattle.lk_node.specs.NewBases.{with_snapshot}
@@ -22,7 +23,8 @@ use Rattle.lk_world_progress.specs.Stepping.{GoesWell, IsUpAs, Lives}
 -- ---- one node
 
 -- It has no term, nothing waits, no tick has passed, it gathers no snapshot, and it knows no leader and no round of
--- others. Its acceptor and its learner are near, and nothing is left to execute.
+-- others. Its acceptor and its learner are near, no pair that it knows is more than 2 alpha above what it has executed,
+-- and nothing is left to execute.
 pub record IsRestarted (node : NodeValue) : Type 0 where
   pub leader : node.leader ≡ new_leader
   pub ticks : node.ticks ≡ 0
@@ -30,6 +32,7 @@ pub record IsRestarted (node : NodeValue) : Type 0 where
   pub known : node.known ≡ None
   pub gathered : node.learner.gathered ≡ None
   pub near : AreNear node.acceptor node.learner
+  pub pairs : (p : Pair) → Contains node.learner.pairs p → p.0 ≤ executed node.learner + 2 * alpha node.learner
   pub runs : NothingToRun node
 
 -- The node was down, and is up as a restart from its disks leaves it: what it has promised, the votes that it keeps and

@@ -26,28 +26,41 @@ returns-in-Over-clause-sends g c tells =
     (waits_end g.S.DatagramSocket.sent g.S.DatagramSocket.incoming c.args.question.now c.tries.question
     c.tries.counter c.tries.invariant.1 c.tries.self.is_watching c.tries.invariant.0.1 c.args.socket.now
     c.tries.socket (c.tries.invariant.2 tells) c.in-Over.reply
-    c.try_once.new.socket (subst (λ (s : Step). TriesOnce g.S.DatagramSocket.sent g.S.DatagramSocket.incoming c.tries.self.is_watching
-    c.tries.question s c.tries.socket c.try_once.new.socket) c.in-Over.is (c.in_ok-number.ensures.tries tells)))
+    c.try_once.new.socket
+    (subst (λ (s : Step). TriesOnce g.S.DatagramSocket.sent g.S.DatagramSocket.incoming
+    c.tries.self.is_watching c.tries.question s c.tries.socket c.try_once.new.socket)
+    c.in-Over.is (c.in_ok-number.ensures.tries tells)))
 
 pub returns-in-Over-clause-waits : goal.returns-in-Over-clause-waits
 returns-in-Over-clause-waits g c tells =
     waits_end g.S.DatagramSocket.sent g.S.DatagramSocket.incoming c.args.question.now c.tries.question
     c.tries.counter c.tries.invariant.1 c.tries.self.is_watching c.tries.invariant.0.1 c.args.socket.now
     c.tries.socket (c.tries.invariant.2 tells) c.in-Over.reply
-    c.try_once.new.socket (subst (λ (s : Step). TriesOnce g.S.DatagramSocket.sent g.S.DatagramSocket.incoming c.tries.self.is_watching
-    c.tries.question s c.tries.socket c.try_once.new.socket) c.in-Over.is (c.in_ok-number.ensures.tries tells))
+    c.try_once.new.socket
+    (subst (λ (s : Step). TriesOnce g.S.DatagramSocket.sent g.S.DatagramSocket.incoming
+    c.tries.self.is_watching c.tries.question s c.tries.socket c.try_once.new.socket)
+    c.in-Over.is (c.in_ok-number.ensures.tries tells))
 
 pub tries-preserved : goal.tries-preserved
 tries-preserved g c = (
-  ((subst (λ (s : Step). StaysAfter c.tries.question s c.try_once.new.self) c.in-Again.is c.in_ok-number.ensures.stays).1.0, later_more c.tries.counter c.try_once.new.self.is_watching (subst (λ (s : Step). StaysAfter c.tries.question s c.try_once.new.self) c.in-Again.is c.in_ok-number.ensures.stays).1.1),
+  (
+    (subst (λ (s : Step). StaysAfter c.tries.question s c.try_once.new.self) c.in-Again.is
+        c.in_ok-number.ensures.stays).1.0,
+    later_more c.tries.counter c.try_once.new.self.is_watching
+        (subst (λ (s : Step). StaysAfter c.tries.question s c.try_once.new.self) c.in-Again.is
+        c.in_ok-number.ensures.stays).1.1,
+  ),
   number_more c.args.question.now c.tries.question c.tries.counter c.in-Again.number c.tries.invariant.1
-      (subst (λ (s : Step). StaysAfter c.tries.question s c.try_once.new.self) c.in-Again.is c.in_ok-number.ensures.stays).0,
+      (subst (λ (s : Step). StaysAfter c.tries.question s c.try_once.new.self) c.in-Again.is
+      c.in_ok-number.ensures.stays).0,
   λ tells.
       tries_more g.S.DatagramSocket.sent g.S.DatagramSocket.incoming c.args.question.now c.tries.question
       c.tries.counter c.tries.invariant.1 c.tries.self.is_watching c.tries.invariant.0.1 c.args.socket.now
       c.tries.socket (c.tries.invariant.2 tells)
-      c.try_once.new.socket (subst (λ (s : Step). TriesOnce g.S.DatagramSocket.sent g.S.DatagramSocket.incoming c.tries.self.is_watching
-      c.tries.question s c.tries.socket c.try_once.new.socket) c.in-Again.is (c.in_ok-number.ensures.tries tells)),
+      c.try_once.new.socket
+      (subst (λ (s : Step). TriesOnce g.S.DatagramSocket.sent g.S.DatagramSocket.incoming
+      c.tries.self.is_watching c.tries.question s c.tries.socket c.try_once.new.socket)
+      c.in-Again.is (c.in_ok-number.ensures.tries tells)),
 )
 
 pub returns-clause-sends : goal.returns-clause-sends
