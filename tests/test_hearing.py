@@ -4,6 +4,8 @@ address only its own hosts name."""
 import contextlib
 import os
 import re
+import socket
+import struct
 import subprocess
 import tempfile
 import time
@@ -16,6 +18,7 @@ PROGRAM = os.environ.get("LOCKS_PROGRAM")
 MEMBERS = (1, 2, 3)
 NODES = (*MEMBERS, 4)
 SECONDS = 60.0  # for what comes on a busy machine
+PROBE = struct.Struct(">4sQIHQ32s")  # magic, version and kind, the cluster, the node, the client, a token, the digest
 
 
 def address_of(node):
@@ -45,11 +48,11 @@ class HearingTest(unittest.TestCase):
     def at(self, name):
         return os.path.join(self.folder, name)
 
-    def start(self, node, key="key", alpha=8, members=MEMBERS):
+    def start(self, node, key="key", alpha=8, members=MEMBERS):  # without keys if that is None
         genesis = f"5,{alpha}," + ",".join(f"{it}:{self.port}" for it in members)
         os.makedirs(self.at(f"d{node}"), exist_ok=True)
         words = ["--genesis", genesis, "--number", str(node), "--port", str(self.port), "--dir", self.at(f"d{node}")]
-        words += ["--hosts", self.at(f"hosts{node}"), "--key", self.at(key), "--events"]
+        words += ["--hosts", self.at(f"hosts{node}"), *(["--key", self.at(key)] if key else []), "--events"]
         with open(self.at(f"log{node}"), "ab") as log:
             process = subprocess.Popen([PROGRAM, "node", *words], stdin=subprocess.DEVNULL, stderr=log)
         self.processes[node] = process
@@ -94,6 +97,11 @@ class HearingTest(unittest.TestCase):
         leads = [int(it) for it in re.findall(r"(?m)^node (\d+), port \d+: leads", text)]
         return leads[0] if len(leads) == 1 else None
 
+    def silence(self, node):
+        """For how many ticks a node says that it has heard no leader; -1 where it does not say so."""
+        found = re.search(rf"(?m)^node {node}, port \d+: .*?(?:heard|no leader for) (\d+) tick", self.status()[1])
+        return int(found[1]) if found else -1
+
     def ready(self, nodes=MEMBERS):
         status, text = self.status("--until", "ready", "60", nodes=nodes)
         self.assertEqual(status, 0, text)
@@ -117,6 +125,18 @@ class HearingTest(unittest.TestCase):
                    "hears 2 of 3 members, a majority" in self.log(first).split("no majority")[-1])
         self.ready()
         self.assertLess(took, 15.0)  # 3 s where the machine is not busy
+
+    def test_silence_grows_while_ticks_are_withheld(self):
+        for node in MEMBERS:
+            self.start(node)
+        leader = self.ready()
+        deaf, other = (node for node in MEMBERS if node != leader)
+        self.relay.cut = {(node, deaf) for node in (leader, other)}
+        self.comes(lambda: self.silence(deaf) > 40)
+        self.assertLess(self.silence(other), 28)
+        self.assertRegex(self.status()[1], rf"(?m)^node {leader}, port \d+: leads")
+        self.relay.cut = set()
+        self.comes(lambda: 0 <= self.silence(deaf) < 8)
 
     def test_a_node_that_hears_no_majority_tells_that_members_have_changed(self):
         """Nodes 3 and 4 join while they are off, and the leader of 1 and 2 dies: the other one alone knows the members.
@@ -154,6 +174,41 @@ class HearingTest(unittest.TestCase):
         self.end(self.processes[leader])
         self.comes(lambda: self.ask(follower, 3, "ask", "db") == "held 1 1")
 
+    def socket_at(self, address):
+        """A socket that a node might have."""
+        it = self.enterContext(socket.socket(socket.AF_INET, socket.SOCK_DGRAM))
+        it.bind((address, self.port))
+        it.settimeout(SECONDS)
+        return it
+
+    def test_a_newcomer_is_written_to_after_its_first_probe(self):
+        """Node 4 is a socket that probes and says nothing else. No hosts name it."""
+        for node in MEMBERS:
+            self.write(f"hosts{node}", "".join(f"{it} {address_of(it)}\n" for it in MEMBERS))
+            self.start(node, key=None)
+        leader = self.ready()
+        self.comes(lambda: self.ask(leader, 1, "join", "4", str(self.port)) == "joined")
+        newcomer, other = self.socket_at(address_of(4)), self.socket_at("127.0.0.44")
+
+        def send_probe(it, node, digest):
+            probe = PROBE.pack(b"LP\x01\x09", 5, node, 0, 7, digest)
+            it.sendto(probe.ljust(174, b"\0"), (address_of(leader), self.port))
+
+        def told(it):
+            """The next datagram that is no report."""
+            return next(data for data in iter(lambda: it.recv(9000), None) if data[:2] != b"LP")
+
+        send_probe(newcomer, 0, bytes(32))
+        digest = newcomer.recv(9000)[26:58]
+        send_probe(newcomer, 4, digest)
+        self.assertEqual(told(newcomer)[:2], b"LK")
+        send_probe(other, 4, digest)
+        for _ in range(10):  # a second without any load: the leader repeats what it says in each period
+            told(newcomer)
+        other.setblocking(False)
+        with contextlib.suppress(BlockingIOError):
+            self.fail(told(other))
+
     def test_a_node_with_another_key_is_never_ready(self):
         self.start(1)
         self.start(2)
@@ -162,6 +217,7 @@ class HearingTest(unittest.TestCase):
         why = r"why: node 3 hears no majority, and could not read \d+ of what came: compare its key with the others'\n"
         self.comes(lambda: re.search(why, self.status()[1]))
         self.comes(lambda: "hears 1 of 3 members, no majority" in self.log(3))
+        self.comes(lambda: self.silence(3) > 30)
         status, text = self.status("--until", "ready", "3")
         self.assertEqual(status, 1, text)
         self.end(self.processes[2])

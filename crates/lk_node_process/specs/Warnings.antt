@@ -25,7 +25,8 @@ reminded s r bytes = record { server = s; reminder = r; written = bytes }
 -- this status tells what the server's replica shows, and the server's own count of periods
 abbrev pub IsStatusOf : ServerValue ReplicaValue → Status → Type 0
 IsStatusOf s status =
-    (shown : ProbedState) × IsShown s.replica shown × ReportsStatus s.addresses.seals.genesis (periods s) shown status
+    (shown : ProbedState) × IsShown s.replica shown
+    × ReportsStatus s.addresses.seals.genesis (periods s) s.withheld shown status
 
 -- by the server's own status, the line of the node of that number, which listens at that port, is written if a warning
 -- is due, and else nothing is; the next one is due a minute later, also where the line could not be written

@@ -15,13 +15,13 @@ use lk_state::Machine;
 use lk_transport::socket::DatagramSocket;
 use lk_types::{Members, NodeNo};
 
-// A node follows a leader as long as fewer ticks than this have passed since it heard of it.
-const HEARD: u8 = 4;
+// A node follows a leader as long as fewer periods than this have passed since it heard of it.
+const HEARD: u64 = 4;
 
 // Returns the leader that a node follows: another node, of which it has heard lately, while it has no term of its own.
-fn followed_leader<M: Machine>(node: &Node<M>) -> Option<NodeNo> {
+fn followed_leader<M: Machine>(node: &Node<M>, silence: u64) -> Option<NodeNo> {
     let known = node.presumed_leader()?;
-    let is_heard = node.term().is_none() && node.ticks() < HEARD;
+    let is_heard = node.term().is_none() && silence < HEARD;
     (is_heard && known != node.header().node()).then_some(known)
 }
 
@@ -45,7 +45,7 @@ fn observation_of<M: TableMachine, D: LogDisk + Drop, S: DatagramSocket + Drop>(
     let is_member = members.as_slice().iter().any(|member| member.node == own);
     Observation {
         leads: if node.leads() { node.term() } else { None },
-        follows: followed_leader(node),
+        follows: followed_leader(node, server.silence()),
         promised: node.promised(),
         executed: node.executed(),
         snapshot: node.snapshot_position(),

@@ -1,14 +1,22 @@
 -- How a server handles probes and reports, one step after another.
 use Rattle.std.proofs.Common.{◌≡◌, ◌∙◌, ℕ, Option, Some, None, ap, subst, subst₂}
 use Rattle.lk_probe.specs.declared.reported.Reported.{Reported}
-use Rattle.lk_transport.specs.Addresses.{AddressBook, IsSameNetwork}
-use Rattle.lk_transport.specs.Inquiring.{AsksOne, LearnsKept, ReadmitsKept}
+use Rattle.lk_transport.specs.Addresses.{AddressBook, Filter, IsSameFilter, IsSameNetwork}
+use Rattle.lk_transport.specs.Inquiring.{AsksOne, LearnsKept}
 use Rattle.lk_transport.specs.Posts.{SendState}
 use Rattle.lk_transport.specs.declared.received_probe.ReceivedProbe.{ReceivedProbe}
-use Rattle.lk_server.specs.ProbeHandling.{HandlesProbes, ListensFor, ListensIf}
+use Rattle.lk_server.specs.ProbeHandling.{HandlesProbes, ListensFor, ListensIf, Welcomes}
 use Rattle.lk_server.specs.Probes.{RepliesToKept}
 use Rattle.lk_server.specs.Servers.{ServerValue, periods, send_state_at}
 use Rattle.lk_server_replica.specs.declared.probed_state.ProbedState.{ProbedState}
+
+-- where nodes live, the keys and the admins are the same where the filter is
+pub same_place : (old mid new : AddressBook) → IsSameNetwork old mid → IsSameFilter mid new → IsSameNetwork old new
+same_place old mid new one two = (
+  two.0 ∙ one.0,
+  ap (λ (f : Filter). f.seals) two.1 ∙ one.1,
+  ap (λ (f : Filter). f.admins) two.1 ∙ one.2,
+)
 
 -- an answer leaves what is to come
 answer_still : {R : Type 0} (Shows : R → ProbedState → Type 0) (observable : Type 0) (asked : Option ReceivedProbe)
@@ -25,7 +33,7 @@ module _ {R : Type 0} (Shows : R → ProbedState → Type 0) (observable : Type 
         socket_failures = replied.socket_failures;
         incoming = replied.incoming;
       }
-      → ReadmitsKept asked replied.addresses readmitted.addresses
+      → Welcomes Shows asked replied.replica replied.node replied.addresses readmitted.addresses
       → IsSameNetwork replied.addresses readmitted.addresses
       → readmitted ≡ record replied { addresses = readmitted.addresses }
       → LearnsKept readmitted.node reported readmitted.addresses learned.addresses
@@ -91,7 +99,8 @@ module _ {R : Type 0} (Shows : R → ProbedState → Type 0) (observable : Type 
         replied = replied;
         replies = replies;
         readmitted = readmitted.addresses;
-        readmits = subst (λ (b : AddressBook). ReadmitsKept asked b readmitted.addresses) book readmits;
+        readmits = subst (λ (s : ServerValue R). Welcomes Shows asked s.replica s.node s.addresses
+            readmitted.addresses) answered_so readmits;
         learned = learned.addresses;
         learns = subst (λ (n : ℕ). LearnsKept n reported readmitted.addresses learned.addresses) before learns;
         questioned = questioned.addresses;

@@ -1,8 +1,9 @@
 -- How a server handles probes and reports, after the letters of a turn.
-use Rattle.std.specs.Prelude.{◌≡◌, Option}
+use Rattle.std.specs.Prelude.{◌≡◌, ℕ, Option, Some, None}
 use Rattle.lk_probe.specs.declared.reported.Reported.{Reported}
 use Rattle.lk_transport.specs.Addresses.{AddressBook, IsSameNetwork}
 use Rattle.lk_transport.specs.Inquiring.{AsksOne, LearnsKept, ReadmitsKept}
+use Rattle.lk_transport.specs.Probers.{RecordsKeptProber}
 use Rattle.lk_transport.specs.declared.received_probe.ReceivedProbe.{ReceivedProbe}
 use Rattle.lk_server.specs.Probes.{RepliesToKept}
 use Rattle.lk_server.specs.Servers.{ServerValue, periods, send_state_at}
@@ -29,6 +30,20 @@ ListensIf Shows observable reported old new =
     ListensFor Shows observable reported old old.addresses new.addresses (send_state_at old.loopback old)
     (send_state_at new.loopback new) old.pace
 
+-- the address of a probe is recorded if it names one of the members after all joins and leaves that the replica has
+-- executed
+abbrev pub RecordsMember : {R : Type 0} (Shows : R → ProbedState → Type 0) → ReceivedProbe → R → ℕ
+    → AddressBook → AddressBook → Type 0
+RecordsMember Shows a replica own old new =
+    (shown : ProbedState) × Shows replica shown × RecordsKeptProber own shown.newest (Some a) old new
+
+-- a node of the same genesis that asks by the probe that was kept is heard again, and so recorded
+abbrev pub Welcomes : {R : Type 0} (Shows : R → ProbedState → Type 0) → Option ReceivedProbe → R → ℕ
+    → AddressBook → AddressBook → Type 0
+Welcomes Shows None replica own old new = new ≡ old
+Welcomes Shows (Some a) replica own old new =
+    (readmitted : AddressBook) × ReadmitsKept (Some a) old readmitted × RecordsMember Shows a replica own readmitted new
+
 -- the probe that was kept is answered, and a node of the same genesis that asks by it is heard again; what the report
 -- tells that was kept is learned; then one question is sent where one is due in this period; and last it listens.
 -- Nothing else is sent, and nothing else changes; nor does what is to come, if the socket tells that. `Shows` is what a
@@ -38,7 +53,7 @@ pub record HandlesProbes {R : Type 0} (Shows : R → ProbedState → Type 0) (ob
   pub replied : ServerValue R
   pub replies : RepliesToKept Shows observable asked old replied
   pub readmitted : AddressBook
-  pub readmits : ReadmitsKept asked old.addresses readmitted
+  pub readmits : Welcomes Shows asked old.replica old.node old.addresses readmitted
   pub learned : AddressBook
   pub learns : LearnsKept old.node reported readmitted learned
   pub questioned : AddressBook

@@ -1,11 +1,12 @@
 -- The report of a node, and how a server answers a probe with it.
-use Rattle.std.specs.Prelude.{◌≡◌, ℕ, Bool, List, Option, Some, None, if◌then◌else◌, length}
+use Rattle.std.specs.Prelude.{◌≡◌, ◌≤◌, ◌+◌, ℕ, Bool, List, Option, Some, None, if◌then◌else◌, length}
 use Rattle.lk_probe.specs.Grammar.{SpellsReport, IsReportFor}
 use Rattle.lk_probe.specs.declared.probe.Probe.{Probe}
 use Rattle.lk_probe.specs.declared.probe.Report.{Report}
 use Rattle.lk_probe.specs.declared.reach.Reach.{Reach}
 use Rattle.lk_probe.specs.declared.state_digest.StateDigest.{StateDigest}
 use Rattle.lk_probe.specs.declared.status.Status.{Status}
+use Rattle.lk_probe.specs.declared.status.Leadership.{Leadership}
 use Rattle.lk_server.specs.Servers.{ServerValue, heard_by, periods, send_state_at}
 use Rattle.lk_transport.specs.declared.received_probe.ReceivedProbe.{ReceivedProbe}
 use Rattle.lk_server_replica.specs.declared.probed_state.ProbedState.{ProbedState}
@@ -14,12 +15,18 @@ use Rattle.lk_transport.specs.Askers.{IsReplyAddress, Replies}
 
 -- ---- what a node tells
 
--- a status tells what a replica shows, the digest of the genesis, and that count of periods. The rest the server has
--- counted
-pub record ReportsStatus (digest : List ℕ) (count : ℕ) (shown : ProbedState) (s : Status) : Type 0 where
+-- the silence that is told is that of the replica, and with it some of the periods whose ticks were withheld
+pub record TellsSilence (withheld : ℕ) (shown told : Leadership) : Type 0 where
+  pub least : shown.silence ≤ told.silence
+  pub most : told.silence ≤ shown.silence + withheld
+  pub others : told ≡ record shown { silence = told.silence }
+
+-- a status tells what a replica shows, the digest of the genesis, and that count of periods; with the silence that the
+-- replica shows it counts some of so many periods whose ticks were withheld. The rest the server has counted
+pub record ReportsStatus (digest : List ℕ) (count withheld : ℕ) (shown : ProbedState) (s : Status) : Type 0 where
   pub genesis : s.identity.genesis ≡ digest
   pub format : s.identity.format ≡ shown.format
-  pub leadership : s.leadership ≡ shown.leadership
+  pub leadership : TellsSilence withheld shown.leadership s.leadership
   pub progress : s.progress ≡ shown.progress
   pub waiting : s.traffic.waiting ≡ shown.waiting
   pub ticks : s.traffic.ticks ≡ count
@@ -39,15 +46,16 @@ pub record ReportsReach (asks : Bool) (heard : Option ℕ) (watches : ℕ) (dige
   pub is : reach ≡ (if asks then Some told else None)
 
 -- these bytes are a report of that node that answers the probe in its form, and tells what the replica shows, that
--- count of ticks, this count of members that are heard, so many watches, and this digest of its state. By the laws of
+-- count of periods, this count of members that are heard, so many watches, and this digest of its state. By the laws of
 -- lk_probe it is as long as the probe
-pub record IsReportTo (node : ℕ) (genesis : List ℕ) (count : ℕ) (heard : Option ℕ) (watches : ℕ) (digest : StateDigest)
+pub record IsReportTo (node : ℕ) (genesis : List ℕ) (count withheld : ℕ) (heard : Option ℕ) (watches : ℕ)
+    (digest : StateDigest)
     (shown : ProbedState) (p : Probe) (bytes : List ℕ) : Type 0 where
   pub report : Report
   pub spelled : SpellsReport report bytes
   pub is_for : IsReportFor p report
   pub node_told : report.node ≡ node
-  pub told : ReportsStatus genesis count shown report.status
+  pub told : ReportsStatus genesis count withheld shown report.status
   pub reached : ReportsReach p.asks_reach heard watches digest shown report.reach
 
 -- the probe was answered, by the server's own count of periods, with whom it hears in this one, how many watches it
@@ -58,7 +66,7 @@ pub record RepliesToProbe {R : Type 0} (Shows : R → ProbedState → Type 0) (o
   pub shown : ProbedState
   pub shows : Shows old.replica shown
   pub bytes : List ℕ
-  pub reports : IsReportTo old.node old.addresses.seals.genesis (periods old) (heard_by shown.members old)
+  pub reports : IsReportTo old.node old.addresses.seals.genesis (periods old) old.withheld (heard_by shown.members old)
       (length old.queue.waiters) old.digest shown a.probe bytes
   pub located : ProbedState
   pub locates : Shows old.replica located

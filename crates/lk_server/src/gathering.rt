@@ -86,6 +86,7 @@ impl<R: ServerReplica, S: DatagramSocket + Drop> Server<R, S> {
         let after = self.replica.status();
         self.events.note_installed(came, &before, &after);
         self.table = self.table.after_step(&before, &after);
+        self.silence.note_input(came.node(), &before, &after);
         log_changes(log, came, &before, &after);
         log_catch_up(log, came, group.letters().len().saturating_sub(said));
         match gathered {
@@ -242,6 +243,7 @@ impl<R: ServerReplica, S: DatagramSocket + Drop> Server<R, S> {
         ensures { self.new ≡ record self.old { withheld = one_more_tick self.old.withheld } }
     {
         self.withheld = self.withheld.saturating_add(1);
+        self.silence.count_withheld(&self.replica.status());
     }
 
     // Adds what waits to the group, or what comes before the next tick, and after it a tick if one is due. A deaf

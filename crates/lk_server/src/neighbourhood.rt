@@ -3,12 +3,12 @@
 
 ghost use Rattle.std.specs.Prelude.{◌≡◌, None, not};
 ghost use Rattle.lk_probe.specs.Neighbours.{bound_in};
-ghost use Rattle.lk_transport.specs.Addresses.{IsSameNetwork};
+ghost use Rattle.lk_transport.specs.Addresses.{IsSameFilter, IsSameNetwork};
 ghost use Rattle.lk_hearing.specs.Probes.{count_heard, hears_majority};
 ghost use Rattle.lk_server_replica.specs.declared.probed_state.ProbedState.{ProbedState as ProbedStateValue};
-ghost use Rattle.lk_transport.specs.Inquiring.{AsksOne, LearnsKept, ReadmitsKept};
+ghost use Rattle.lk_transport.specs.Inquiring.{AsksOne, LearnsKept};
 ghost use Rattle.lk_transport.specs.Listening.{HearsKept, ProbesRound};
-ghost use Rattle.lk_server.specs.ProbeHandling.{HandlesProbes, ListensIf};
+ghost use Rattle.lk_server.specs.ProbeHandling.{HandlesProbes, ListensIf, RecordsMember, Welcomes};
 ghost use Rattle.lk_server.specs.Servers.{periods, send_state_at};
 
 use crate::server::Server;
@@ -67,15 +67,32 @@ impl<R: ServerReplica, S: DatagramSocket + Drop> Server<R, S> {
         }
     }
 
+    // Records the address of a probe if another node of this genesis sent it that is a member after all joins and
+    // leaves so far: without keys only if no address of it is known.
+    fn record_prober(&mut self, asked: &ReceivedProbe)
+        ensures records { RecordsMember R.Shows asked.now self.old.replica self.old.node
+            self.old.addresses self.new.addresses }
+        ensures network { IsSameFilter self.old.addresses self.new.addresses }
+        ensures others { self.new ≡ record self.old { addresses = self.new.addresses } }
+    {
+        let shown = self.replica.show();
+        self.post.record_prober(shown.newest.as_slice(), asked);
+    }
+
     // Hears the address of a probe again, if another genesis was known there and the probe names a node of this one.
+    // Records it if that node is a member or has joined.
+    #[tactic(auto, using(crate::proofs::Acting::same_place))]
     fn readmit(&mut self, asked: &Option<ReceivedProbe>)
-        ensures readmits { ReadmitsKept asked.now self.old.addresses self.new.addresses }
+        ensures readmits { Welcomes R.Shows asked.now self.old.replica self.old.node
+            self.old.addresses self.new.addresses }
         ensures network { IsSameNetwork self.old.addresses self.new.addresses }
         ensures others { self.new ≡ record self.old { addresses = self.new.addresses } }
     {
-        if let Some(asked) = asked {
-            self.post.readmit(asked);
-        }
+        let Some(asked) = asked else {
+            return;
+        };
+        self.post.readmit(asked);
+        self.record_prober(asked);
     }
 
     // Records the genesis of the node of a report, if there is one, and warns if it is another.

@@ -1,14 +1,14 @@
 //! Composes a node's report, and replies to a probe with it.
 
-ghost use Rattle.std.specs.Prelude.{◌≡◌, ◌≤◌, length};
+ghost use Rattle.std.specs.Prelude.{◌≡◌, ◌≤◌, ◌+◌, length};
 ghost use Rattle.lk_types.specs.Limits.{max_members};
-ghost use Rattle.lk_server.specs.Probes.{RepliesToKept, IsReportTo, ReportsStatus};
+ghost use Rattle.lk_server.specs.Probes.{RepliesToKept, IsReportTo, ReportsStatus, TellsSilence};
 ghost use Rattle.lk_server.specs.Servers.{heard_by, periods};
 ghost use Rattle.lk_transport.specs.Askers.{IsReplyAddress};
 ghost use Rattle.lk_server_replica.specs.declared.probed_state.ProbedState.{ProbedState as ProbedStateValue};
 
 use crate::server::Server;
-use lk_probe::{Identity, PROGRAM, ProbeDatagram, Reach, Status, Traffic};
+use lk_probe::{Identity, Leadership, PROGRAM, ProbeDatagram, Reach, Status, Traffic};
 use lk_server_replica::{ProbedState, ServerReplica, TableVersion};
 use lk_transport::received_probe::ReceivedProbe;
 use lk_transport::socket::DatagramSocket;
@@ -16,9 +16,33 @@ use lk_types::Member;
 use std::net::SocketAddr;
 
 impl<R: ServerReplica, S: DatagramSocket + Drop> Server<R, S> {
+    // Returns for how many periods a replica that shows this silence has heard no leader.
+    fn silence_of(&self, shown: u64) -> u64
+        ensures least { shown ≤ result }
+        ensures most { result ≤ shown + self.now.withheld }
+    {
+        let withheld = self.silence.periods().min(self.withheld);
+        shown.saturating_add(withheld)
+    }
+
+    /// Returns for how many periods it has heard no leader, or since its start if it never did; 0 while it seeks votes.
+    pub fn silence(&self) -> u64 {
+        self.silence_of(self.replica.status().silence)
+    }
+
+    // Returns the leadership that it tells: what the replica shows, with the silence in periods.
+    fn leadership_of(&self, shown: Leadership) -> Leadership
+        ensures { TellsSilence self.now.withheld shown result }
+    {
+        Leadership {
+            silence: self.silence_of(shown.silence),
+            ..shown
+        }
+    }
+
     // Returns what it reports of its node, whose replica shows this.
     fn status_of(&self, shown: ProbedState) -> Status
-        ensures { ReportsStatus self.now.addresses.seals.genesis (periods self.now) shown result }
+        ensures { ReportsStatus self.now.addresses.seals.genesis (periods self.now) self.now.withheld shown result }
     {
         Status {
             identity: Identity {
@@ -27,7 +51,7 @@ impl<R: ServerReplica, S: DatagramSocket + Drop> Server<R, S> {
                 format: shown.format,
                 table: self.table.number(),
             },
-            leadership: shown.leadership,
+            leadership: self.leadership_of(shown.leadership),
             progress: shown.progress,
             traffic: Traffic {
                 waiting: shown.waiting,
@@ -39,11 +63,11 @@ impl<R: ServerReplica, S: DatagramSocket + Drop> Server<R, S> {
         }
     }
 
-    /// Returns what it reports of its node: what the replica shows, the digest of the genesis, its count of periods and
-    /// what else it has counted itself, and the version of the lock table, as it was last read.
+    /// Returns what it reports of its node: what the replica shows, the silence in periods, the digest of the genesis,
+    /// its count of periods and what else it has counted, and the version of the lock table, as it was last read.
     pub fn status(&self) -> Status
         ensures { (shown : ProbedStateValue) × R.Shows self.now.replica shown
-            × ReportsStatus self.now.addresses.seals.genesis (periods self.now) shown result }
+            × ReportsStatus self.now.addresses.seals.genesis (periods self.now) self.now.withheld shown result }
     {
         self.status_of(self.replica.show())
     }
@@ -95,7 +119,7 @@ impl<R: ServerReplica, S: DatagramSocket + Drop> Server<R, S> {
     // hears, how many watches and names it keeps now and the digest that it took last, if the probe asks for that.
     fn report(&self, asked: &ReceivedProbe) -> ProbeDatagram
         ensures { (shown : ProbedStateValue) × R.Shows self.now.replica shown
-            × IsReportTo self.now.node self.now.addresses.seals.genesis (periods self.now)
+            × IsReportTo self.now.node self.now.addresses.seals.genesis (periods self.now) self.now.withheld
             (heard_by shown.members self.now) (length self.now.queue.waiters) self.now.digest shown asked.now.probe
             result }
     {

@@ -26,6 +26,7 @@ use lk_pacing::tick_timer::{FrozenClock, TickTimer};
 use lk_pacing::turn_input::TurnInput;
 use lk_probe::StateDigest;
 use lk_replica::Group;
+use lk_server_replica::silence::Silence;
 use lk_server_replica::{ServerReplica, TableVersion};
 use lk_transport::network::Network;
 use lk_transport::post::SocketPost;
@@ -58,6 +59,8 @@ pub struct Server<R: ServerReplica, S: DatagramSocket + Drop> {
     pub(crate) ticks: u64,
     pub(crate) withheld: u64,
     pub(crate) unsent: u64,
+    // the periods without a leader that its replica did not count
+    pub(crate) silence: Silence,
     // the version of the lock table, as it was last read
     pub(crate) table: TableVersion,
     // its recent syncs, which decide how long it pauses before the next
@@ -141,6 +144,7 @@ impl<R: ServerReplica, S: DatagramSocket + Drop> Server<R, S> {
             ticks: 0,
             withheld: 0,
             unsent: 0,
+            silence: Silence::NONE,
             table: TableVersion::Unread,
             digest: StateDigest::none(),
             sync_pause: SyncPause::NONE,

@@ -8,7 +8,8 @@ ghost use Rattle.lk_watch.specs.Tables.{standing_in};
 ghost use Rattle.lk_transport.specs.Watches.{SendsNotice};
 ghost use Rattle.lk_server.specs.Servers.{periods, send_state_at};
 ghost use Rattle.lk_server.specs.WatchHandling.{AnswersWatch, ChangesByNotices, HandlesWatches, Speaks, TellsNext};
-ghost use Rattle.lk_server.specs.WatchHandling.{HasNothingNew, IsAllNew, NotesChanges, TellsWaiters, begun_at, name_watched};
+ghost use Rattle.lk_server.specs.WatchHandling.{HasNothingNew, IsAllNew, NotesChanges, TellsWaiters, begun_at};
+ghost use Rattle.lk_server.specs.WatchHandling.{name_watched};
 
 use crate::server::Server;
 use lk_node_interface::Note;

@@ -6,3 +6,4 @@ pub mod TableVersions
 pub mod Refusals
 pub mod Tables
 pub mod StateDigests
+pub mod Silences

@@ -1,6 +1,7 @@
 -- The values that a replica shows to a probe.
 use Rattle.std.specs.Prelude.{◌≡◌, ◌↔◌, ◌==◌, ◌+◌, ◌-◌, ℕ, if◌then◌else◌, length, min, slice_get, Some, IsTrue}
 use Rattle.std.specs.FinMap as map
+use Rattle.lk_members.specs.Sets.{newest as newest_of}
 use Rattle.lk_members.specs.Windows.{RosterValue}
 use Rattle.lk_leader.specs.Proposing.{Leads}
 use Rattle.lk_replica.specs.ReplicaValue.{ReplicaValue}
@@ -20,6 +21,7 @@ pub record IsShown (r : ReplicaValue) (s : ProbedState) : Type 0 where
   pub executed : s.progress.executed ≡ r.node.learner.whole.roster.executed
   pub snapshot : s.progress.snapshot ≡ r.node.acceptor.state.snapshot_position
   pub members : slice_get r.node.learner.whole.roster.sets 0 ≡ Some s.members
+  pub newest : s.newest ≡ newest_of r.node.learner.whole.roster.sets
   pub pending : s.progress.pending ≡ min (pending_in r.node.learner.whole.roster) 255
   pub waiting : s.waiting ≡ min (length r.node.leader.waiting) 65535
   pub format : s.format ≡ r.store.format

@@ -12,3 +12,4 @@ pub record IsStatusOf (r : ReplicaValue) (s : ReplicaStatus) : Type 0 where
   pub promised : s.promised ≡ r.node.acceptor.state.promised
   pub term : s.term ≡ option_map (λ t. t.ballot) r.node.leader.term
   pub known : s.known ≡ r.node.known
+  pub silence : s.silence ≡ r.node.ticks

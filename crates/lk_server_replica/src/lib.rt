@@ -4,6 +4,7 @@
 mod probed_state;
 pub mod replica_status;
 mod server_replica;
+pub mod silence;
 mod state_digests;
 mod table_machine;
 mod table_version;

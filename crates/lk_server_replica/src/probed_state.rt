@@ -23,6 +23,8 @@ pub struct ProbedState {
     pub waiting: u16,
     /// The members of the next position.
     pub members: Members,
+    /// The members after all joins and leaves so far.
+    pub newest: Members,
     /// The format of its store.
     pub format: u8,
     /// How many names its lock table has.
@@ -87,6 +89,7 @@ impl ProbedState {
             },
             waiting: waiting(node),
             members: next_members(node.roster()).copy(),
+            newest: node.roster().newest().copy(),
             format: replica.format(),
             names: names(node),
         }

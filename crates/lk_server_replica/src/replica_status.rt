@@ -17,4 +17,6 @@ pub struct ReplicaStatus {
     pub term: Option<RealBallot>,
     /// The node that it takes for the leader.
     pub known: Option<NodeNo>,
+    /// How many ticks it has taken since it heard of a leader: 28 at most, where the count stays.
+    pub silence: u64,
 }

@@ -170,6 +170,7 @@ impl<M: TableMachine, D: LogDisk + Drop> ServerReplica for Replica<M, D> {
             promised: node.promised(),
             term: node.term(),
             known: node.presumed_leader(),
+            silence: u64::from(node.ticks()),
         }
     }
 

@@ -141,6 +141,7 @@ fn status_of(seen: Seen) -> Result<ReplicaStatus, Fail> {
             None => None,
         },
         known: NodeNo::of(known),
+        silence: 0,
     })
 }
 

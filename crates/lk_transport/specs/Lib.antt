@@ -13,3 +13,4 @@ pub mod Kept
 pub mod Arrivals
 pub mod Listening
 pub mod Watches
+pub mod Probers

@@ -13,6 +13,7 @@ pub mod network;
 mod noticing;
 mod outsiders;
 pub mod post;
+mod prober_records;
 pub mod receive_buffer;
 pub mod received_probe;
 pub mod received_watch;

@@ -83,7 +83,7 @@ impl Addresses {
 }
 
 // Returns the port of a node, if it is one of these members.
-fn port_among(members: &[Member], node: NodeNo) -> Option<Port>
+pub(crate) fn port_among(members: &[Member], node: NodeNo) -> Option<Port>
     ensures { result ≡ port_among members.now node }
 {
     for member in members {

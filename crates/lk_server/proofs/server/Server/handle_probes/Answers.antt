@@ -1,10 +1,10 @@
 use Rattle.std.proofs.Common.{◌≡◌, ◌∙◌, Option, ap, subst}
 use Rattle.lk_probe.specs.declared.reported.Reported.{Reported}
 use Rattle.lk_transport.specs.ReceiveBuffers.{BufferValue}
-use Rattle.lk_transport.specs.Inquiring.{LearnsKept, ReadmitsKept}
+use Rattle.lk_transport.specs.Inquiring.{LearnsKept}
 use Rattle.lk_transport.specs.declared.received_probe.ReceivedProbe.{ReceivedProbe}
 use Rattle.lk_server.proofs.Acting.{acted}
-use Rattle.lk_server.specs.ProbeHandling.{ListensIf}
+use Rattle.lk_server.specs.ProbeHandling.{ListensIf, Welcomes}
 use Rattle.lk_server.specs.Probes.{RepliesToKept}
 use Rattle.lk_server.proofs.server.Server.handle_probes.Goals as goal
 
@@ -21,8 +21,8 @@ returns-clause-acts g c =
     let replies = subst (λ
     (o : Option ReceivedProbe). RepliesToKept shows observable o c.args.self.now c.report_to.new.self)
     t.value a.replies in
-    let readmits = subst (λ (o : Option ReceivedProbe). ReadmitsKept o c.report_to.new.self.addresses
-    c.readmit.new.self.addresses) t.value r.readmits in
+    let readmits = subst (λ (o : Option ReceivedProbe). Welcomes shows o c.report_to.new.self.replica
+    c.report_to.new.self.node c.report_to.new.self.addresses c.readmit.new.self.addresses) t.value r.readmits in
     let told : c.pop_reported-reported.result ≡ c.args.buffer.now.reported =
     c.pop_reported-reported.ensures.value ∙ ap (λ (b : BufferValue). b.reported) t.others in
     let learns = subst (λ (o : Option Reported). LearnsKept c.readmit.new.self.node o c.readmit.new.self.addresses

@@ -31,9 +31,9 @@ returns-then-speaks-clause-acts g c =
     let yes : c.speaks-speaks.result ≡ true = cc c.if-speaks.true in
     subst (λ (o : Option ReceivedWatch). HandlesWatches table shows observable o c.args.self.now
     c.tell_waiters.new.self) t.value
-    (inr (served table shows observable _ c.look-seen.result c.speaks-speaks.result c.args.self.now c.begin_watches.new.self
-    c.answer_watch.new.self c.tell_waiters.new.self c.begin_watches.ensures c.look-seen.ensures c.speaks-speaks.ensures a.answers a.still
-    a.others (rw yes w.tells) w.still w.others))
+    (inr (served table shows observable _ c.look-seen.result c.speaks-speaks.result c.args.self.now
+    c.begin_watches.new.self c.answer_watch.new.self c.tell_waiters.new.self c.begin_watches.ensures
+    c.look-seen.ensures c.speaks-speaks.ensures a.answers a.still a.others (rw yes w.tells) w.still w.others))
 
 pub returns-clause-acts : goal.returns-clause-acts
 returns-clause-acts g c =
@@ -45,6 +45,6 @@ returns-clause-acts g c =
     let new = c.answer_watch.new.self in
     let silent : c.speaks-speaks.result ≡ false = cc c.if-speaks.false in
     subst (λ (o : Option ReceivedWatch). HandlesWatches table shows observable o c.args.self.now new) t.value
-    (inr (served table shows observable _ c.look-seen.result c.speaks-speaks.result c.args.self.now c.begin_watches.new.self new new
-    c.begin_watches.ensures c.look-seen.ensures c.speaks-speaks.ensures a.answers a.still a.others
-    (rw silent (record { letters = []; tells = (refl, refl); sends = refl })) (λ t. refl) refl))
+    (inr (served table shows observable _ c.look-seen.result c.speaks-speaks.result c.args.self.now
+    c.begin_watches.new.self new new c.begin_watches.ensures c.look-seen.ensures c.speaks-speaks.ensures a.answers
+    a.still a.others (rw silent (record { letters = []; tells = (refl, refl); sends = refl })) (λ t. refl) refl))

@@ -15,15 +15,17 @@ letters-preserved g c =
       i.0 ++ next.letter ∷ [],
       omega (arith, i.1, length-append i.0 (next.letter ∷ [])),
       i.2,
-      told_more (λ r. standing_by (g.R.ServerReplica.table r) c.args.seen.now) g.S.DatagramSocket.is_observable i.0 c.args.self.now c.letters.self
-          c.tell_next.new.self i.3 next c.tell_next.ensures.still c.tell_next.ensures.others,
+      told_more (λ r. standing_by (g.R.ServerReplica.table r) c.args.seen.now) g.S.DatagramSocket.is_observable i.0
+          c.args.self.now c.letters.self c.tell_next.new.self i.3 next c.tell_next.ensures.still
+          c.tell_next.ensures.others,
     )
 
 pub returns-then-not-tell_next-clause-tells : goal.returns-then-not-tell_next-clause-tells
 returns-then-not-tell_next-clause-tells g c =
     let i = c.letters.invariant in
     let n = c.tell_next.ensures.none (cc c.if-not-tell_next.true) in
-    told_all (λ r. standing_by (g.R.ServerReplica.table r) c.args.seen.now) g.S.DatagramSocket.is_observable i.0 c.args.self.now c.letters.self
+    told_all (λ r. standing_by (g.R.ServerReplica.table r) c.args.seen.now) g.S.DatagramSocket.is_observable i.0
+    c.args.self.now c.letters.self
     c.tell_next.new.self i.3 n.0 n.1
 
 pub returns-then-not-tell_next-clause-still : goal.returns-then-not-tell_next-clause-still
@@ -38,7 +40,8 @@ returns-clause-tells g c =
     let all : c.letters.counter ≡ 64 = omega arith in
     let left = letters_left (standing_by (g.R.ServerReplica.table c.args.self.now.replica) c.args.seen.now) i.0
     c.args.self.now.queue c.letters.self.queue i.3.0 in
-    told_all (λ r. standing_by (g.R.ServerReplica.table r) c.args.seen.now) g.S.DatagramSocket.is_observable i.0 c.args.self.now c.letters.self
+    told_all (λ r. standing_by (g.R.ServerReplica.table r) c.args.seen.now) g.S.DatagramSocket.is_observable i.0
+    c.args.self.now c.letters.self
     c.letters.self i.3 (inl (omega (arith, left, i.1, i.2, all))) refl
 
 pub returns-clause-still : goal.returns-clause-still
