@@ -1,0 +1,6 @@
+mod FrameLaws
+mod ReaderLaws
+mod PlaceLaws
+mod ParseLaws
+mod DiskLaws
+mod ChangeLaws
