@@ -38,7 +38,7 @@ impl<'a> fmt::Display for ArgumentError<'a> {
 
 // What the value of each argument has to be.
 #[rattlefmt::skip]
-const WANTED: [(&str, &str); 14] = [
+const WANTED: [(&str, &str); 16] = [
     ("number", "must be 1 to 2147483648"),
     ("port", "must be 1 to 65535"),
     ("client", "must be 1 to 256"),
@@ -47,6 +47,8 @@ const WANTED: [(&str, &str); 14] = [
     ("request", "must be 1 to 281474976710656"),
     ("start", "must be 0 to 18446744073709551615"),
     ("events", "must be 0 to 20000"),
+    ("past", "must be 0 to 281474976710655"),
+    ("name", "must be NAME:FENCE, with FENCE from 1 to 281474976710655"),
     ("bind", "must be an IP address"),
     ("address", "must be an IP address"),
     ("ticks", "must be clock, or datagrams if there is no --key"),

@@ -16,6 +16,8 @@ enum Kind {
     Given,
     // A required word after `--NAME`; the option may be repeated.
     Several,
+    // An optional word after `--NAME`; the option may be repeated.
+    Any,
     // An optional `--NAME` alone.
     Flag,
     // One or more required words without `--NAME`.
@@ -106,6 +108,14 @@ const SUBCOMMANDS: &[Usage] = &[
         (Kind::Word, "dir", "the folder of a node's files"),
         (Kind::Flag, "all", "prints the names that are free too, each with its last fence"),
     ]),
+    ("seed", "begins a new cluster whose fences are above those of a lost one", &[
+        (Kind::Several, "from", "a folder that the lost cluster has left"),
+        (Kind::Word, "past", "how many grants of a name may be missing in those folders"),
+        (Kind::Any, "name", "NAME:FENCE: a name, and the greatest fence of it that a resource remembers"),
+        (Kind::Word, "genesis", "CLUSTER,ALPHA,NODE:PORT: a new number, and the only member"),
+        (Kind::Word, "number", "the number of that node"),
+        (Kind::Word, "dir", "the folder of its files, which must have none"),
+    ]),
     ("client-key", "prints the key of a client", &[
         (Kind::Word, "master", "the file of the master from which the clients' keys are derived"),
         (Kind::Word, "client", "the number of the client, 1 to 256"),
@@ -126,6 +136,7 @@ fn argument<'a>(alloc: Global, kind: Kind, name: &'a str, help: &'a str) -> Arg<
         Kind::Word => word(alloc, name),
         Kind::Given => word(alloc, name).required(false),
         Kind::Several => word(alloc, name).action(ArgAction::Append),
+        Kind::Any => word(alloc, name).required(false).action(ArgAction::Append),
         Kind::Flag => Arg::new(alloc, name).long(name).action(ArgAction::SetTrue),
         Kind::Words => Arg::new(alloc, name).required(true).num_args(1..),
         Kind::Many => word(alloc, name).action(ArgAction::Append).num_args(1..),

@@ -2,3 +2,4 @@ pub mod NodeRuns
 pub mod Plans
 pub mod Subcommands
 pub mod Looks
+pub mod Seeds

@@ -4,7 +4,7 @@ use Rattle.clap.specs.Words.{found_of, rows_of, subcommand_rows_of}
 use Rattle.clap.specs.declared.parser.matches.ArgMatches.{ArgMatches}
 use Rattle.lk_main.specs.declared.subcommand.Subcommand.{Subcommand}
 use Rattle.lk_main.specs.declared.subcommand.Subcommand.TheVariants.{Sim, Fuzz, Node, Init, Ask, Demo, Dump, Inspect}
-use Rattle.lk_main.specs.declared.subcommand.Subcommand.TheVariants.{ClientKey, Status}
+use Rattle.lk_main.specs.declared.subcommand.Subcommand.TheVariants.{ClientKey, Status, Seed}
 
 -- the word that names a subcommand
 abbrev pub name_of : Subcommand → List ℕ
@@ -16,6 +16,7 @@ name_of Ask = codes "ask"
 name_of Demo = codes "demo"
 name_of Dump = codes "dump"
 name_of Inspect = codes "inspect"
+name_of Seed = codes "seed"
 name_of ClientKey = codes "client-key"
 name_of Status = codes "status"
 

@@ -4,6 +4,7 @@
 mod asking;
 mod node;
 mod plans;
+mod seeding;
 mod subcommand;
 mod words;
 

@@ -14,6 +14,7 @@ pub enum Subcommand {
     Demo,
     Dump,
     Inspect,
+    Seed,
     ClientKey,
     Status,
 }
@@ -33,6 +34,7 @@ impl Subcommand {
             "demo" => Some(Subcommand::Demo),
             "dump" => Some(Subcommand::Dump),
             "inspect" => Some(Subcommand::Inspect),
+            "seed" => Some(Subcommand::Seed),
             "client-key" => Some(Subcommand::ClientKey),
             "status" => Some(Subcommand::Status),
             _ => None,

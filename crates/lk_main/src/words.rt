@@ -12,6 +12,7 @@ use crate::plans::{
     AskPlan, ask_options, ask_plan, client_key_plan, fuzz_plan, init_plan, level_of, listing_of,
     node_plan,
 };
+use crate::seeding::seed_plan;
 use crate::subcommand::Subcommand;
 use clap::error::ErrorKind;
 use clap::{ArgMatches, Error};
@@ -41,6 +42,7 @@ use lk_replica::Replica;
 use lk_script::ending::{end, write_fault};
 use lk_script::script::run_to_end;
 use lk_script_lines::fault::ScriptFault;
+use lk_seed::seed::seed;
 use lk_server_replica::ServerReplica;
 use lk_sim_dump::node_state::run_to_state;
 use lk_status::target::Inquiry;
@@ -112,6 +114,23 @@ fn run_init_words<R: Files<File = File>, E: Write>(
     }
 }
 
+// Runs `locks seed`.
+fn run_seed_words<R: Files<File = File>, E: Write>(
+    rt: &R,
+    alloc: Global,
+    matches: &ArgMatches<'_>,
+    err: &mut E,
+) -> u8
+    ensures { result ≤ 2 }
+{
+    let survivors = matches.get_strs("from").unwrap_or(&[]);
+    match seed_plan(alloc, matches) {
+        Ok(Ok(plan)) => seed(rt, alloc, plan, survivors, err),
+        Ok(Err(error)) => write_argument_error(&error, err),
+        Err(fault) => fault.write_to(err),
+    }
+}
+
 // Returns the address to bind a client's socket to: any of its machine, in the family of the nodes that it asks, since
 // an answer may name a node elsewhere; 127.0.0.1 with neither `--address` nor `--hosts`.
 fn local_address(options: &NetworkOptions<'_>, inquiry: &Inquiry) -> IpAddr {
@@ -157,29 +176,36 @@ fn ask_from<S: DatagramSocket, C: Clock, W: Write, E: Write>(
 fn run_ask<R: Files<File = File> + Net + Clock, W: Write, E: Write>(
     rt: &R,
     alloc: Global,
-    mut plan: AskPlan<'_>,
+    plan: AskPlan<'_>,
     out: &mut W,
     err: &mut E,
 ) -> u8
     requires { WaitsFor plan.question.request.op plan.wait }
     ensures { result ≤ 2 }
 {
-    let cluster = plan.inquiry.cluster;
-    plan.inquiry.destination = match destination_of(
-        &System(rt),
-        alloc,
-        cluster,
-        &plan.options,
-        err,
-    ) {
+    let AskPlan {
+        question,
+        mut inquiry,
+        is_forced,
+        options,
+        wait,
+    } = plan;
+    inquiry.destination = match destination_of(&System(rt), alloc, inquiry.cluster, &options, err) {
         Ok(destination) => destination,
         Err(fault) => return fault.write_to(err),
     };
-    let places = match places_of(alloc, &plan.inquiry) {
+    let places = match places_of(alloc, &inquiry) {
         Ok(places) => places,
         Err(_) => return ProgramFault::NoMemory.write_to(err),
     };
-    let local = local_address(&plan.options, &plan.inquiry);
+    let local = local_address(&options, &inquiry);
+    let plan = AskPlan {
+        question,
+        inquiry,
+        is_forced,
+        options,
+        wait,
+    };
     match open_socket_at(rt, SocketAddr::from((local, 0)), err) {
         Ok(mut socket) => ask_from(alloc, &mut socket, rt, plan, places, out, err),
         Err(fault) => fault.write_to(err),
@@ -333,6 +359,7 @@ fn run_matches<
         Subcommand::Demo => demo::<LockTable, H, W, E>(rt, alloc, out, err),
         Subcommand::Dump => dump(rt, alloc, word(words, "dir"), out, err),
         Subcommand::Status => run_status_words(rt, alloc, words, out, err),
+        Subcommand::Seed => run_seed_words(rt, alloc, words, err),
         Subcommand::ClientKey => run_client_key_words(platform, alloc, words, out, err),
         Subcommand::Inspect => {
             let (folder, listing) = (word(words, "dir"), listing_of(words));

@@ -14,6 +14,7 @@ use Rattle.lk_disk.specs.Disk.{Disk, contents, appended, fully_synced, cut_to, A
 use Rattle.lk_disk.specs.declared.device.Side.{Side}
 use Rattle.lk_disk.specs.declared.device.Side.TheVariants.{A, B}
 use Rattle.lk_summed_disk.specs.SummedValue.{disk_at, over}
+use Rattle.lk_summed_disk.specs.Frames.{HasSums}
 use Rattle.lk_summed_disk.specs.Readers.{Reader, fresh, plain, marked, framed, step, read, text, IsSound}
 use Rattle.lk_summed_disk.specs.Readers.{decoded}
 use Rattle.lk_summed_disk.specs.Places.{reader, IsPlace, Holds, Adds}
@@ -386,3 +387,29 @@ disk_over disks failures B = refl
 pub place_length : (s : Side) (d : Disk) (p : Place) → Holds s (contents d) (Some p)
     → p.size ≡ length (contents (decoded s d))
 place_length s d p holds = holds.known.size ∙ ap length (sym (decoded_contents s d))
+
+-- ---- an empty file begins with sums
+
+abbrev is_fresh : Reader → Bool
+is_fresh (fresh s) = true
+is_fresh plain = false
+is_fresh (marked s bytes) = false
+is_fresh (framed chain bytes) = false
+
+form_of : (s : Side) (f : Form) → fresh s ≡ reader s f → f ≡ Empty
+form_of s Empty is = refl
+form_of s Plain is = absurd (true≢false (ap is_fresh is))
+form_of s (Summed chain) is = absurd (true≢false (ap is_fresh is))
+
+empty_form : (s : Side) (bytes : List ℕ) (p : Place) → IsPlace s bytes p → bytes ≡ [] → p.form ≡ Empty
+empty_form s bytes p is none =
+    form_of s p.form
+    (sym (ap (read (fresh s)) (ap (take p.end) none ∙ take_all p.end [] (omega arith))) ∙ is.reads)
+
+pub append_begins : (s : Side) (old new : Disk) (bytes : List ℕ) (p : Place) → Holds s (contents old) (Some p)
+    → contents old ≡ [] → new ≡ appended old bytes → (p.form ≡ Empty → HasSums s bytes) → HasSums s (contents new)
+append_begins s old new bytes p holds none is begins =
+    let begun = begins (empty_form s (contents old) p holds.known none) in (
+      begun.0,
+      ap contents is ∙ appended_contents old bytes ∙ ap (λ (l : List ℕ). l ++ bytes) none ∙ begun.1,
+    )

@@ -115,7 +115,8 @@ pub is_one : (chain bytes : List ℕ) → is_frame chain bytes ≡ true
     → (length (piece_in bytes) ≤ max_piece) × (bytes ≡ frame chain (piece_in bytes))
 unfolding is_frame
 is_one chain bytes is =
-    let both = and_parts (leb (length (piece_in bytes)) max_piece) (bytes_eq bytes (frame chain (piece_in bytes))) is in (
+    let both =
+    and_parts (leb (length (piece_in bytes)) max_piece) (bytes_eq bytes (frame chain (piece_in bytes))) is in (
       leb-true (length (piece_in bytes)) max_piece both.0,
       (bytes_eq-Decides bytes (frame chain (piece_in bytes))).0 both.1,
     )

@@ -9,7 +9,8 @@ use Rattle.std.proofs.lemmas.Bool.{true≢false, false_from_ne_true, ne_eqb, not
 use Rattle.std.proofs.lemmas.Slice.Eq.{bytes_eq-Decides}
 use Rattle.std.proofs.lemmas.List.{take_at, take-take, take_all, take-append-drop, append-nil}
 use Rattle.lk_disk.specs.declared.device.Side.{Side}
-use Rattle.lk_summed_disk.specs.Frames.{max_piece, magic, seed, digest, frame, is_frame, is_torn}
+use Rattle.lk_disk.specs.declared.device.Side.TheVariants.{A, B}
+use Rattle.lk_summed_disk.specs.Frames.{max_piece, magic, seed, digest, frame, is_frame, is_torn, HasSums}
 use Rattle.lk_summed_disk.specs.Readers.{Reader, fresh, marked, framed, read, text, IsSound}
 use Rattle.lk_summed_disk.specs.Places.{reader, Holds}
 use Rattle.lk_summed_disk.specs.declared.place.Form.TheVariants.{Empty, Plain, Summed}
@@ -249,3 +250,36 @@ short_magic s bytes known count r is counts test same short =
     let all : count ≡ length bytes = short_count count (length bytes) counts short in
     sym (take_all count bytes (omega (arith, all))) ∙ begins_as_magic s bytes known count r is test same
     ∙ ap (λ (k : ℕ). take k (magic s)) all
+
+-- ---- a file with sums is known as such
+
+pub sums_long : (s : Side) (bytes : List ℕ) → HasSums s bytes → 8 ≤ length bytes
+sums_long s bytes has =
+    omega (arith, ap length has.1, length-append (magic s) has.0, length-magic s)
+
+abbrev first_of : List ℕ → ℕ
+first_of [] = 0
+first_of (b ∷ bytes) = b
+
+magic_first : (s : Side) (rest : List ℕ) → first_of (magic s ++ rest) ≡ 108
+magic_first A rest = refl
+magic_first B rest = refl
+
+zero_first : (rest : List ℕ) → first_of (0 ∷ rest) ≡ 0
+zero_first rest = refl
+
+pub sums_plain : (s : Side) (bytes rest : List ℕ) → bytes ≡ 0 ∷ rest → HasSums s bytes → ⊥
+sums_plain s bytes rest is has =
+    let first : 0 ≡ 108 = sym (zero_first rest) ∙ ap first_of (sym is ∙ has.1) ∙ magic_first s has.0 in
+    absurd (omega (arith, first))
+
+short_by : (count all : ℕ) → count ≡ min all 8 → (count ≡ 8 → ⊥) → 8 ≤ all → ⊥
+short_by count all is short long = short (omega (arith, is, long))
+
+pub sums_short : (s : Side) (bytes : List ℕ) (count : ℕ) → count ≡ min (length bytes) 8 → (count ≡ 8 → ⊥)
+    → HasSums s bytes → ⊥
+sums_short s bytes count is short has =
+    short_by count (length bytes) is short (sums_long s bytes has)
+
+pub sums_empty : (s : Side) (bytes : List ℕ) → length bytes ≡ 0 → HasSums s bytes → ⊥
+sums_empty s bytes none has = absurd (omega (arith, none, sums_long s bytes has))

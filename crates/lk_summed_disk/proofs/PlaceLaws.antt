@@ -226,3 +226,9 @@ adds_begun_as s piece rest bytes f begins is form =
     subst (λ (l : List ℕ). Adds (fresh s) piece l (reader s f)) (sym is)
     (subst (λ (l : List ℕ). Adds (fresh s) l l (reader s f)) (sym begins)
     (subst (λ (g : Form). Adds (fresh s) (0 ∷ rest) (0 ∷ rest) (reader s g)) (sym form) (adds_begun s rest)))
+
+pub first_bytes : (s : Side) (piece begun bytes chain : List ℕ) → bytes ≡ begun ++ frame chain piece → chain ≡ seed s
+    → begun ≡ magic s → bytes ≡ magic s ++ frame (seed s) piece
+first_bytes s piece begun bytes chain is chained begins =
+    is ∙ ap (λ (c : List ℕ). begun ++ frame c piece) chained
+    ∙ ap (λ (l : List ℕ). l ++ frame (seed s) piece) begins

@@ -1,6 +1,6 @@
 -- A frame: what an append becomes in a file with sums.
-use Rattle.std.specs.Prelude.{ℕ, ◌+◌, ◌-◌, ◌*◌, ◌/◌, ◌%◌, ◌==◌, Bool, nat_lt, nat_le, ◌&&◌, ◌||◌, List, [], ◌∷◌, ◌++◌}
-use Rattle.std.specs.Prelude.{length, take, drop}
+use Rattle.std.specs.Prelude.{◌≡◌, ℕ, ◌+◌, ◌-◌, ◌*◌, ◌/◌, ◌%◌, ◌==◌, Bool, nat_lt, nat_le, ◌&&◌, ◌||◌, List, []}
+use Rattle.std.specs.Prelude.{◌∷◌, ◌++◌, length, take, drop}
 use Rattle.std.specs.Int.{w32, to_be_bytes, from_be_bytes}
 use Rattle.std.specs.Str.{bytes_eq}
 use Rattle.sha2.specs.Sha256.{sha256}
@@ -23,6 +23,10 @@ length_field n = to_be_bytes w32 (n * factor)
 abbrev pub magic : Side → List ℕ
 magic A = 108 ∷ 111 ∷ 99 ∷ 107 ∷ 115 ∷ 32 ∷ 51 ∷ 97 ∷ []
 magic B = 108 ∷ 111 ∷ 99 ∷ 107 ∷ 115 ∷ 32 ∷ 51 ∷ 98 ∷ []
+
+-- the file of these bytes has sums
+abbrev pub HasSums : Side → List ℕ → Type 0
+HasSums s bytes = (rest : List ℕ) × (bytes ≡ magic s ++ rest)
 
 -- the chain before the first frame of a file
 unfoldable pub seed : Side → List ℕ

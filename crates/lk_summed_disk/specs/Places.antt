@@ -1,5 +1,5 @@
 -- How a file goes on: what a device knows of the bytes that a file has.
-use Rattle.std.specs.Prelude.{◌≡◌, ℕ, ◌≤◌, true, List, [], length, take, ⊤, Option, Some, None}
+use Rattle.std.specs.Prelude.{◌≡◌, ℕ, ◌≤◌, Bool, true, false, List, [], length, take, ⊤, Option, Some, None}
 use Rattle.lk_disk.specs.declared.device.Side.{Side}
 use Rattle.lk_disk.specs.declared.device.Side.TheVariants.{A, B}
 use Rattle.lk_summed_disk.specs.Readers.{Reader, fresh, plain, framed, read, text, IsSound}
@@ -13,6 +13,11 @@ abbrev pub reader : Side → Form → Reader
 reader s Empty = fresh s
 reader s Plain = plain
 reader s (Summed chain) = framed chain []
+
+abbrev pub is_summed : Form → Bool
+is_summed Empty = false
+is_summed Plain = false
+is_summed (Summed chain) = true
 
 -- The place is right for a file of these bytes: its whole frames end there and leave that chain, and the bytes after
 -- them, if it has any, add no text.

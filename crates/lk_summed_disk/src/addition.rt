@@ -1,8 +1,9 @@
 // What an append of a piece becomes on the device below.
-ghost use Rattle.std.specs.Prelude.{◌≡◌, ◌≤◌, ◌++◌, ◌∷◌, ℕ, List, [], IfSome, length};
-ghost use Rattle.lk_summed_disk.specs.Frames.{frame, digest, max_piece};
+ghost use Rattle.std.specs.Prelude.{◌≡◌, ◌≤◌, ◌++◌, ◌∷◌, ℕ, List, [], IfSome, IsTrue, length};
+ghost use Rattle.lk_summed_disk.specs.Frames.{frame, digest, max_piece, HasSums};
 ghost use Rattle.lk_summed_disk.specs.Readers.{fresh, plain, framed};
 ghost use Rattle.lk_summed_disk.specs.Places.{Adds, reader};
+ghost use Rattle.lk_summed_disk.specs.declared.place.Form.TheVariants.{Empty};
 ghost use Rattle.lk_disk.specs.declared.device.Side.{Side};
 
 use crate::frame::{begins_plain, digest, length_field, magic, seed};
@@ -48,7 +49,8 @@ fn next_addition(alloc: Global, chain: &[u8; 32], piece: &[u8]) -> Option<Additi
 
 // Returns what begins a file with sums.
 fn first_addition(alloc: Global, side: Side, piece: &[u8]) -> Option<Addition>
-    ensures { IfSome result (λ a. Adds (fresh side) piece.now a.bytes.items (reader side a.form)) }
+    ensures begins { IfSome result (λ a. HasSums side a.bytes.items) }
+    ensures adds { IfSome result (λ a. Adds (fresh side) piece.now a.bytes.items (reader side a.form)) }
 {
     let mut bytes = magic(side).to_vec(alloc).ok()?;
     let after = add_frame(&mut bytes, &seed(side), piece)?;
@@ -73,7 +75,8 @@ fn plain_addition(alloc: Global, piece: &[u8]) -> Option<Addition>
 
 // Returns what begins a file, with sums if `sums` says so.
 fn begin_file(alloc: Global, side: Side, sums: bool, piece: &[u8]) -> Option<Addition>
-    ensures { IfSome result (λ a. Adds (fresh side) piece.now a.bytes.items (reader side a.form)) }
+    ensures begins { IsTrue sums → IfSome result (λ a. HasSums side a.bytes.items) }
+    ensures adds { IfSome result (λ a. Adds (fresh side) piece.now a.bytes.items (reader side a.form)) }
 {
     if sums {
         return first_addition(alloc, side, piece);
@@ -93,7 +96,8 @@ pub fn make_addition(
     sums: bool,
     piece: &[u8],
 ) -> Option<Addition>
-    ensures { IfSome result (λ a. Adds (reader side form) piece.now a.bytes.items (reader side a.form)) }
+    ensures begins { IsTrue sums → form ≡ Empty → IfSome result (λ a. HasSums side a.bytes.items) }
+    ensures adds { IfSome result (λ a. Adds (reader side form) piece.now a.bytes.items (reader side a.form)) }
 {
     match form {
         Form::Summed(chain) => next_addition(alloc, &chain, piece),

@@ -1,7 +1,7 @@
 // How the files of a device go on.
 ghost use Rattle.std.specs.Prelude.{◌≡◌, ◌+◌, true, IfSome};
 ghost use Rattle.lk_disk.specs.Disk.{other};
-ghost use Rattle.lk_summed_disk.specs.Places.{place_at};
+ghost use Rattle.lk_summed_disk.specs.Places.{is_summed, place_at};
 
 use lk_disk::Side;
 
@@ -38,7 +38,9 @@ impl Place {
     };
 
     /// Whether its file has sums.
-    pub fn has_sums(&self) -> bool {
+    pub fn has_sums(&self) -> bool
+        ensures { result ≡ is_summed self.now.form }
+    {
         matches!(self.form, Form::Summed(_))
     }
 

@@ -1,9 +1,10 @@
 // The calls of the device below that change a file, and the place of the file after them.
-ghost use Rattle.std.specs.Prelude.{◌≡◌, ◌≤◌, ◌<◌, ◌+◌, length, Some, OnOk, OnErr, IfSome, IfOk, true};
+ghost use Rattle.std.specs.Prelude.{◌≡◌, ◌≤◌, ◌<◌, [], length, Some, IsTrue, OnOk, OnErr, IfOk};
 ghost use Rattle.lk_disk.specs.Disk.{contents, appended, fully_synced, cut_to, other, AppendsSome, CutShort};
 ghost use Rattle.lk_summed_disk.specs.Readers.{decoded};
 ghost use Rattle.lk_summed_disk.specs.Places.{Holds};
 ghost use Rattle.lk_summed_disk.specs.Opened.{HoldsAfter, IsSoundOn};
+ghost use Rattle.lk_summed_disk.specs.Frames.{HasSums};
 
 use crate::addition::{Addition, make_addition};
 use crate::place::{Form, Place};
@@ -28,6 +29,8 @@ pub fn append_piece<D: LogDisk>(
     ensures err { D.is_honest → Holds side (contents (D.disk device.old side)) (Some place)
         → OnErr result
         (AppendsSome piece.now (decoded side (D.disk device.old side)) (decoded side (D.disk device.new side))) }
+    ensures begins { D.is_honest → Holds side (contents (D.disk device.old side)) (Some place) → IsTrue sums
+        → contents (D.disk device.old side) ≡ [] → OnOk result (HasSums side (contents (D.disk device.new side))) }
     ensures beside { D.is_honest → D.disk device.new (other side) ≡ D.disk device.old (other side) }
 {
     if !place.is_whole {

@@ -1,5 +1,6 @@
 use Rattle.std.proofs.Common.{◌∙◌, refl}
 use Rattle.lk_summed_disk.proofs.ParseLaws.{wrong_magic, differs_from_magic, short_magic, torn_magic, torn_magic_text}
+use Rattle.lk_summed_disk.proofs.ParseLaws.{sums_short}
 use Rattle.lk_summed_disk.proofs.parsing.parse_marked.Goals as goal
 
 pub returns-then-ne-clause-damaged : goal.returns-then-ne-clause-damaged
@@ -18,3 +19,8 @@ returns-clause-parsed c =
       text_is = c.new.ensures.items ∙ torn_magic_text c.args.side c.args.bytes.now front;
       holds = torn_magic c.args.side c.args.bytes.now _ front refl refl refl refl;
     }
+
+pub returns-clause-sums : goal.returns-clause-sums
+returns-clause-sums c has =
+    absurd (sums_short c.args.side c.args.bytes.now c.min-count.result c.min-count.ensures
+    c.if-count-eq-MAGIC_LENGTH.false has)

@@ -1,5 +1,5 @@
 use Rattle.std.proofs.Common.{rules}
-use Rattle.lk_summed_disk.proofs.DiskLaws.{append_decoded, append_holds, append_some, append_sound}
+use Rattle.lk_summed_disk.proofs.DiskLaws.{append_decoded, append_holds, append_some, append_sound, append_begins}
 use Rattle.lk_summed_disk.proofs.steps.append_piece.Goals as goal
 
 pub returns-clause-holds : goal.returns-clause-holds
@@ -30,3 +30,9 @@ returns-in-Ok-clause-ok g c honest holds =
     (g.D.LogDisk.disk c.append.new.self c.args.side)
     c.args.piece.now c.deref.result.now c.args.place c.in-Some.form holds
     (search rules) (search rules) (c.in-Ok.ensures.ok honest)
+
+pub returns-in-Ok-clause-begins : goal.returns-in-Ok-clause-begins
+returns-in-Ok-clause-begins g c honest holds sums none =
+    append_begins c.args.side (g.D.LogDisk.disk c.args.device.now c.args.side)
+    (g.D.LogDisk.disk c.append.new.self c.args.side) c.deref.result.now c.args.place holds none
+    (c.in-Ok.ensures.ok honest) (search rules)

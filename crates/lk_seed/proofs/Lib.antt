@@ -1,0 +1,4 @@
+pub mod FenceLaws
+pub mod MemberLaws
+pub mod StoreLaws
+pub mod SurvivorLaws

@@ -1,0 +1,6 @@
+pub mod Fences
+pub mod Histories
+pub mod MemberValue
+pub mod Survivors
+pub mod Seedings
+pub mod Words
