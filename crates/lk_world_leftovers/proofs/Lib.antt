@@ -1,11 +1,11 @@
 mod Keeping
 mod Telling
-mod Filling
+pub mod Filling
 mod Taking
 mod Catching
-mod Serving
-mod Promising
-mod Collecting
+pub mod Serving
+pub mod Promising
+pub mod Collecting
 mod Exchanging
 mod Fixed
 mod Lasting
@@ -15,7 +15,7 @@ mod Asking
 mod Installing
 mod Parting
 mod Leveling
-mod Retrying
+pub mod Retrying
 mod Persisting
 mod Restarted
 mod Interrupted

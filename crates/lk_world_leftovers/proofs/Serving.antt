@@ -48,6 +48,7 @@ use Rattle.lk_replica.specs.ReplicaValue.{ReplicaValue}
 use Rattle.lk_sim.specs.Events.{IsAsked}
 use Rattle.lk_sim.specs.Scenes.{Scene}
 use Rattle.lk_sim.specs.Traces.{told_in}
+use Rattle.lk_sim.specs.declared.event.Event.TheVariants as event
 use Rattle.lk_sim_nodes.specs.declared.seat.Life.{Life}
 use Rattle.lk_sim_nodes.specs.declared.seat.Life.TheVariants.{Up}
 use Rattle.lk_sim_nodes.specs.declared.seat.Seat.{Seat}
@@ -60,23 +61,23 @@ use Rattle.lk_world_progress.proofs.Shadowing.{ShadowTakes, ShadowTakesAll, shad
 use Rattle.lk_world_progress.proofs.Shadowing.{shadow_in_turn, shadows_itself}
 use Rattle.lk_world_progress.proofs.Stepping.{found_header, has_header, up_fits}
 use Rattle.lk_world_progress.specs.Balloting.{HasSentTo}
-use Rattle.lk_world_progress.specs.Delivering.{InstallsNothing}
+use Rattle.lk_world_progress.specs.Delivering.{Hears, HearsEach, HearsInTurn, InstallsNothing}
 use Rattle.lk_world_progress.specs.Exchanging.{HasAnswered, HasNoted}
-use Rattle.lk_world_progress.specs.Stepping.{IsUpAs, Lives}
+use Rattle.lk_world_progress.specs.Stepping.{GoesWell, IsUpAs, Lives}
 use Rattle.lk_world_leftovers.proofs.Keeping.{voter_snapshot}
 use Rattle.lk_world_leftovers.specs.Answering.{IsReadyIn, IsServed, ReadyLeaderAnswers, Serves, vote_in}
 
-module _ (m : Meaning) (IsText : List ℕ → Type 0) (keeps : KeepsTexts IsText m)
-    (proposes_law : FreshRequestIsProposed m IsText) (near_law : NearNodeAccepts m IsText)
-    (answers_law : AcceptedRequestIsAnswered m IsText) (x : ℕ) (leader : ReplicaValue) (t : TermValue)
-    (set : List Member) (r : RequestValue) (others : List ℕ) (first last : Scene ReplicaValue)
-    (k : IsReadyIn m IsText first x leader t set others)
+-- The steps of a run, as far as it has come: first the request, then the votes, and then the replies.
+module _ (m : Meaning) (IsText : List ℕ → Type 0) (proposes_law : FreshRequestIsProposed m IsText) (x : ℕ)
+    (leader : ReplicaValue) (t : TermValue) (set : List Member) (r : RequestValue) (others : List ℕ)
+    (first : Scene ReplicaValue) (k : IsReadyIn m IsText first x leader t set others)
     (fresh : is_new (session_of r.client leader.node.learner.whole.sessions) r.number ≡ true)
-    (run : Serves m IsText x leader t r others first last) where
+    (requested : Scene ReplicaValue) (requests : GoesWell m IsText first (event.Client x r) requested)
+    (proposed : Scene ReplicaValue) (proposes : Hears m IsText x (content.Request r) requested proposed) where
   abbrev e : ℕ
   e = executed leader.node.learner
 
-  abbrev vote : Vote
+  abbrev pub vote : Vote
   vote = vote_in leader t r
 
   abbrev accept : Content
@@ -90,19 +91,19 @@ module _ (m : Meaning) (IsText : List ℕ → Type 0) (keeps : KeepsTexts IsText
 
   -- ---- the request
 
-  asking : IsAsked first run.requested x r
-  asking = run.requests.done.1
+  asking : IsAsked first requested x r
+  asking = requests.done.1
 
-  requested_lives : (n : ℕ) (life : Life ReplicaValue) → Lives first n life → Lives run.requested n life
+  requested_lives : (n : ℕ) (life : Life ReplicaValue) → Lives first n life → Lives requested n life
   requested_lives n life l =
       subst (λ (seats : List (Seat ReplicaValue)). Contains seats (record { number = n; life = life }))
       (sym asking.seats) l
 
-  request : TakesFrom m IsText x (content.Request r) run.requested run.proposed
-  request = heard_from m IsText x (content.Request r) run.requested run.proposed run.proposes
+  request : TakesFrom m IsText x (content.Request r) requested proposed
+  request = heard_from m IsText x (content.Request r) requested proposed proposes
 
   one : ShadowTakes m IsText leader.node (content.Request r) request.after.node request.out
-  one = shadow_from m IsText leader.node x (content.Request r) run.requested run.proposed leader run.requests.after
+  one = shadow_from m IsText leader.node x (content.Request r) requested proposed leader requests.after
       (requested_lives x (Up leader) k.up) tt request
       (shadows_itself leader.node (omega (arith, k.own.within)) k.own.from.near.snapshot) tt
 
@@ -134,197 +135,219 @@ module _ (m : Meaning) (IsText : List ℕ → Type 0) (keeps : KeepsTexts IsText
   ballot_is : asks.term.ballot ≡ t.ballot
   ballot_is = ap (λ (v : Vote). v.ballot) asks.vote
 
-  -- ---- the votes
-
-  accepted : EachHeard m IsText accept (x ∷ others) run.proposed run.accepted
-  accepted = each_heard m IsText accept (x ∷ others) run.proposed run.accepted run.proposes.goes.after tt k.distinct
-      run.accepts
-
-  own_vote : HeardIt m IsText x accept request.after run.accepted
-  own_vote = accepted.heard x request.after (0, omega arith, refl) request.is
-
-  two : ShadowTakes m IsText asked accept own_vote.after.node own_vote.out
-  two = shadow_hears m IsText asked x accept request.after run.accepted own_vote one.shadows
-      (omega (arith, ap (λ (l : LearnerValue). executed l) asks.learner))
-
-  abbrev voted : NodeValue
-  voted = two.shadow_after
-
-  casts : Accepts asked x vote voted own_vote.out
-  casts = near_law asked voted x vote own_vote.out (near_vote asked vote asked_votes) two.takes
-
-  -- another node
-  module _ (n : ℕ) (other : Contains others n) where
-    apart : n ≡ x → ⊥
-    apart is = k.distinct.0 (subst (λ (j : ℕ). Contains others j) is other)
-
-    abbrev voter : ReplicaValue
-    voter = (k.voters n other).0
-
-    voter_up : IsUpAs run.proposed n voter
-    voter_up = request.others n (Up voter) apart (requested_lives n (Up voter) (k.voters n other).1)
-
-    voting : HeardIt m IsText n accept voter run.accepted
-    voting = accepted.heard n voter (contains_more x others n other) voter_up
-
-    other_casts : Accepts voting.start x vote voting.after.node voting.out
-    other_casts = near_law voting.start voting.after.node x vote voting.out
-        (near_vote voting.start vote (found_has voter voting.start voting.found
-        (λ node. IsVoterAt node t.ballot (e + 1)) (voter_snapshot voter.node t.ballot (e + 1)) (k.voters n other).2))
-        voting.takes
-
-    other_sent : HasSentTo run.accepted n x (kinds.Accepted vote)
-    other_sent = sent_as run.proposed run.accepted n x voting.start (kinds.Accepted vote)
-        (found_header voter voting.start voting.found
-        ∙ has_header m IsText run.proposed run.proposes.goes.after n voter voter_up) accepted.genesis
-        (voting.sent (letter_to voting.start (kinds.Accepted vote) x) other_casts.told)
-
-  own_sent : HasSentTo run.accepted x x (kinds.Accepted vote)
-  own_sent = sent_as run.proposed run.accepted x x asked (kinds.Accepted vote)
-      (shadow_header asked request.after.node one.shadows
-      ∙ has_header m IsText run.proposed run.proposes.goes.after x request.after request.is) accepted.genesis
-      (own_vote.sent (letter_to asked (kinds.Accepted vote) x) casts.told)
-
-  replied : (n : ℕ) → Contains (x ∷ others) n → HasSentTo run.accepted n x (kinds.Accepted vote)
-  replied n c = elim (cons_cases x others n c) [
-    | inl is ↦ subst (λ (j : ℕ). HasSentTo run.accepted j x (kinds.Accepted vote)) is own_sent
-    | inr other ↦ other_sent n other
-  ]
-
-  proposed_sent : (n : ℕ) → Contains (nodes_of set) n → HasSentTo run.proposed x n (kinds.Accept vote)
-  proposed_sent n d = sent_as run.requested run.proposed x n leader.node (kinds.Accept vote)
-      (has_header m IsText run.requested run.requests.after x leader (requested_lives x (Up leader) k.up))
+  pub proposed_sent : (n : ℕ) → Contains (nodes_of set) n → HasSentTo proposed x n (kinds.Accept vote)
+  proposed_sent n d = sent_as requested proposed x n leader.node (kinds.Accept vote)
+      (has_header m IsText requested requests.after x leader (requested_lives x (Up leader) k.up))
       request.genesis
-      (among x request.out.letters run.requested run.proposed request.sent
+      (among x request.out.letters requested proposed request.sent
       (letter_to leader.node (kinds.Accept vote) n) (asks.told n d))
 
-  -- ---- the replies
+  module _ (near_law : NearNodeAccepts m IsText) (polled : Scene ReplicaValue)
+      (polls : HearsEach m IsText (content.Node x (kinds.Accept (vote_in leader t r))) (x ∷ others) proposed polled)
+    where
+      -- ---- the votes
 
-  three : ShadowTakesAll m IsText x (acceptances (x ∷ others) (vote_in leader t r)) voted run.accepted last
-  three = shadow_in_turn m IsText x (acceptances (x ∷ others) (vote_in leader t r)) voted run.accepted last
-      own_vote.after accepted.holds own_vote.is two.shadows
-      (each_acceptance InstallsNothing (vote_in leader t r) (λ n. tt) (x ∷ others))
-      (each_acceptance (λ y. (i : ℕ) → IsPlain i y) (vote_in leader t r) (λ n i. tt) (x ∷ others)) run.replies
+      accepted : EachHeard m IsText accept (x ∷ others) proposed polled
+      accepted = each_heard m IsText accept (x ∷ others) proposed polled proposes.goes.after tt k.distinct
+          polls
 
-  voted_learner : voted.learner ≡ leader.node.learner
-  voted_learner = casts.learner ∙ asks.learner
+      own_vote : HeardIt m IsText x accept request.after polled
+      own_vote = accepted.heard x request.after (0, omega arith, refl) request.is
 
-  module _ (h : Handled m IsText asked accept voted own_vote.out) where
-    voted_leader : h.mid.leader ≡ asked.leader
-    voted_leader = keeps_leader (with_round t.ballot asked) h.mid x _ h.first h.handles asks.term asks.proposed.current
-        (ap (λ (a : AcceptorValue). a.state.promised)
-        (sym (same_acceptor m IsText asked accept voted own_vote.out h))
-        ∙ ap (λ (a : AcceptorValue). a.state.promised) casts.acceptor ∙ sym ballot_is)
+      two : ShadowTakes m IsText asked accept own_vote.after.node own_vote.out
+      two = shadow_hears m IsText asked x accept request.after polled own_vote one.shadows
+          (omega (arith, ap (λ (l : LearnerValue). executed l) asks.learner))
 
-    proposing : HasProposed h.mid asks.term set (Request r) []
-    proposing = carried asked h.mid asks.term set (Request r) [] asks.proposed voted_leader
-        (sym (same_learner m IsText asked accept voted own_vote.out h) ∙ casts.learner)
+      abbrev voted : NodeValue
+      voted = two.shadow_after
 
-    still : (u : TermValue) × (u.ballot ≡ asks.term.ballot) × HasProposed voted u set (Request r) []
-    still = goes_on_proposing h.proposes.0 h.mid voted h.first own_vote.out asks.term set (Request r) [] h.proposes.1
-        proposing
+      casts : Accepts asked x vote voted own_vote.out
+      casts = near_law asked voted x vote own_vote.out (near_vote asked vote asked_votes) two.takes
 
-    waits : WaitsFresh voted r
-    waits = record {
-      waits = subst (λ (rs : List RequestValue). waiting_of r.client rs ≡ Some r)
-          (sym (goes_on_waiting h.proposes.0 h.mid voted h.first own_vote.out h.proposes.1
-          ∙ ap (λ (l : LeaderValue). l.waiting) voted_leader)) asks.waits.waits;
-      fresh = subst (λ (l : LearnerValue). is_new (session_of r.client l.whole.sessions) r.number ≡ true)
-          (sym voted_learner) fresh;
-    }
+      -- another node
+      module _ (n : ℕ) (other : Contains others n) where
+        apart : n ≡ x → ⊥
+        apart is = k.distinct.0 (subst (λ (j : ℕ). Contains others j) is other)
 
-    voted_header : voted.header ≡ leader.node.header
-    voted_header = proposed_header h.proposes.0 h.mid voted h.first own_vote.out h.proposes.1
-        ∙ keeps_header (with_round t.ballot asked) h.mid x _ h.first h.handles ∙ asks.header
+        abbrev voter : ReplicaValue
+        voter = (k.voters n other).0
 
-    vote_is : vote_for_next voted still.0 (Request r) ≡ vote_in leader t r
-    vote_is = λ i. record {
-      position = executed (voted_learner i) + 1;
-      ballot = (still.1 ∙ ballot_is) i;
-      command = Request r;
-    }
+        voter_up : IsUpAs proposed n voter
+        voter_up = request.others n (Up voter) apart (requested_lives n (Up voter) (k.voters n other).1)
 
-    answer_told : Contains three.letters (answer_letter m leader.node r)
-    answer_told = subst (λ (l : LetterValue). Contains three.letters l)
-        (λ i. answer_letter m (record leader.node { header = voted_header i; learner = voted_learner i }) r)
-        (answers_law voted three.shadow_after still.0 set r [] (x ∷ others) three.letters still.2 waits k.majority
-        (subst (λ (v : Vote). TakesEach m IsText (acceptances (x ∷ others) v) voted three.shadow_after three.letters)
-        (sym vote_is) three.takes))
+        voting : HeardIt m IsText n accept voter polled
+        voting = accepted.heard n voter (contains_more x others n other) voter_up
 
-  genesis_is : last.genesis ≡ first.genesis
-  genesis_is = three.genesis ∙ accepted.genesis ∙ request.genesis ∙ asking.adds.genesis
+        other_casts : Accepts voting.start x vote voting.after.node voting.out
+        other_casts = near_law voting.start voting.after.node x vote voting.out
+            (near_vote voting.start vote (found_has voter voting.start voting.found
+            (λ node. IsVoterAt node t.ballot (e + 1)) (voter_snapshot voter.node t.ballot (e + 1))
+            (k.voters n other).2))
+            voting.takes
 
-  -- ---- the answer
+        other_sent : HasSentTo polled n x (kinds.Accepted vote)
+        other_sent = sent_as proposed polled n x voting.start (kinds.Accepted vote)
+            (found_header voter voting.start voting.found
+            ∙ has_header m IsText proposed proposes.goes.after n voter voter_up) accepted.genesis
+            (voting.sent (letter_to voting.start (kinds.Accepted vote) x) other_casts.told)
 
-  abbrev answer : Answered
-  answer =
-      record { client = r.client; number = r.number; answer = (session_for m leader.node.learner.whole r).answer }
+      own_sent : HasSentTo polled x x (kinds.Accepted vote)
+      own_sent = sent_as proposed polled x x asked (kinds.Accepted vote)
+          (shadow_header asked request.after.node one.shadows
+          ∙ has_header m IsText proposed proposes.goes.after x request.after request.is) accepted.genesis
+          (own_vote.sent (letter_to asked (kinds.Accepted vote) x) casts.told)
 
-  answer_from : Contains last.sent (record {
-    from = party.Node x;
-    to = party.Client r.client;
-    bytes = spelling (said_by last.genesis x (kinds.Answer answer));
-  })
-  answer_from = subst (λ (g : Genesis). Contains last.sent (record {
-    from = party.Node x;
-    to = party.Client r.client;
-    bytes = spelling (said_by g x (kinds.Answer answer));
-  })) (sym genesis_is)
-      (subst (λ (h : HeaderValue). Contains last.sent (record {
-        from = party.Node x;
-        to = party.Client r.client;
-        bytes = spelling (record { cluster = h.cluster; content = content.Node h.node (kinds.Answer answer) });
-      })) header_is
-      (among x three.letters run.accepted last three.sent (answer_letter m leader.node r)
-      (answer_told (handled m IsText asked accept voted own_vote.out two.takes))))
+      pub replied : (n : ℕ) → Contains (x ∷ others) n → HasSentTo polled n x (kinds.Accepted vote)
+      replied n c = elim (cons_cases x others n c) [
+        | inl is ↦ subst (λ (j : ℕ). HasSentTo polled j x (kinds.Accepted vote)) is own_sent
+        | inr other ↦ other_sent n other
+      ]
 
-  answer_sent : HasAnswered m last leader.node r
-  answer_sent = subst (λ (n : ℕ). Contains last.sent (record {
-    from = party.Node n;
-    to = party.Client r.client;
-    bytes = spelling (said_by last.genesis n (kinds.Answer answer));
-  })) (sym number_is) answer_from
+      module _ (keeps : KeepsTexts IsText m) (answers_law : AcceptedRequestIsAnswered m IsText)
+          (last : Scene ReplicaValue)
+          (replies : HearsInTurn m IsText x (acceptances (x ∷ others) (vote_in leader t r)) polled last) where
+        -- ---- the replies
 
-  answer_valid : IsMessage (said_by last.genesis x (kinds.Answer answer))
-  answer_valid =
-      let u = up_fits m IsText first k.holds x leader k.up in
-      let kept = u.shown.keeps in
-      let h = header_fits kept.entries (plain kept.loose) first.genesis x kept.header kept.holds.on.fit in
-      let asked_fits = run.proposes.spelled.0.1 in
-      subst (λ (g : Genesis). IsMessage (said_by g x (kinds.Answer answer))) (sym genesis_is) (
-        h.0,
-        (
-          h.1,
-          (
-            asked_fits.0,
-            asked_fits.1,
-            answer_fits m IsText keeps first.genesis first.sent u.holding.paxos.done leader.node.learner.whole r
-                (genesis_fits first.genesis x h) u.fits.paxos.stems.done u.shown.held.follows.sums
-                k.ready.room asked_fits fresh,
-          ),
-        ),
-      )
+        three : ShadowTakesAll m IsText x (acceptances (x ∷ others) (vote_in leader t r)) voted polled last
+        three = shadow_in_turn m IsText x (acceptances (x ∷ others) (vote_in leader t r)) voted polled last
+            own_vote.after accepted.holds own_vote.is two.shadows
+            (each_acceptance InstallsNothing (vote_in leader t r) (λ n. tt) (x ∷ others))
+            (each_acceptance (λ y. (i : ℕ) → IsPlain i y) (vote_in leader t r) (λ n i. tt) (x ∷ others)) replies
 
-  answer_noted : HasNoted m last leader.node r
-  answer_noted = subst (λ (n : ℕ). Contains last.trace (note.Answered n r.client r.number answer.answer))
-      (sym number_is)
-      (from_trace last.trace (note.Answered x r.client r.number answer.answer)
-      (noted last.sent (told_in last.trace) three.holds.told (record {
-        from = party.Node x;
-        to = party.Client r.client;
-        bytes = spelling (said_by last.genesis x (kinds.Answer answer));
-      }) answer_from (said_by last.genesis x (kinds.Answer answer)) (answer_valid, refl)
-      (note.Answered x r.client r.number answer.answer) (0, omega arith, refl)))
+        voted_learner : voted.learner ≡ leader.node.learner
+        voted_learner = casts.learner ∙ asks.learner
 
-  served : IsServed m IsText x leader t set r others first last run
-  served = record {
-    proposes = proposed_sent;
-    accepts = replied;
-    answers = answer_sent;
-    notes = answer_noted;
-  }
+        module _ (h : Handled m IsText asked accept voted own_vote.out) where
+          voted_leader : h.mid.leader ≡ asked.leader
+          voted_leader = keeps_leader (with_round t.ballot asked) h.mid x _ h.first h.handles asks.term
+              asks.proposed.current
+              (ap (λ (a : AcceptorValue). a.state.promised)
+              (sym (same_acceptor m IsText asked accept voted own_vote.out h))
+              ∙ ap (λ (a : AcceptorValue). a.state.promised) casts.acceptor ∙ sym ballot_is)
+
+          proposing : HasProposed h.mid asks.term set (Request r) []
+          proposing = carried asked h.mid asks.term set (Request r) [] asks.proposed voted_leader
+              (sym (same_learner m IsText asked accept voted own_vote.out h) ∙ casts.learner)
+
+          still : (u : TermValue) × (u.ballot ≡ asks.term.ballot) × HasProposed voted u set (Request r) []
+          still = goes_on_proposing h.proposes.0 h.mid voted h.first own_vote.out asks.term set (Request r) []
+              h.proposes.1
+              proposing
+
+          waits : WaitsFresh voted r
+          waits = record {
+            waits = subst (λ (rs : List RequestValue). waiting_of r.client rs ≡ Some r)
+                (sym (goes_on_waiting h.proposes.0 h.mid voted h.first own_vote.out h.proposes.1
+                ∙ ap (λ (l : LeaderValue). l.waiting) voted_leader)) asks.waits.waits;
+            fresh = subst (λ (l : LearnerValue). is_new (session_of r.client l.whole.sessions) r.number ≡ true)
+                (sym voted_learner) fresh;
+          }
+
+          voted_header : voted.header ≡ leader.node.header
+          voted_header = proposed_header h.proposes.0 h.mid voted h.first own_vote.out h.proposes.1
+              ∙ keeps_header (with_round t.ballot asked) h.mid x _ h.first h.handles ∙ asks.header
+
+          vote_is : vote_for_next voted still.0 (Request r) ≡ vote_in leader t r
+          vote_is = λ i. record {
+            position = executed (voted_learner i) + 1;
+            ballot = (still.1 ∙ ballot_is) i;
+            command = Request r;
+          }
+
+          answer_told : Contains three.letters (answer_letter m leader.node r)
+          answer_told = subst (λ (l : LetterValue). Contains three.letters l)
+              (λ i. answer_letter m (record leader.node { header = voted_header i; learner = voted_learner i }) r)
+              (answers_law voted three.shadow_after still.0 set r [] (x ∷ others) three.letters still.2 waits k.majority
+              (subst (λ (v : Vote). TakesEach m IsText (acceptances (x ∷ others) v) voted three.shadow_after
+              three.letters)
+              (sym vote_is) three.takes))
+
+        genesis_is : last.genesis ≡ first.genesis
+        genesis_is = three.genesis ∙ accepted.genesis ∙ request.genesis ∙ asking.adds.genesis
+
+        -- ---- the answer
+
+        abbrev answer : Answered
+        answer =
+            record { client = r.client; number = r.number; answer = (session_for m leader.node.learner.whole r).answer }
+
+        answer_from : Contains last.sent (record {
+          from = party.Node x;
+          to = party.Client r.client;
+          bytes = spelling (said_by last.genesis x (kinds.Answer answer));
+        })
+        answer_from = subst (λ (g : Genesis). Contains last.sent (record {
+          from = party.Node x;
+          to = party.Client r.client;
+          bytes = spelling (said_by g x (kinds.Answer answer));
+        })) (sym genesis_is)
+            (subst (λ (h : HeaderValue). Contains last.sent (record {
+              from = party.Node x;
+              to = party.Client r.client;
+              bytes = spelling (record { cluster = h.cluster; content = content.Node h.node (kinds.Answer answer) });
+            })) header_is
+            (among x three.letters polled last three.sent (answer_letter m leader.node r)
+            (answer_told (handled m IsText asked accept voted own_vote.out two.takes))))
+
+        answer_sent : HasAnswered m last leader.node r
+        answer_sent = subst (λ (n : ℕ). Contains last.sent (record {
+          from = party.Node n;
+          to = party.Client r.client;
+          bytes = spelling (said_by last.genesis n (kinds.Answer answer));
+        })) (sym number_is) answer_from
+
+        answer_valid : IsMessage (said_by last.genesis x (kinds.Answer answer))
+        answer_valid =
+            let u = up_fits m IsText first k.holds x leader k.up in
+            let kept = u.shown.keeps in
+            let h = header_fits kept.entries (plain kept.loose) first.genesis x kept.header kept.holds.on.fit in
+            let asked_fits = proposes.spelled.0.1 in
+            subst (λ (g : Genesis). IsMessage (said_by g x (kinds.Answer answer))) (sym genesis_is) (
+              h.0,
+              (
+                h.1,
+                (
+                  asked_fits.0,
+                  asked_fits.1,
+                  answer_fits m IsText keeps first.genesis first.sent u.holding.paxos.done leader.node.learner.whole r
+                      (genesis_fits first.genesis x h) u.fits.paxos.stems.done u.shown.held.follows.sums
+                      k.ready.room asked_fits fresh,
+                ),
+              ),
+            )
+
+        answer_noted : HasNoted m last leader.node r
+        answer_noted = subst (λ (n : ℕ). Contains last.trace (note.Answered n r.client r.number answer.answer))
+            (sym number_is)
+            (from_trace last.trace (note.Answered x r.client r.number answer.answer)
+            (noted last.sent (told_in last.trace) three.holds.told (record {
+              from = party.Node x;
+              to = party.Client r.client;
+              bytes = spelling (said_by last.genesis x (kinds.Answer answer));
+            }) answer_from (said_by last.genesis x (kinds.Answer answer)) (answer_valid, refl)
+            (note.Answered x r.client r.number answer.answer) (0, omega arith, refl)))
+
+        abbrev run : Serves m IsText x leader t r others first last
+        run = record {
+          requested = requested;
+          requests = requests;
+          proposed = proposed;
+          proposes = proposes;
+          accepted = polled;
+          accepts = polls;
+          replies = replies;
+        }
+
+        served : IsServed m IsText x leader t set r others first last run
+        served = record {
+          proposes = proposed_sent;
+          accepts = replied;
+          answers = answer_sent;
+          notes = answer_noted;
+        }
 
 pub ready_answers : (m : Meaning) (IsText : List ℕ → Type 0) → KeepsTexts IsText m → FreshRequestIsProposed m IsText
     → NearNodeAccepts m IsText → AcceptedRequestIsAnswered m IsText → ReadyLeaderAnswers m IsText
 ready_answers m IsText keeps proposes_law near_law answers_law x leader t set r others first last k fresh run =
-    served m IsText keeps proposes_law near_law answers_law x leader t set r others first last k fresh run
+    served m IsText proposes_law x leader t set r others first k fresh run.requested run.requests run.proposed
+    run.proposes near_law run.accepted run.accepts keeps answers_law last run.replies

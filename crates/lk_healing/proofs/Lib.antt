@@ -1,0 +1,10 @@
+mod Carrying
+mod Places
+mod Hands
+mod Asks
+mod Waits
+mod Serves
+mod Polls
+mod Leads
+mod Quiet
+mod News
