@@ -5,8 +5,8 @@ use Rattle.std.proofs.lemmas.Fmt.{decimal_injective}
 use Rattle.lk_types.specs.Ranges.{IsClient}
 use Rattle.lk_word_parsers.specs.Words.{HasNo}
 use Rattle.lk_word_parsers.proofs.Splits.{one_parting, has_sign, number_has_no}
-use Rattle.lk_transport.specs.Admins.{nobody, admitting}
-use Rattle.lk_transport.specs.declared.admins.Admins.{Admins}
+use Rattle.lk_address_book.specs.Admins.{nobody, admitting}
+use Rattle.lk_address_book.specs.declared.admins.Admins.{Admins}
 use Rattle.lk_command_line.specs.Spellings.{Spells, SpellsNone}
 use Rattle.lk_command_line.specs.Admins.{AddsClients}
 use Rattle.lk_command_line.specs.Admins.AddsClients.{one, more}

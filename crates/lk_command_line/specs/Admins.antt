@@ -1,9 +1,9 @@
 -- The admins that the word of an argument names.
 use Rattle.std.specs.Prelude.{◌≡◌, ℕ, List, ◌∷◌, ◌++◌, Option, None, Some}
 use Rattle.lk_types.specs.Ranges.{IsClient}
-use Rattle.lk_transport.specs.Admins.{nobody, admitting}
-use Rattle.lk_transport.specs.declared.admins.Admins.{Admins}
-use Rattle.lk_transport.specs.declared.admins.Admins.TheVariants.{Everyone}
+use Rattle.lk_address_book.specs.Admins.{nobody, admitting}
+use Rattle.lk_address_book.specs.declared.admins.Admins.{Admins}
+use Rattle.lk_address_book.specs.declared.admins.Admins.TheVariants.{Everyone}
 use Rattle.lk_command_line.specs.Arguments.{Names}
 use Rattle.lk_command_line.specs.Spellings.{Spells}
 use Rattle.lk_command_line.specs.declared.argument_error.ArgumentError.{ArgumentError}

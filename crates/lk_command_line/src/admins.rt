@@ -4,13 +4,13 @@ ghost use Rattle.std.specs.Prelude.{◌≡◌, IfOk, IfErr, IfSome, IsNone, code
 ghost use Rattle.clap.specs.Matches.{found_of, first_value};
 ghost use Rattle.lk_command_line.specs.Admins.{AreAdmins, AddsClients, IsNoList};
 ghost use Rattle.lk_command_line.specs.Arguments.{word_of};
-ghost use Rattle.lk_transport.specs.Admins.{nobody};
-ghost use Rattle.lk_transport.specs.declared.admins.Admins.{Admins as AdminsValue};
+ghost use Rattle.lk_address_book.specs.Admins.{nobody};
+ghost use Rattle.lk_address_book.specs.declared.admins.Admins.{Admins as AdminsValue};
 
 use crate::argument_error::{ArgumentError, invalid_word};
 use crate::values::client_of;
 use clap::ArgMatches;
-use lk_transport::admins::Admins;
+use lk_address_book::admins::Admins;
 use lk_word_parsers::word::split_once;
 
 // Reads clients, one or more, separated by commas, as a list of admins. `None` if a word spells no client.

@@ -54,6 +54,8 @@ const SUBCOMMANDS: &[Usage] = &[
         (Kind::Word, "port", "the UDP port of the node"),
         (Kind::Word, "dir", "the folder of its files"),
         (Kind::Flag, "existing", "begins no store: ends if the folder has none"),
+        (Kind::Flag, "sums",
+            "writes the next snapshot, and all after it, with sums that show changed bytes; older programs cannot read them"),
         (Kind::Given, "hosts", "a file of lines NODE ADDRESS: where each node lives"),
         (Kind::Given, "bind",
             "the address at which the node listens; by default that of its line in the hosts, or 127.0.0.1"),
@@ -71,6 +73,7 @@ const SUBCOMMANDS: &[Usage] = &[
         (Kind::Word, "genesis", "CLUSTER,ALPHA,NODE:PORT,.."),
         (Kind::Word, "number", "the number of the node"),
         (Kind::Word, "dir", "the folder of its files"),
+        (Kind::Flag, "sums", "writes the store with sums that show changed bytes; older programs cannot read it"),
     ]),
     ("ask", "sends a request to a node, and prints the reply", &[
         (Kind::Word, "cluster", "the number of the cluster"),
@@ -107,6 +110,9 @@ const SUBCOMMANDS: &[Usage] = &[
     ("inspect", "prints the members, the locks and the position of a folder's store", &[
         (Kind::Word, "dir", "the folder of a node's files"),
         (Kind::Flag, "all", "prints the names that are free too, each with its last fence"),
+    ]),
+    ("scrub", "checks the sums of a folder's store, also while a node runs on it", &[
+        (Kind::Word, "dir", "the folder of a node's files"),
     ]),
     ("seed", "begins a new cluster whose fences are above those of a lost one", &[
         (Kind::Several, "from", "a folder that the lost cluster has left"),

@@ -16,20 +16,20 @@ appends_kept (Some xs) None c x f g = absurd f
 appends_kept (Some xs) (Some ys) None x f g = absurd g
 appends_kept (Some xs) (Some ys) (Some zs) x f g = g ∙ f
 
-pub dumped : (image : Image) (found : Option LiveFile) (is_store : Bool) (a b c : Option (List ℕ))
+pub dumped : (sums : Bool) (image : Image) (found : Option LiveFile) (is_store : Bool) (a b c : Option (List ℕ))
     → IfSome found (λ x. Shows image x.generation x.format x.standing) → (found ≡ None → IsEmpty image)
-    → is_store ≡ is_some found → Appends a b (found_text found) → Keeps b c
-    → (text : List ℕ) × Dumps image is_store text × Appends a c text
-dumped image None is_store a b c shows empty is wrote kept = (
-  found_text None,
-  subst (λ (s : Bool). Dumps image s (found_text None)) (sym is) (empty refl, refl),
-  appends_kept a b c (found_text None) wrote kept,
+    → is_store ≡ is_some found → Appends a b (found_text sums found) → Keeps b c
+    → (text : List ℕ) × Dumps sums image is_store text × Appends a c text
+dumped sums image None is_store a b c shows empty is wrote kept = (
+  found_text sums None,
+  subst (λ (s : Bool). Dumps sums image s (found_text sums None)) (sym is) (empty refl, refl),
+  appends_kept a b c (found_text sums None) wrote kept,
 )
-dumped image (Some live) is_store a b c shows empty is wrote kept = (
-  found_text (Some live),
-  subst (λ (s : Bool). Dumps image s (found_text (Some live))) (sym is)
+dumped sums image (Some live) is_store a b c shows empty is wrote kept = (
+  found_text sums (Some live),
+  subst (λ (s : Bool). Dumps sums image s (found_text sums (Some live))) (sym is)
       (live.generation, live.format, live.standing, shows, refl),
-  appends_kept a b c (found_text (Some live)) wrote kept,
+  appends_kept a b c (found_text sums (Some live)) wrote kept,
 )
 
 -- one line after another

@@ -1,3 +1,4 @@
 pub mod Inspections
 pub mod Dumps
 pub mod Lines
+pub mod Scrubs

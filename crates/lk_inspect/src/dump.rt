@@ -4,7 +4,7 @@ ghost use Rattle.std.specs.Io.KnownBytes.{Appends};
 ghost use Rattle.std.specs.Prelude.{◌≡◌, ◌≤◌, ◌++◌, List, ℕ, is_some, IfOk, OnOk, IsErrOf};
 ghost use Rattle.lk_disk.specs.declared.device.Side.{Side};
 ghost use Rattle.lk_log.specs.Images.{seen, IsDamaged};
-ghost use Rattle.lk_inspect.specs.Dumps.{number_line, promised_line, live_text, found_text, Dumps};
+ghost use Rattle.lk_inspect.specs.Dumps.{number_line, promised_line, format_shown, live_text, found_text, Dumps};
 
 use lk_disk::LogDisk;
 use lk_log::{LiveFile, look};
@@ -32,28 +32,29 @@ fn write_promised<W: Write>(promised: Ballot, out: &mut W) -> io::Result<()>
 }
 
 // Writes one line each for the generation of the live file, the promised ballot (`0 0` if there is none), the
-// snapshot's position, the counts of votes and decided commands above it, and the format of the file.
-fn write_live<W: Write>(live: &LiveFile, out: &mut W) -> io::Result<()>
+// snapshot's position, the counts of votes and decided commands above it, and the format of the file: 3 if it has sums.
+fn write_live<W: Write>(live: &LiveFile, sums: bool, out: &mut W) -> io::Result<()>
     ensures { OnOk result (Appends (W.contents out.old) (W.contents out.new)
-        (live_text live.now.generation live.now.format live.now.standing)) }
+        (live_text live.now.generation (format_shown sums live.now.format) live.now.standing)) }
 {
     write_number("generation", live.generation, out)?;
     write_promised(live.standing.promised, out)?;
     write_number("snapshot", live.standing.position.get(), out)?;
     write_number("votes", live.standing.votes.len() as u64, out)?;
     write_number("decided", live.standing.pairs.len() as u64, out)?;
-    write_number("format", u64::from(live.format), out)?;
+    let format = if sums { 3 } else { live.format };
+    write_number("format", u64::from(format), out)?;
     Ok(())
 }
 
 // Writes the live file, or `no store`. Returns whether there is a store.
-fn write_found<W: Write>(found: Option<LiveFile>, out: &mut W) -> io::Result<bool>
-    ensures text { IfOk result (λ _. Appends (W.contents out.old) (W.contents out.new) (found_text found)) }
+fn write_found<W: Write>(found: Option<LiveFile>, sums: bool, out: &mut W) -> io::Result<bool>
+    ensures text { IfOk result (λ _. Appends (W.contents out.old) (W.contents out.new) (found_text sums found)) }
     ensures value { IfOk result (λ is_store. is_store ≡ is_some found) }
 {
     match found {
         Some(live) => {
-            write_live(&live, out)?;
+            write_live(&live, sums, out)?;
             Ok(true)
         }
         None => {
@@ -63,22 +64,24 @@ fn write_found<W: Write>(found: Option<LiveFile>, out: &mut W) -> io::Result<boo
     }
 }
 
-/// Writes a summary of the store of a device, without changing it, and flushes. Returns whether there is a store.
+/// Writes a summary of the store of a device, without changing it, and flushes. `sums` is whether its files have sums.
+/// Returns whether there is a store.
 ///
 /// It fails with faults 7, 8 and 9 of the store, or 24 if the output could not be written.
 pub fn dump_device<D: LogDisk, W: Write>(
     alloc: Global,
     device: &mut D,
+    sums: bool,
     out: &mut W,
 ) -> Result<bool, ProgramFault>
     ensures unchanged { D.is_honest → (s : Side) → D.disk device.new s ≡ D.disk device.old s }
     ensures printed { D.is_honest
-        → IfOk result (λ is_store. (text : List ℕ) × Dumps (seen (D.disk device.old)) is_store text
+        → IfOk result (λ is_store. (text : List ℕ) × Dumps sums (seen (D.disk device.old)) is_store text
         × Appends (W.contents out.old) (W.contents out.new) text) }
     ensures damaged { D.is_honest → IsErrOf result ProgramFault.Damaged → IsDamaged (seen (D.disk device.old)) }
 {
     let found = look(alloc, device)?;
-    let Ok(is_store) = write_found(found, out) else {
+    let Ok(is_store) = write_found(found, sums, out) else {
         return Err(ProgramFault::Write);
     };
     if out.flush().is_err() {
@@ -97,7 +100,8 @@ fn dump_folder<R: Files, W: Write, E: Write>(
     err: &mut E,
 ) -> Result<bool, ProgramFault> {
     let mut device = look_at_device(rt, alloc, folder, err)?;
-    match dump_device(alloc, &mut device, out) {
+    let sums = device.has_frames();
+    match dump_device(alloc, &mut device, sums, out) {
         Ok(is_store) => Ok(is_store),
         Err(fault) => Err(write_refusal(alloc, fault, &mut device, folder, err)),
     }

@@ -2,7 +2,7 @@
 
 ghost use Rattle.std.specs.Io.KnownBytes.{Appends};
 ghost use Rattle.std.specs.Option.{option_copied};
-ghost use Rattle.std.specs.Prelude.{◌≡◌, ◌≤◌, is_some, IfOk, OnOk, IsErrOf};
+ghost use Rattle.std.specs.Prelude.{◌≡◌, ◌≤◌, is_some, codes, IfOk, OnOk, IsErrOf};
 ghost use Rattle.lk_disk.specs.declared.device.Side.{Side};
 ghost use Rattle.lk_log.specs.Images.{seen};
 ghost use Rattle.lk_inspect.specs.Inspections.{Finds, IsSpoilt};
@@ -55,22 +55,30 @@ pub fn inspect_device<D: LogDisk>(
     }
 }
 
-// Returns the summary for the store in a folder, without creating a file. After an error of the store or its files,
-// their message is already on `err`.
+// Returns the summary for the store in a folder, and whether it has sums, without creating a file. After an error of
+// the store or its files, their message is already on `err`.
 fn inspection_in<R: Files, E: Write>(
     rt: &R,
     alloc: Global,
     folder: &str,
     err: &mut E,
-) -> Result<Option<Inspection>, ProgramFault> {
+) -> Result<(Option<Inspection>, bool), ProgramFault> {
     let mut device = look_at_device(rt, alloc, folder, err)?;
     match inspect_device(alloc, &mut device) {
-        Ok(found) => Ok(found),
+        Ok(found) => Ok((found, device.has_frames())),
         Err(fault) => Err(write_refusal(alloc, fault, &mut device, folder, err)),
     }
 }
 
-// Writes the summary for the store in a folder. Returns whether there is a store.
+// Writes the line of the format of a store with sums.
+fn write_format<W: Write>(out: &mut W) -> io::Result<()>
+    ensures { OnOk result (Appends (W.contents out.old) (W.contents out.new) (codes "format 3\n")) }
+{
+    out.write_all(b"format 3\n")?;
+    Ok(())
+}
+
+// Writes the summary for the store in a folder, and its format if it has sums. Returns whether there is a store.
 fn inspect_folder<R: Files, W: Write, E: Write>(
     rt: &R,
     alloc: Global,
@@ -79,7 +87,10 @@ fn inspect_folder<R: Files, W: Write, E: Write>(
     out: &mut W,
     err: &mut E,
 ) -> Result<bool, ProgramFault> {
-    let found = inspection_in(rt, alloc, folder, err)?;
+    let (found, sums) = inspection_in(rt, alloc, folder, err)?;
+    if sums && write_format(out).is_err() {
+        return Err(ProgramFault::Write);
+    }
     write_found(found.as_ref(), listing, out).map_err(|_| ProgramFault::Write)
 }
 

@@ -1,5 +1,5 @@
 -- How `locks node` ends, once it has opened what its node runs on.
-use Rattle.std.specs.Prelude.{◌≡◌, ◌≢◌, ◌≤◌, ◌^◌, ℕ, List, [], Option, Result, MatchResult}
+use Rattle.std.specs.Prelude.{◌≡◌, ◌≢◌, ◌≤◌, ◌^◌, ℕ, Bool, List, [], Option, Result, MatchResult}
 use Rattle.std.specs.declared.net.socket_addr.SocketAddr.{SocketAddr}
 use Rattle.clap.specs.declared.parser.matches.ArgMatches.{ArgMatches}
 use Rattle.lk_disk.specs.Disk.{Disk}
@@ -24,7 +24,7 @@ use Rattle.lk_main.specs.Subcommands.{AreOfSubcommand}
 -- `is_text`, `is_store` and `is_bound` say what the platform's files and sockets are, `honest` that the device is
 -- honest, `disk` what it has, `Says` relates a replica's input to its letters, and `observable` says that the socket
 -- reveals what it sends and finds
-module _ {D S : Type 0} (is_text : List ℕ → List ℕ → Type 0) (is_store : List ℕ → D → Type 0)
+module _ {D S : Type 0} (is_text : List ℕ → List ℕ → Type 0) (is_store : List ℕ → Bool → D → Type 0)
     (is_bound : SocketAddr → S → Type 0) (honest : Type 0) (disk : D → Side → Disk)
     (Says : ReplicaValue → List (Option (List ℕ)) → List LetterValue → ReplicaValue → Type 0) (observable : Type 0)
     (sent : S → List (SocketAddr × List ℕ)) (failures : S → ℕ) (incoming : S → Stream) where

@@ -8,7 +8,6 @@ use Rattle.log.specs.declared.level.Level.{Level}
 use Rattle.log.specs.declared.level.Level.TheVariants.{Info, Debug}
 use Rattle.lk_types.specs.Ranges.{IsClient, IsNode, IsPort}
 use Rattle.lk_word_parsers.specs.Geneses.{SpellsGenesis}
-use Rattle.lk_store_format.specs.Values.{HeaderValue}
 use Rattle.lk_pacing.specs.declared.pace.Pace.{Pace}
 use Rattle.lk_pacing.specs.declared.pace.Pace.TheVariants.{Clock, Datagrams}
 use Rattle.lk_command_line.specs.Admins.{AreAdmins}
@@ -20,6 +19,7 @@ use Rattle.lk_random_schedules.specs.declared.plan.Plan.{Plan}
 use Rattle.lk_node_setup.specs.ClientKeys.{PrintsOf}
 use Rattle.lk_node_setup.specs.declared.network.NetworkOptions.{NetworkOptions}
 use Rattle.lk_node_setup.specs.declared.resources.NodePlan.{NodePlan}
+use Rattle.lk_node_process.specs.declared.first_store.InitPlan.{InitPlan}
 use Rattle.lk_main.specs.declared.plans.AskPlan.{AskPlan}
 
 -- the files are those that the arguments name, and the address is the one that this argument spells
@@ -49,6 +49,8 @@ pub record PlansNode (m : ArgMatches) (p : NodePlan) : Type 0 where
   pub admins : AreAdmins (first_value (found_of m) (codes "admin")) p.options.admins
   pub set : IsSet m (codes "existing") → p.existing ≡ true
   pub unset : IsUnset m (codes "existing") → p.existing ≡ false
+  pub summing : IsSet m (codes "sums") → p.sums ≡ true
+  pub without : IsUnset m (codes "sums") → p.sums ≡ false
   pub bundling : IsSet m (codes "bundle") → p.bundles ≡ true
   pub bare : IsUnset m (codes "bundle") → p.bundles ≡ false
 
@@ -58,11 +60,14 @@ pub record LogsAt (m : ArgMatches) (level : Option Level) : Type 0 where
   pub logging : IsUnset m (codes "verbose") → IsSet m (codes "log") → level ≡ Some Info
   pub silent : IsUnset m (codes "verbose") → IsUnset m (codes "log") → level ≡ None
 
--- the store to begin is that of the node and the genesis that the words spell, and the folder is its word
-pub record PlansInit (m : ArgMatches) (header : HeaderValue) (folder : List ℕ) : Type 0 where
-  pub genesis : SpellsGenesis (word_of m (codes "genesis")) header.cluster header.alpha header.members
-  pub node : Spells IsNode (word_of m (codes "number")) header.node
-  pub named : folder ≡ word_of m (codes "dir")
+-- the store to begin is that of the node and the genesis that the words spell, the folder is its word, and the store
+-- has sums if that is asked for
+pub record PlansInit (m : ArgMatches) (p : InitPlan) : Type 0 where
+  pub genesis : SpellsGenesis (word_of m (codes "genesis")) p.header.cluster p.header.alpha p.header.members
+  pub node : Spells IsNode (word_of m (codes "number")) p.header.node
+  pub folder : p.folder.now ≡ word_of m (codes "dir")
+  pub summing : IsSet m (codes "sums") → p.sums ≡ true
+  pub without : IsUnset m (codes "sums") → p.sums ≡ false
 
 -- each part of the schedule is what its argument says
 pub record PlansSchedule (m : ArgMatches) (p : Plan) : Type 0 where

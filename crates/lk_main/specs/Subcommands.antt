@@ -4,7 +4,7 @@ use Rattle.clap.specs.Words.{found_of, rows_of, subcommand_rows_of}
 use Rattle.clap.specs.declared.parser.matches.ArgMatches.{ArgMatches}
 use Rattle.lk_main.specs.declared.subcommand.Subcommand.{Subcommand}
 use Rattle.lk_main.specs.declared.subcommand.Subcommand.TheVariants.{Sim, Fuzz, Node, Init, Ask, Demo, Dump, Inspect}
-use Rattle.lk_main.specs.declared.subcommand.Subcommand.TheVariants.{ClientKey, Status, Seed}
+use Rattle.lk_main.specs.declared.subcommand.Subcommand.TheVariants.{ClientKey, Status, Seed, Scrub}
 
 -- the word that names a subcommand
 abbrev pub name_of : Subcommand → List ℕ
@@ -17,6 +17,7 @@ name_of Demo = codes "demo"
 name_of Dump = codes "dump"
 name_of Inspect = codes "inspect"
 name_of Seed = codes "seed"
+name_of Scrub = codes "scrub"
 name_of ClientKey = codes "client-key"
 name_of Status = codes "status"
 

@@ -7,6 +7,7 @@ ghost use Rattle.lk_main.specs.Plans.{LogsAt, OptionsAre, PacesAs, PlansAsk, Pla
 ghost use Rattle.lk_main.specs.Plans.{PlansNode, PlansSchedule};
 
 use clap::ArgMatches;
+use lk_address_book::admins::Admins;
 use lk_client::question::Question;
 use lk_client::waiting::Wait;
 use lk_command_line::admins::admins_in;
@@ -18,6 +19,7 @@ use lk_command_line::values::{
     address_in, client_in, genesis_in, node_in, number_in, port_in, word,
 };
 use lk_inspect::lines::Listing;
+use lk_node_process::first_store::InitPlan;
 use lk_node_setup::network::NetworkOptions;
 use lk_node_setup::resources::NodePlan;
 use lk_pacing::pace::Pace;
@@ -26,7 +28,6 @@ use lk_random_schedules::fuzzing::MAX_EVENTS;
 use lk_random_schedules::plan::Plan;
 use lk_status::target::{Inquiry, Target};
 use lk_store_format::Header;
-use lk_transport::admins::Admins;
 use lk_types::{ClientNo, Op};
 use lk_word_parsers::command_line::operation_of;
 use log::Level;
@@ -86,6 +87,7 @@ pub fn node_plan<'a>(matches: &ArgMatches<'a>) -> Result<NodePlan<'a>, ArgumentE
         pace: pace_in(matches)?,
         folder: word(matches, "dir"),
         existing: matches.get_flag("existing"),
+        sums: matches.get_flag("sums"),
         bundles: matches.get_flag("bundle"),
         options: options_in(matches, "bind", matches.get_str("key"), admins_in(matches)?)?,
     })
@@ -113,13 +115,17 @@ pub fn listing_of(matches: &ArgMatches<'_>) -> Listing
     }
 }
 
-/// Reads the arguments of `locks init`: whose store to begin, and its folder.
-pub fn init_plan<'a>(matches: &ArgMatches<'a>) -> Result<(Header, &'a str), ArgumentError<'a>>
-    ensures { IfOk result (λ p. PlansInit matches.now p.0 p.1.now) }
+/// Reads the arguments of `locks init`.
+pub fn init_plan<'a>(matches: &ArgMatches<'a>) -> Result<InitPlan<'a>, ArgumentError<'a>>
+    ensures { IfOk result (PlansInit matches.now) }
 {
     let genesis = genesis_in(matches)?;
     let node = node_in(matches)?;
-    Ok((Header::new(node, genesis), word(matches, "dir")))
+    Ok(InitPlan {
+        header: Header::new(node, genesis),
+        folder: word(matches, "dir"),
+        sums: matches.get_flag("sums"),
+    })
 }
 
 /// Reads the arguments of `locks fuzz`.

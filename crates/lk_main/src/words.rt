@@ -26,6 +26,7 @@ use lk_command_line::values::word;
 use lk_disk::LogDisk;
 use lk_inspect::dump::dump;
 use lk_inspect::inspect::inspect;
+use lk_inspect::scrub::scrub;
 use lk_locks::LockTable;
 use lk_memory_disk::MemoryDisk;
 use lk_node_files::causes::{FailureCause, open_socket_at};
@@ -109,7 +110,7 @@ fn run_init_words<R: Files<File = File>, E: Write>(
     ensures { result ≤ 2 }
 {
     match init_plan(matches) {
-        Ok((header, folder)) => init::<LockTable, R, E>(rt, alloc, &header, folder, err),
+        Ok(plan) => init::<LockTable, R, E>(rt, alloc, &plan, err),
         Err(error) => write_argument_error(&error, err),
     }
 }
@@ -358,6 +359,7 @@ fn run_matches<
         Subcommand::Ask => run_ask_words(rt, alloc, words, out, err),
         Subcommand::Demo => demo::<LockTable, H, W, E>(rt, alloc, out, err),
         Subcommand::Dump => dump(rt, alloc, word(words, "dir"), out, err),
+        Subcommand::Scrub => scrub(rt, alloc, word(words, "dir"), out, err),
         Subcommand::Status => run_status_words(rt, alloc, words, out, err),
         Subcommand::Seed => run_seed_words(rt, alloc, words, err),
         Subcommand::ClientKey => run_client_key_words(platform, alloc, words, out, err),

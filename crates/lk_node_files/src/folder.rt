@@ -1,11 +1,13 @@
 //! Opens the files of a node's folder, creates them, and locks the folder so that only one process runs on it.
 
 ghost use Rattle.std.specs.Prelude.{◌≡◌, IfOk, IfErr, OnOk};
-ghost use Rattle.lk_node_files.specs.Openings.{IsClosed};
+ghost use Rattle.lk_node_files.specs.Openings.{IsClosed, IsUnopened};
 
 use crate::causes::{open_file, write_cause, write_open_error};
+use crate::opening::with_sums;
 use lk_disk::{FileDisk, SystemDisk};
 use lk_program_fault::ProgramFault;
+use lk_summed_disk::OptionalSums;
 use std::alloc::Global;
 use std::fs::{File, Files, OpenOptions, TryLockError};
 use std::io::{ErrorKind, Write};
@@ -160,25 +162,45 @@ impl FolderLock {
     }
 }
 
-/// Opens the files of a folder as a device, to read and to write; it creates a missing file. On failure it writes the
-/// reason and returns `CannotOpen`; without memory for a path, `NoMemory`.
+/// The files of a folder as a device, with sums or without.
+pub type FolderDevice<F> = OptionalSums<SystemDisk<F>>;
+
+/// Opens the files of a folder as a device, to read and to write; it creates a missing file. It has sums if `sums` says
+/// so, or if a file has begun with them. On failure it writes the reason and returns the fault: `CannotOpen`;
+/// `NoMemory`; `Device`, if a file cannot be read; and `Damaged`, if a sum differs.
 pub fn open_device<R: Files, E: Write>(
     rt: &R,
     alloc: Global,
     folder: &str,
+    sums: bool,
     err: &mut E,
-) -> Result<SystemDisk<R::File>, ProgramFault>
-    ensures fault { IfErr result IsClosed }
+) -> Result<FolderDevice<R::File>, ProgramFault>
+    ensures fault { IfErr result IsUnopened }
     ensures quiet { IfOk result (λ _. err.new ≡ err.old) }
 {
     match FileDisk::open(rt, alloc, folder) {
-        Ok(device) => Ok(device),
+        Ok(device) => with_sums(alloc, device, sums, folder, err),
         Err(_) => Err(write_open_error(rt, alloc, &to_write(), folder, err)),
     }
 }
 
 /// Opens the files of a folder as a device to read only; it creates no file. It fails as `open_device` does.
 pub fn look_at_device<R: Files, E: Write>(
+    rt: &R,
+    alloc: Global,
+    folder: &str,
+    err: &mut E,
+) -> Result<FolderDevice<R::File>, ProgramFault>
+    ensures fault { IfErr result IsUnopened }
+    ensures quiet { IfOk result (λ _. err.new ≡ err.old) }
+{
+    let device = look_at_files(rt, alloc, folder, err)?;
+    with_sums(alloc, device, false, folder, err)
+}
+
+/// Opens the files of a folder to read only, as they are; it creates no file. On failure it writes the reason and
+/// returns `CannotOpen`; without memory for a path, `NoMemory`.
+pub fn look_at_files<R: Files, E: Write>(
     rt: &R,
     alloc: Global,
     folder: &str,

@@ -4,4 +4,5 @@
 pub mod causes;
 pub mod existing;
 pub mod folder;
+pub mod opening;
 pub mod refusals;

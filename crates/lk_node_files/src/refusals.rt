@@ -82,6 +82,14 @@ fn write_bad_entry<D: LogDisk, E: Write>(
     false
 }
 
+/// Writes what to do with a damaged store.
+pub fn write_advice<E: Write>(folder: &str, err: &mut E) {
+    let _ = writeln!(
+        err,
+        "{folder}: treat it as lost: let the node leave, and join a new one; or start the newer program that wrote it"
+    );
+}
+
 // Writes for each file where the damage begins, and what to do with a damaged store.
 fn write_damage<D: LogDisk, E: Write>(alloc: Global, device: &mut D, folder: &str, err: &mut E)
     ensures { D.is_honest → (s : SideValue) → D.disk device.new s ≡ D.disk device.old s }
@@ -93,10 +101,7 @@ fn write_damage<D: LogDisk, E: Write>(alloc: Global, device: &mut D, folder: &st
     if are_whole {
         let _ = writeln!(err, "{folder}: the entries are readable, but inconsistent");
     }
-    let _ = writeln!(
-        err,
-        "{folder}: treat it as lost: let the node leave, and join a new one; or start the newer program that wrote it"
-    );
+    write_advice(folder, err);
 }
 
 // Writes a genesis as `--genesis` takes it: CLUSTER,ALPHA,NODE:PORT,...

@@ -1,8 +1,8 @@
 -- What is found in the file of the hosts when it is read again.
 use Rattle.std.specs.Prelude.{◌≡◌, ◌⊎◌, ℕ, true, false, List, Option, Some, option_map}
-use Rattle.lk_transport.specs.declared.hosts.Hosts.{Hosts}
-use Rattle.lk_transport.specs.declared.hosts.HostNews.{HostNews}
-use Rattle.lk_transport.specs.declared.hosts.HostNews.TheVariants.{Nothing, Read, Unusable}
+use Rattle.lk_address_book.specs.declared.hosts.Hosts.{Hosts}
+use Rattle.lk_address_book.specs.declared.hosts.HostNews.{HostNews}
+use Rattle.lk_address_book.specs.declared.hosts.HostNews.TheVariants.{Nothing, Read, Unusable}
 use Rattle.lk_node_setup.specs.Named.{AreHostsIn}
 use Rattle.lk_node_setup.specs.declared.host_watch.HostWatch.{HostWatch}
 use Rattle.lk_node_setup.specs.declared.network.NetworkOptions.{NetworkOptions}

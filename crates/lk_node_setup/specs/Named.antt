@@ -8,10 +8,10 @@ use Rattle.lk_auth.specs.KeyFiles.{key_file, lines}
 use Rattle.lk_auth.specs.Seals.{key_list, Share}
 use Rattle.lk_client.specs.declared.destination.Destination.{Destination}
 use Rattle.lk_store_format.specs.Values.{HeaderValue}
-use Rattle.lk_transport.specs.Hosts.{host_of, this_machine}
-use Rattle.lk_transport.specs.declared.hosts.Hosts.{Hosts}
-use Rattle.lk_transport.specs.declared.hosts.Hosts.TheVariants.{Local, Listed}
-use Rattle.lk_transport.specs.declared.network.Network.{Network}
+use Rattle.lk_address_book.specs.Hosts.{host_of, this_machine}
+use Rattle.lk_address_book.specs.declared.hosts.Hosts.{Hosts}
+use Rattle.lk_address_book.specs.declared.hosts.Hosts.TheVariants.{Local, Listed}
+use Rattle.lk_address_book.specs.declared.network.Network.{Network}
 use Rattle.lk_node_setup.specs.Guards.{IsReachedWithKey}
 use Rattle.lk_node_setup.specs.HostFiles.{SpellHosts}
 use Rattle.lk_node_setup.specs.KeysOfNode.{AreSealsOf}

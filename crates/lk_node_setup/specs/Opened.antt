@@ -1,5 +1,5 @@
 -- What a plan opens.
-use Rattle.std.specs.Prelude.{◌≡◌, ℕ, List, [], ◌∷◌, None, Some, IfSome, IsTrue}
+use Rattle.std.specs.Prelude.{◌≡◌, ℕ, Bool, List, [], ◌∷◌, None, Some, IfSome, IsTrue}
 use Rattle.std.specs.declared.net.socket_addr.SocketAddr.{SocketAddr}
 use Rattle.lk_disk.specs.Disk.{Disk}
 use Rattle.lk_disk.specs.declared.device.Side.{Side}
@@ -21,9 +21,9 @@ pace_with [] asked = asked
 pace_with (key ∷ keys) asked = Clock
 
 -- `is_text`, `is_store` and `is_bound` say which bytes the file of a path had, which device is that of the folder of a
--- path, and which socket is bound to an address. `honest` says that the device does what it states, `disk` what it has,
--- and `observable` that the socket reveals what it sends and finds
-module _ {D S : Type 0} (is_text : List ℕ → List ℕ → Type 0) (is_store : List ℕ → D → Type 0)
+-- path, where sums are asked for or not, and which socket is bound to an address. `honest` says that the device does
+-- what it states, `disk` what it has, and `observable` that the socket reveals what it sends and finds
+module _ {D S : Type 0} (is_text : List ℕ → List ℕ → Type 0) (is_store : List ℕ → Bool → D → Type 0)
     (is_bound : SocketAddr → S → Type 0) (honest : Type 0) (disk : D → Side → Disk) (observable : Type 0)
     (sent : S → List (SocketAddr × List ℕ)) (failures : S → ℕ) (incoming : S → Stream) where
   -- a socket was bound to this address, and then a probe found which port is not heard. At the port that the genesis
@@ -36,12 +36,12 @@ module _ {D S : Type 0} (is_text : List ℕ → List ℕ → Type 0) (is_store :
     pub alike : misnamed plan.header plan.port ≡ None → r.socket ≡ bound
     pub some : IfSome r.unheard (λ port. misnamed plan.header plan.port ≡ Some port)
 
-  -- these resources are those that the plan names: the device of its folder, which has a store if the plan wants an
-  -- existing one, the hosts and keys of its files, the pace, and a socket at its port
+  -- these resources are those that the plan names: the device of its folder, with sums if it asks for them, which has a
+  -- store if the plan wants an existing one, the hosts and keys of its files, the pace, and a socket at its port
   pub record AreOpenedFor (plan : NodePlan) (r : Resources D S) : Type 0 where
     pub address : SocketAddr
     pub network : IsNetworkOf is_text plan.header plan.port plan.options r.network address
     pub pace : r.pace ≡ pace_with (key_list r.network.seals.nodes) plan.pace
-    pub device : is_store plan.folder.now r.device
+    pub device : is_store plan.folder.now plan.sums r.device
     pub existing : IsTrue plan.existing → honest → HasStore (seen (disk r.device))
     pub socket : HasProbed plan address r

@@ -11,9 +11,9 @@ use Rattle.lk_probe.specs.Grammar.{SpellsProbe}
 use Rattle.lk_probe.specs.Questions.{question}
 use Rattle.lk_auth.specs.Seals.{key_list, framed_by, to_node}
 use Rattle.lk_auth.specs.declared.seals.Seals.{Seals}
-use Rattle.lk_transport.specs.Hosts.{host_of}
+use Rattle.lk_address_book.specs.Hosts.{host_of}
 use Rattle.lk_transport.specs.Streams.{Stream, Receives, ReceivesAll, frames_in, listed}
-use Rattle.lk_transport.specs.declared.network.Network.{Network}
+use Rattle.lk_address_book.specs.declared.network.Network.{Network}
 
 -- what a socket has sent, how many of its sends have failed, and what its receives are to find
 pub record SocketValue : Type 0 where

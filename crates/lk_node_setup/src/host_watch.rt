@@ -1,12 +1,12 @@
 //! Reads the file of the hosts again while a node runs, each five seconds.
 
 ghost use Rattle.std.specs.Prelude.{◌≡◌, ◌<◌, ◌≤◌, ◌+◌, IsSome, false, if◌then◌else◌, min, option_map, true};
-ghost use Rattle.lk_transport.specs.declared.hosts.HostNews.TheVariants.{Nothing, Read, Unusable};
+ghost use Rattle.lk_address_book.specs.declared.hosts.HostNews.TheVariants.{Nothing, Read, Unusable};
 ghost use Rattle.lk_node_setup.specs.HostWatches.{FindsHosts, TellsUse};
 
 use crate::network::load_hosts;
 use crate::text_files::TextFiles;
-use lk_transport::hosts::{HostNews, Hosts};
+use lk_address_book::hosts::{HostNews, Hosts};
 use std::alloc::Global;
 
 // How many periods of 100 ms pass from one look at the file to the next.

@@ -3,7 +3,7 @@
 ghost use Rattle.std.specs.Prelude.{◌≡◌, Some, IfOk, OnOk, option_map};
 ghost use Rattle.std.specs.Option.{option_or};
 ghost use Rattle.lk_auth.specs.Seals.{key_list};
-ghost use Rattle.lk_transport.specs.Hosts.{host_of};
+ghost use Rattle.lk_address_book.specs.Hosts.{host_of};
 ghost use Rattle.lk_node_setup.specs.Guards.{IsReachedWithKey};
 ghost use Rattle.lk_node_setup.specs.KeysOfNode.{AreSealsOf};
 ghost use Rattle.lk_node_setup.specs.Named.{AreApart, AreHostsIn, AreKeysIn, IsDestinationOf, IsKeyFileAt, IsNetworkOf};
@@ -11,14 +11,14 @@ ghost use Rattle.lk_node_setup.specs.Named.{AreApart, AreHostsIn, AreKeysIn, IsD
 use crate::digest::genesis_digest;
 use crate::host_file::read_hosts;
 use crate::text_files::TextFiles;
+use lk_address_book::admins::Admins;
+use lk_address_book::hosts::Hosts;
+use lk_address_book::network::Network;
 use lk_auth::{AskerSeals, Keys, Masters, Seals};
 use lk_client::destination::Destination;
 use lk_node_files::causes::write_cause;
 use lk_program_fault::ProgramFault;
 use lk_store_format::Header;
-use lk_transport::admins::Admins;
-use lk_transport::hosts::Hosts;
-use lk_transport::network::Network;
 use lk_types::{NodeNo, Port};
 use std::alloc::Global;
 use std::io::Write;

@@ -10,20 +10,20 @@ ghost use Rattle.lk_node_setup.specs.Opened.{AreOpenedFor, pace_with};
 use crate::network::{NetworkOptions, network_of};
 use crate::platform::Platform;
 use crate::self_probe::unheard_port;
+use lk_address_book::network::Network;
 use lk_auth::{Keys, Seals};
 use lk_disk::LogDisk;
 use lk_pacing::pace::Pace;
 use lk_program_fault::ProgramFault;
 use lk_store_format::Header;
-use lk_transport::network::Network;
 use lk_transport::socket::DatagramSocket;
 use lk_types::{Member, NodeNo, Port};
 use std::alloc::Global;
 use std::io::Write;
 
 /// What the command line of `locks node` asks for: the node with its genesis, its port, what its ticks go by, the
-/// folder of its files, whether that must have a store, whether the node sends bundles, and the options about other
-/// machines.
+/// folder of its files, whether that must have a store, whether the store is written with sums, whether the node sends
+/// bundles, and the options about other machines.
 #[derive(Drop)]
 pub struct NodePlan<'a> {
     pub header: Header,
@@ -31,6 +31,7 @@ pub struct NodePlan<'a> {
     pub pace: Pace,
     pub folder: &'a str,
     pub existing: bool,
+    pub sums: bool,
     pub bundles: bool,
     pub options: NetworkOptions<'a>,
 }
@@ -174,7 +175,7 @@ pub fn open_resources<D: LogDisk + Drop, S: DatagramSocket + Drop, P: Platform<D
     )?;
     let mut socket = platform.open_socket(alloc, address, plan.bundles, err)?;
     let unheard = check_named_port(alloc, plan, &network, &mut socket, err)?;
-    let (device, lock) = platform.open_store(alloc, plan.folder, plan.existing, err)?;
+    let (device, lock) = platform.open_store(alloc, plan.folder, plan.existing, plan.sums, err)?;
     let pace = pace_with(&network.seals, plan.pace);
     let resources = Resources {
         device,

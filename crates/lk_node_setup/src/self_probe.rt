@@ -4,12 +4,12 @@
 ghost use Rattle.std.specs.Prelude.{◌≡◌, Ok, None, Some, true, false, IfOk, IfErr, OnErr, IfSome};
 ghost use Rattle.lk_node_setup.specs.SelfProbes.{ComesNext, FindsUnheard, IsHeard, ProbesItself, socket_value};
 
+use lk_address_book::network::Network;
 use lk_auth::Seals;
 use lk_probe::neighbours::Origin;
 use lk_probe::reported::question;
 use lk_program_fault::ProgramFault;
 use lk_store_format::Header;
-use lk_transport::network::Network;
 use lk_transport::receive_buffer::ReceiveBuffer;
 use lk_transport::socket::DatagramSocket;
 use lk_types::Port;

@@ -4,10 +4,9 @@ ghost use Rattle.std.specs.Prelude.{⊤};
 
 use crate::platform::Platform;
 use crate::text_files::TextFiles;
-use lk_disk::SystemDisk;
 use lk_node_files::causes::{open_socket_at, write_cause};
 use lk_node_files::existing::check_store;
-use lk_node_files::folder::{FolderLock, check_files, open_device};
+use lk_node_files::folder::{FolderDevice, FolderLock, check_files, open_device};
 use lk_program_fault::ProgramFault;
 use lk_transport::socket::LocalSocket;
 use std::alloc::Global;
@@ -18,8 +17,8 @@ use std::net::{Net, SocketAddr};
 use std::os::unix::fs::PermissionsExt;
 use std::time::{Clock, Duration};
 
-/// The files of a folder as a device.
-pub type FolderDisk = SystemDisk<File>;
+/// The files of a folder as a device, with sums or without.
+pub type FolderDisk = FolderDevice<File>;
 
 /// The files, the sockets and the clock of the system. Nothing is stated about which file a path leads to, and to which
 /// address a socket is bound: this module is trusted.
@@ -91,7 +90,7 @@ impl<'a, R: Files<File = File>> TextFiles for System<'a, R> {
 impl<'a, R: Files<File = File> + Net + Clock> Platform<FolderDisk, LocalSocket> for System<'a, R> {
     type Lock = FolderLock;
 
-    ghost is_store = { λ _ _ _. ⊤ };
+    ghost is_store = { λ _ _ _ _. ⊤ };
 
     ghost is_bound = { λ _ _ _. ⊤ };
 
@@ -115,13 +114,14 @@ impl<'a, R: Files<File = File> + Net + Clock> Platform<FolderDisk, LocalSocket> 
         alloc: Global,
         folder: &str,
         existing: bool,
+        sums: bool,
         err: &mut E,
     ) -> Result<(FolderDisk, FolderLock), ProgramFault> {
         if existing {
             check_files(self.0, alloc, folder, err)?;
         }
         let lock = FolderLock::acquire(self.0, alloc, folder, err)?;
-        let mut device = open_device(self.0, alloc, folder, err)?;
+        let mut device = open_device(self.0, alloc, folder, sums, err)?;
         if existing {
             check_store(alloc, &mut device, folder, err)?;
         }

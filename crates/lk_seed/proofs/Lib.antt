@@ -1,4 +1,5 @@
 pub mod FenceLaws
+pub mod LostLaws
 pub mod MemberLaws
 pub mod StoreLaws
 pub mod SurvivorLaws

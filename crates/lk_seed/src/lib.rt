@@ -4,6 +4,7 @@
 
 mod checking;
 mod copying;
+mod lost;
 pub mod seed;
 mod seeding;
 mod sole_member;

@@ -1,11 +1,12 @@
 //! The folders that a lost cluster has left.
 
-ghost use Rattle.std.specs.Prelude.{◌≡◌, false, IfOk, OnOk};
+ghost use Rattle.std.specs.Prelude.{◌≡◌, IfOk, OnOk};
 ghost use Rattle.lk_disk.specs.Disk.{contents};
 ghost use Rattle.lk_disk.specs.declared.device.Side.{Side as SideValue};
 ghost use Rattle.lk_log.specs.Images.{seen};
-ghost use Rattle.lk_seed.specs.Survivors.{IsFoundApart, IsNotOf, TakesOver};
+ghost use Rattle.lk_seed.specs.Survivors.{IsFileOf, IsFoundOf, Keeps, TakesOver, TellsHeader};
 
+use crate::lost::LostCluster;
 use crate::wanted::{Wanted, add_wanted};
 use lk_disk::{LogDisk, Side};
 use lk_inspect::inspect::inspect_device;
@@ -14,7 +15,7 @@ use lk_node_files::causes::{FailureCause, write_cause};
 use lk_node_files::folder::look_at_device;
 use lk_node_files::refusals::write_refusal;
 use lk_program_fault::ProgramFault;
-use lk_store_format::{EntryFault, Stored, first_entry};
+use lk_store_format::{EntryFault, Header, Stored, first_entry};
 use std::alloc::Global;
 use std::fs::Files;
 use std::io::Write;
@@ -34,90 +35,95 @@ fn bytes_of<D: LogDisk>(alloc: Global, device: &mut D, side: Side) -> Result<Vec
     Ok(bytes)
 }
 
-// Whether a file of these bytes begins with a Base of this cluster.
-#[tactic(auto, using(crate::proofs::SurvivorLaws::base_of_others, crate::proofs::SurvivorLaws::no_base))]
-fn begins_cluster(alloc: Global, bytes: &[u8], cluster: u64) -> Result<bool, ProgramFault>
-    ensures { IfOk result (λ begins. begins ≡ false → IsNotOf cluster bytes.now) }
+// Returns the header with which a file of these bytes begins, if it begins with a Base.
+#[tactic(auto, using(crate::proofs::SurvivorLaws::no_base, crate::proofs::SurvivorLaws::base_of))]
+fn header_in(alloc: Global, bytes: &[u8]) -> Result<Option<Header>, ProgramFault>
+    ensures { IfOk result (TellsHeader bytes.now) }
 {
     match first_entry(alloc, bytes) {
-        Ok((Stored::Base(base), _)) => Ok(base.header.genesis().cluster == cluster),
-        Ok((Stored::Plain(_), _)) | Err(EntryFault::NoEntry) => Ok(false),
+        Ok((Stored::Base(base), _)) => Ok(Some(base.header.copy())),
+        Ok((Stored::Plain(_), _)) | Err(EntryFault::NoEntry) => Ok(None),
         Err(EntryFault::NoMemory) => Err(ProgramFault::NoMemory),
     }
 }
 
-// The same of a file of a device.
-fn is_of_cluster<D: LogDisk>(
+// Checks the header of a file of a device, if it begins with one.
+#[tactic(auto, using(crate::proofs::LostLaws::keeps_same, crate::proofs::SurvivorLaws::told_file, crate::proofs::SurvivorLaws::plain_file))]
+fn check_file<'a, D: LogDisk, E: Write>(
     alloc: Global,
     device: &mut D,
     side: Side,
-    cluster: u64,
-) -> Result<bool, ProgramFault>
+    folder: &'a str,
+    lost: &mut LostCluster<'a>,
+    err: &mut E,
+) -> Result<(), ProgramFault>
     ensures unchanged { D.is_honest → (s : SideValue) → D.disk device.new s ≡ D.disk device.old s }
-    ensures others { D.is_honest
-        → IfOk result (λ is. is ≡ false → IsNotOf cluster (contents (D.disk device.old side))) }
+    ensures keeps { Keeps lost.old lost.new }
+    ensures is { D.is_honest → OnOk result (IsFileOf lost.new (contents (D.disk device.old side))) }
 {
     let bytes = bytes_of(alloc, device, side)?;
-    begins_cluster(alloc, &bytes, cluster)
-}
-
-// Whether one of the files of a device begins with a Base of this cluster.
-#[tactic(auto, using(crate::proofs::SurvivorLaws::neither))]
-fn has_cluster<D: LogDisk>(
-    alloc: Global,
-    device: &mut D,
-    cluster: u64,
-) -> Result<bool, ProgramFault>
-    ensures unchanged { D.is_honest → (s : SideValue) → D.disk device.new s ≡ D.disk device.old s }
-    ensures others { D.is_honest → IfOk result (λ has. has ≡ false
-        → (s : SideValue) → IsNotOf cluster (contents (D.disk device.old s))) }
-{
-    if is_of_cluster(alloc, device, Side::A, cluster)? {
-        return Ok(true);
+    match header_in(alloc, &bytes)? {
+        Some(header) => lost.check(header, folder, err),
+        None => Ok(()),
     }
-    let has = is_of_cluster(alloc, device, Side::B, cluster)?;
-    Ok(has)
 }
 
-// Returns what the store of a device holds. If it has none, or it is of this cluster, writes so.
-#[tactic(auto, using(crate::proofs::SurvivorLaws::found_apart))]
-fn inspected<D: LogDisk + FailureCause, E: Write>(
+// Checks the headers of both files.
+#[tactic(auto, using(crate::proofs::LostLaws::keeps_both, crate::proofs::SurvivorLaws::both_files))]
+fn check_files<'a, D: LogDisk, E: Write>(
     alloc: Global,
     device: &mut D,
-    folder: &str,
-    cluster: u64,
+    folder: &'a str,
+    lost: &mut LostCluster<'a>,
+    err: &mut E,
+) -> Result<(), ProgramFault>
+    ensures unchanged { D.is_honest → (s : SideValue) → D.disk device.new s ≡ D.disk device.old s }
+    ensures keeps { Keeps lost.old lost.new }
+    ensures are { D.is_honest
+        → OnOk result ((s : SideValue) → IsFileOf lost.new (contents (D.disk device.old s))) }
+{
+    check_file(alloc, device, Side::A, folder, lost, err)?;
+    check_file(alloc, device, Side::B, folder, lost, err)
+}
+
+// Returns what the store of a device holds. If it has none, or it is not of the lost cluster, writes so.
+#[tactic(auto, using(crate::proofs::LostLaws::keeps_same, crate::proofs::SurvivorLaws::found_of))]
+fn inspected<'a, D: LogDisk + FailureCause, E: Write>(
+    alloc: Global,
+    device: &mut D,
+    folder: &'a str,
+    lost: &mut LostCluster<'a>,
     err: &mut E,
 ) -> Result<Inspection, ProgramFault>
     ensures unchanged { D.is_honest → (s : SideValue) → D.disk device.new s ≡ D.disk device.old s }
-    ensures found { D.is_honest → IfOk result (IsFoundApart cluster (seen (D.disk device.old))) }
+    ensures keeps { Keeps lost.old lost.new }
+    ensures found { D.is_honest → IfOk result (IsFoundOf lost.new (seen (D.disk device.old))) }
 {
     let Some(found) = inspect_device(alloc, device)? else {
         return Err(write_cause(folder, "no store in its files", err));
     };
-    if has_cluster(alloc, device, cluster)? {
-        let text = "a store of this cluster: the new one needs another number";
-        return Err(write_cause(folder, text, err));
-    }
+    check_files(alloc, device, folder, lost, err)?;
     Ok(found)
 }
 
 /// Appends what is wanted of each name of a device's store: its last fence and `past` more. If there is no store, or a
-/// damaged one, or one of this cluster, or no grant could follow a fence, it writes so.
+/// damaged one, or one that is not of the lost cluster, or no grant could follow a fence, it writes so.
 #[tactic(auto, using(crate::proofs::SurvivorLaws::takes_over))]
-pub fn add_survivor<D: LogDisk + FailureCause, E: Write>(
+pub fn add_survivor<'a, D: LogDisk + FailureCause, E: Write>(
     alloc: Global,
     device: &mut D,
-    folder: &str,
-    cluster: u64,
+    folder: &'a str,
+    lost: &mut LostCluster<'a>,
     past: u64,
     wanted: &mut Vec<Wanted>,
     err: &mut E,
 ) -> Result<(), ProgramFault>
     ensures unchanged { D.is_honest → (s : SideValue) → D.disk device.new s ≡ D.disk device.old s }
+    ensures keeps { Keeps lost.old lost.new }
     ensures takes { D.is_honest
-        → OnOk result (TakesOver cluster past (seen (D.disk device.old)) wanted.old.items wanted.new.items) }
+        → OnOk result (TakesOver past (seen (D.disk device.old)) lost.new wanted.old.items wanted.new.items) }
 {
-    let found = match inspected(alloc, device, folder, cluster, err) {
+    let found = match inspected(alloc, device, folder, lost, err) {
         Ok(found) => found,
         Err(fault) => return Err(write_refusal(alloc, fault, device, folder, err)),
     };
@@ -128,7 +134,7 @@ pub fn add_survivor<D: LogDisk + FailureCause, E: Write>(
     Err(write_cause(folder, text, err))
 }
 
-/// Appends what is wanted of each name of the stores in these folders.
+/// Appends what is wanted of each name of the stores in these folders, which are of one cluster, and not of this one.
 pub fn add_survivors<R: Files, E: Write>(
     rt: &R,
     alloc: Global,
@@ -138,9 +144,10 @@ pub fn add_survivors<R: Files, E: Write>(
     wanted: &mut Vec<Wanted>,
     err: &mut E,
 ) -> Result<(), ProgramFault> {
+    let mut lost = LostCluster::unknown(cluster);
     for folder in folders {
         let mut device = look_at_device(rt, alloc, folder, err)?;
-        add_survivor(alloc, &mut device, folder, cluster, past, wanted, err)?;
+        add_survivor(alloc, &mut device, folder, &mut lost, past, wanted, err)?;
     }
     Ok(())
 }

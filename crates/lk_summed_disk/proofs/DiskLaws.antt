@@ -13,7 +13,7 @@ use Rattle.std.specs.Prelude.{if◌then◌else◌, ⊤}
 use Rattle.lk_disk.specs.Disk.{Disk, contents, appended, fully_synced, cut_to, AppendsSome, CutShort}
 use Rattle.lk_disk.specs.declared.device.Side.{Side}
 use Rattle.lk_disk.specs.declared.device.Side.TheVariants.{A, B}
-use Rattle.lk_summed_disk.specs.SummedValue.{disk_at, over}
+use Rattle.lk_summed_disk.specs.SummedValue.{below_at, disk_at, over}
 use Rattle.lk_summed_disk.specs.Frames.{HasSums}
 use Rattle.lk_summed_disk.specs.Readers.{Reader, fresh, plain, marked, framed, step, read, text, IsSound}
 use Rattle.lk_summed_disk.specs.Readers.{decoded}
@@ -380,9 +380,14 @@ plain_holds s old new n p q holds form some within cut same ends sized =
 
 -- ---- what the device says of its disks
 
-pub disk_over : (disks : Side → Disk) (failures : ℕ) (s : Side) → disk_at (over disks failures) s ≡ decoded s (disks s)
-disk_over disks failures A = refl
-disk_over disks failures B = refl
+pub below_over : (disks : Side → Disk) (sums : Bool) (failures : ℕ) (s : Side)
+    → below_at (over disks sums failures) s ≡ disks s
+below_over disks sums failures A = refl
+below_over disks sums failures B = refl
+
+pub disk_over : (disks : Side → Disk) (sums : Bool) (failures : ℕ) (s : Side)
+    → disk_at (over disks sums failures) s ≡ decoded s (disks s)
+disk_over disks sums failures s = ap (decoded s) (below_over disks sums failures s)
 
 pub place_length : (s : Side) (d : Disk) (p : Place) → Holds s (contents d) (Some p)
     → p.size ≡ length (contents (decoded s d))

@@ -4,3 +4,5 @@ mod PlaceLaws
 mod ParseLaws
 mod DiskLaws
 mod ChangeLaws
+mod WaitLaws
+mod OptionLaws

@@ -1,18 +1,19 @@
 -- What the bytes of a file are parsed to.
-use Rattle.std.proofs.Common.{◌≡◌, ◌∙◌, ℕ, zero, suc, ◌+◌, ◌-◌, ◌≤◌, min, Bool, true, false, List, [], ◌∷◌, ◌++◌}
+use Rattle.std.proofs.Common.{◌≡◌, ◌∙◌, ◌↔◌, ℕ, zero, suc, ◌+◌, ◌-◌, ◌≤◌, min, Bool, true, false, List, [], ◌∷◌, ◌++◌}
 use Rattle.std.proofs.Common.{length, take, drop, refl, sym, ap, subst, arith, append_assoc}
 use Rattle.std.proofs.Common.{Some}
 use Rattle.std.proofs.Common.{length-append, length-take, length-drop, not}
 use Rattle.std.proofs.Math.Seq.{take-append-add}
 use Rattle.std.specs.Str.{bytes_eq}
-use Rattle.std.proofs.lemmas.Bool.{true≢false, false_from_ne_true, ne_eqb, not-true, not-false}
+use Rattle.std.proofs.lemmas.Bool.{true≢false, false≢true, false_from_ne_true, ne_eqb, not-true, not-false}
 use Rattle.std.proofs.lemmas.Slice.Eq.{bytes_eq-Decides}
 use Rattle.std.proofs.lemmas.List.{take_at, take-take, take_all, take-append-drop, append-nil}
 use Rattle.lk_disk.specs.declared.device.Side.{Side}
 use Rattle.lk_disk.specs.declared.device.Side.TheVariants.{A, B}
 use Rattle.lk_summed_disk.specs.Frames.{max_piece, magic, seed, digest, frame, is_frame, is_torn, HasSums}
 use Rattle.lk_summed_disk.specs.Readers.{Reader, fresh, marked, framed, read, text, IsSound}
-use Rattle.lk_summed_disk.specs.Places.{reader, Holds}
+use Rattle.lk_summed_disk.specs.Places.{reader, is_summed, Holds}
+use Rattle.lk_summed_disk.specs.declared.place.Form.{Form}
 use Rattle.lk_summed_disk.specs.declared.place.Form.TheVariants.{Empty, Plain, Summed}
 use Rattle.lk_summed_disk.specs.declared.place.Place.{Place}
 use Rattle.lk_summed_disk.proofs.FrameLaws.{torn_front}
@@ -283,3 +284,22 @@ sums_short s bytes count is short has =
 
 pub sums_empty : (s : Side) (bytes : List ℕ) → length bytes ≡ 0 → HasSums s bytes → ⊥
 sums_empty s bytes none has = absurd (omega (arith, none, sums_long s bytes has))
+
+-- what the form says of the file
+abbrev Says : Side → List ℕ → Form → Type 0
+Says s bytes f = is_summed f ≡ true ↔ HasSums s bytes
+
+pub says_empty : (s : Side) (bytes : List ℕ) → length bytes ≡ 0 → Says s bytes Empty
+says_empty s bytes none = (λ on. absurd (false≢true on), λ has. absurd (sums_empty s bytes none has))
+
+pub says_plain : (s : Side) (bytes rest : List ℕ) → bytes ≡ 0 ∷ rest → Says s bytes Plain
+says_plain s bytes rest is = (λ on. absurd (false≢true on), λ has. absurd (sums_plain s bytes rest is has))
+
+pub says_short : (s : Side) (bytes : List ℕ) (count : ℕ) → count ≡ min (length bytes) 8 → (count ≡ 8 → ⊥)
+    → Says s bytes Empty
+says_short s bytes count is short =
+    (λ on. absurd (false≢true on), λ has. absurd (sums_short s bytes count is short has))
+
+pub says_summed : (s : Side) (bytes chain : List ℕ) → take 8 bytes ≡ magic s → Says s bytes (Summed chain)
+says_summed s bytes chain begins =
+    (λ on. (drop 8 bytes, sym (take-append-drop 8 bytes) ∙ ap (λ (l : List ℕ). l ++ drop 8 bytes) begins), λ has. refl)

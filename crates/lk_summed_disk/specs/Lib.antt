@@ -6,3 +6,7 @@ pub mod Parsed
 pub mod Opened
 pub mod Changes
 pub mod SummedValue
+pub mod Beginnings
+pub mod Waits
+pub mod GatheredValue
+pub mod Options

@@ -32,3 +32,10 @@ impl From<AllocError> for OpenFault {
         OpenFault::NoMemory
     }
 }
+
+/// Why a device is not opened, and the device.
+#[derive(Drop)]
+pub struct OpenRefused<D: Drop> {
+    pub fault: OpenFault,
+    pub device: D,
+}

@@ -3,13 +3,20 @@
 #![tactic(auto)]
 
 mod addition;
+mod checking;
 mod fault;
 mod frame;
+mod gathered_disk;
 pub mod laws;
+mod optional_sums;
 mod parsing;
 mod place;
 mod steps;
 mod summed_disk;
+mod waiting;
 
-pub use fault::OpenFault;
-pub use summed_disk::SummedDisk;
+pub use checking::check_side;
+pub use fault::{OpenFault, OpenRefused};
+pub use gathered_disk::GatheredDisk;
+pub use optional_sums::OptionalSums;
+pub use summed_disk::{OpenedSums, SummedDisk};

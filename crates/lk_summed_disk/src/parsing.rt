@@ -1,5 +1,5 @@
 // What the bytes of a file are: its text, where its frames end, and whether it is damaged.
-ghost use Rattle.std.specs.Prelude.{◌≡◌, ◌∷◌, ℕ, List, [], length, take, IsTrue, IfOk, IfErr};
+ghost use Rattle.std.specs.Prelude.{◌≡◌, ◌∷◌, ◌↔◌, ℕ, List, [], length, take, true, IfOk, IfErr};
 ghost use Rattle.lk_disk.specs.Disk.{contents};
 ghost use Rattle.lk_disk.specs.declared.device.Side.{Side};
 ghost use Rattle.lk_summed_disk.specs.Frames.{magic, HasSums};
@@ -24,7 +24,7 @@ fn parse_frames(alloc: Global, side: Side, bytes: &[u8]) -> Result<Parsed, OpenF
     requires { take 8 bytes.now ≡ magic side }
     ensures parsed { IfOk result (λ p. IsParsed side bytes.now p) }
     ensures damaged { IfErr result (λ e. IsTrueDamage side bytes.now e) }
-    ensures sums { HasSums side bytes.now → IfOk result (λ p. IsTrue (is_summed p.place.form)) }
+    ensures sums { IfOk result (λ p. is_summed p.place.form ≡ true ↔ HasSums side bytes.now) }
 {
     let mut text = Vec::new(alloc);
     let mut chain = seed(side);
@@ -55,7 +55,7 @@ fn parse_marked(alloc: Global, side: Side, bytes: &[u8]) -> Result<Parsed, OpenF
     requires marked { (rest : List ℕ) → bytes.now ≡ 0 ∷ rest → ⊥ }
     ensures parsed { IfOk result (λ p. IsParsed side bytes.now p) }
     ensures damaged { IfErr result (λ e. IsTrueDamage side bytes.now e) }
-    ensures sums { HasSums side bytes.now → IfOk result (λ p. IsTrue (is_summed p.place.form)) }
+    ensures sums { IfOk result (λ p. is_summed p.place.form ≡ true ↔ HasSums side bytes.now) }
 {
     let magic = magic(side);
     let count = bytes.len().min(MAGIC_LENGTH);
@@ -82,7 +82,7 @@ fn parse_plain(alloc: Global, bytes: &[u8]) -> Result<Parsed, OpenFault>
     requires { (rest : List ℕ) × (bytes.now ≡ 0 ∷ rest) }
     ensures parsed { (side : Side) → IfOk result (λ p. IsParsed side bytes.now p) }
     ensures damaged { (side : Side) → IfErr result (λ e. IsTrueDamage side bytes.now e) }
-    ensures sums { (side : Side) → HasSums side bytes.now → IfOk result (λ p. IsTrue (is_summed p.place.form)) }
+    ensures sums { (side : Side) → IfOk result (λ p. is_summed p.place.form ≡ true ↔ HasSums side bytes.now) }
 {
     let text = bytes.to_vec(alloc)?;
     let place = Place {
@@ -98,7 +98,7 @@ fn parse_plain(alloc: Global, bytes: &[u8]) -> Result<Parsed, OpenFault>
 fn parse(alloc: Global, side: Side, bytes: &[u8]) -> Result<Parsed, OpenFault>
     ensures parsed { IfOk result (λ p. IsParsed side bytes.now p) }
     ensures damaged { IfErr result (λ e. IsTrueDamage side bytes.now e) }
-    ensures sums { HasSums side bytes.now → IfOk result (λ p. IsTrue (is_summed p.place.form)) }
+    ensures sums { IfOk result (λ p. is_summed p.place.form ≡ true ↔ HasSums side bytes.now) }
 {
     if bytes.is_empty() {
         return Ok(Parsed {
@@ -117,8 +117,8 @@ pub fn read_side<D: LogDisk>(alloc: Global, device: &mut D, side: Side) -> Resul
     ensures unchanged { D.is_honest → (s : Side) → D.disk device.new s ≡ D.disk device.old s }
     ensures parsed { D.is_honest → IfOk result (λ p. IsParsed side (contents (D.disk device.old side)) p) }
     ensures damaged { D.is_honest → IfErr result (λ e. IsTrueDamage side (contents (D.disk device.old side)) e) }
-    ensures sums { D.is_honest → HasSums side (contents (D.disk device.old side))
-        → IfOk result (λ p. IsTrue (is_summed p.place.form)) }
+    ensures sums { D.is_honest
+        → IfOk result (λ p. is_summed p.place.form ≡ true ↔ HasSums side (contents (D.disk device.old side))) }
 {
     let count = device.length(side)?;
     let mut bytes = vec![in alloc; 0; count]?;

@@ -1,5 +1,5 @@
 use Rattle.std.proofs.Common.{rules, ◌≡◌, refl}
-use Rattle.lk_transport.specs.Admins.{admitting}
+use Rattle.lk_address_book.specs.Admins.{admitting}
 use Rattle.lk_command_line.proofs.AdminWords.{nothing_read, one_read, last_read, no_client, no_last}
 use Rattle.lk_command_line.proofs.admins.admins_of.Goals as goal
 

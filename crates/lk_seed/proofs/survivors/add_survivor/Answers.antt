@@ -7,7 +7,7 @@ use Rattle.lk_seed.proofs.survivors.add_survivor.Goals as goal
 
 pub returns-then-branch-clause-takes : goal.returns-then-branch-clause-takes
 returns-then-branch-clause-takes g c honest =
-    takes_over c.args.cluster c.args.past (seen (g.D.LogDisk.disk c.args.device.now)) c.in-Ok.found
+    takes_over c.args.past (seen (g.D.LogDisk.disk c.args.device.now)) c.inspected.new.lost c.in-Ok.found
     c.args.wanted.now.items c.add_wanted.new.wanted.items (c.in-Ok.ensures.found honest)
     (subst (λ (names : List (List ℕ × Slot)). c.add_wanted.new.wanted.items
     ≡ c.args.wanted.now.items ++ all_wanted_past c.args.past names) c.deref.ensures.value

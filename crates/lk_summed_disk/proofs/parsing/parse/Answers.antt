@@ -2,6 +2,3 @@ use Rattle.lk_summed_disk.proofs.parsing.parse.Goals as goal
 
 pub returns-then-begins_plain-clause-damaged : goal.returns-then-begins_plain-clause-damaged
 returns-then-begins_plain-clause-damaged c = c.parse_plain.ensures.damaged c.args.side
-
-pub returns-then-begins_plain-clause-sums : goal.returns-then-begins_plain-clause-sums
-returns-then-begins_plain-clause-sums c has = c.parse_plain.ensures.sums c.args.side has

@@ -4,7 +4,7 @@ use Rattle.std.proofs.lemmas.Bool.{eqb-true}
 use Rattle.std.proofs.lemmas.List.{nil_from_length}
 use Rattle.lk_summed_disk.specs.Frames.{frame}
 use Rattle.lk_summed_disk.proofs.FrameLaws.{length-frame}
-use Rattle.lk_summed_disk.proofs.ParseLaws.{At, at_more, at_text, at_end, at_damaged, sliced_magic}
+use Rattle.lk_summed_disk.proofs.ParseLaws.{At, at_more, at_text, at_end, at_damaged, sliced_magic, says_summed}
 use Rattle.lk_summed_disk.proofs.parsing.parse_frames.Goals as goal
 
 pub frames-init : goal.frames-init
@@ -70,3 +70,6 @@ returns-clause-parsed c =
           nil_from_length c.frames.rest.now
           (eqb-true (length c.frames.rest.now) 0 (sym c.is_empty.ensures ∙ whole)));
     }
+
+pub returns-clause-sums : goal.returns-clause-sums
+returns-clause-sums c = says_summed c.args.side c.args.bytes.now c.frames.chain c.requires

@@ -1,5 +1,5 @@
 use Rattle.std.proofs.Common.{refl, rules}
-use Rattle.lk_summed_disk.proofs.ParseLaws.{plain_parsed, plain_place_as, sums_plain}
+use Rattle.lk_summed_disk.proofs.ParseLaws.{plain_parsed, plain_place_as, says_plain}
 use Rattle.lk_summed_disk.proofs.parsing.parse_plain.Goals as goal
 
 pub returns-clause-parsed : goal.returns-clause-parsed
@@ -10,4 +10,4 @@ returns-clause-parsed c side =
     }
 
 pub returns-clause-sums : goal.returns-clause-sums
-returns-clause-sums c side has = absurd (sums_plain side c.args.bytes.now c.requires.0 c.requires.1 has)
+returns-clause-sums c side = says_plain side c.args.bytes.now c.requires.0 c.requires.1

@@ -13,5 +13,6 @@ returns-in-Some-clause-value g c honest =
     let holds = subst (λ (o : Option Place). Holds s (contents (disks s)) o) (sym c.at.ensures ∙ c.in-Some.is)
     (c.self.invariant honest s) in
     place_length s (disks s) c.in-Some.place holds
-    ∙ ap (λ (d : Disk). length (contents d)) (sym (disk_over disks c.self.inside.failures s))
+    ∙ ap (λ (d : Disk). length (contents d))
+    (sym (disk_over disks c.self.inside.sums c.self.inside.failures s))
     ∙ ap (λ (v : SummedValue). length (contents (disk_at v s))) c.self.view_is

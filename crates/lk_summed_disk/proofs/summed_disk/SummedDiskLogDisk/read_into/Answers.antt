@@ -11,7 +11,7 @@ returns-clause-value g c honest =
     let read : c.deref.result.now ≡ contents (disk_at c.args.self.now s) =
     c.deref.ensures.value ∙ (search rules) ∙ (c.in-Ok.ensures.parsed honest).text_is
     ∙ sym (decoded_contents s (disks s))
-    ∙ ap contents (sym (disk_over disks c.self.inside.failures s))
+    ∙ ap contents (sym (disk_over disks c.self.inside.sums c.self.inside.failures s))
     ∙ ap (λ (v : SummedValue). contents (disk_at v s)) c.self.view_is in
     subst (λ (l : List ℕ). c.copy_from_slice.new.self
     ≡ slice_range l c.args.offset (c.args.offset + length c.args.buffer.now)) read (search rules)
@@ -23,6 +23,6 @@ returns-clause-within g c honest =
     let read : c.deref.result.now ≡ contents (disk_at c.args.self.now s) =
     c.deref.ensures.value ∙ (search rules) ∙ (c.in-Ok.ensures.parsed honest).text_is
     ∙ sym (decoded_contents s (disks s))
-    ∙ ap contents (sym (disk_over disks c.self.inside.failures s))
+    ∙ ap contents (sym (disk_over disks c.self.inside.sums c.self.inside.failures s))
     ∙ ap (λ (v : SummedValue). contents (disk_at v s)) c.self.view_is in
     subst (λ (l : List ℕ). c.args.offset + length c.args.buffer.now ≤ length l) read (search rules)

@@ -1,0 +1,297 @@
+"""A store with sums: what a node writes, what it takes up again, and which changes of its bytes are noticed."""
+import os
+import random
+import re
+import subprocess
+import tempfile
+import unittest
+
+from harness.by_bytes import Node
+from harness.cluster import Cluster, free_ports
+from harness.summed import MAGIC, frames, pieces, written
+from locks_client import Client
+
+PROGRAM = os.environ.get("LOCKS_PROGRAM")
+RANDOM_FLIPS = 300
+
+# Node 2 of three that has executed nothing: its first Base, and entries that follow it.
+MEMBERS = "03 00000001 1b59 00000002 1b5a 00000003 1b5b"
+REST = (
+    f"0000000000000005 00000002 01 {MEMBERS} 0000000000000000 00000000 0000000000000000"
+    f" 0000002c 0000000000000000 01 {MEMBERS} 00000003 0000000000000000 0000 0000 0000 0000"
+)
+BASE = f"00000072 01 0000000000000001 02 {REST}"
+SECOND = f"00000072 01 0000000000000002 02 {REST}"
+OF_NODE_3 = f"00000072 01 0000000000000001 02 {REST}".replace("00000002 01 03", "00000003 01 03", 1)
+PROMISED = "0000000d 02 0000000000000003 00000001"
+VOTED = "00000016 03 0000000000000001 0000000000000003 00000001 00"
+DECIDED = "0000000a 04 0000000000000001 00"
+PREPARE = "4c4b0101 0000000000000005 00000001 0000000000000003 00000001 0000000000000001"
+ACCEPT = "4c4b0103 0000000000000005 00000001 0000000000000003 00000001 0000000000000001 00"
+
+
+def ran(*words):
+    """Runs the program. Its status, its output, and its standard error."""
+    piped = {"stdin": subprocess.DEVNULL, "capture_output": True, "text": True, "timeout": 60}
+    run = subprocess.run([PROGRAM, *words], **piped)
+    return run.returncode, run.stdout, run.stderr
+
+
+def flipped(data, bit):
+    """The bytes with one bit changed."""
+    changed = bytearray(data)
+    changed[bit // 8] ^= 1 << bit % 8
+    return bytes(changed)
+
+
+class Store(unittest.TestCase):
+    """A folder with a store of node 2."""
+
+    def setUp(self):
+        self.folder = self.enterContext(tempfile.TemporaryDirectory())
+
+    def put(self, a, b=b""):
+        for name, data in (("a", a), ("b", b)):
+            with open(os.path.join(self.folder, name), "wb") as file:
+                file.write(data)
+
+    def get(self, name):
+        with open(os.path.join(self.folder, name), "rb") as file:
+            return file.read()
+
+    def dump(self):
+        return ran("dump", "--dir", self.folder)
+
+    def scrub(self):
+        return ran("scrub", "--dir", self.folder)
+
+    def is_noticed(self, a, b=b""):
+        """Whether a store of these bytes is damaged, to whoever reads it, and neither read nor taken for a torn one."""
+        self.put(a, b)
+        status, out, err = self.dump()
+        if (status, out) in ((0, out or None), (1, "no store\n")):
+            return False
+        self.assertEqual((status, out, err.splitlines()[-1]), (1, "", "fault 9"))
+        return True
+
+
+@unittest.skipUnless(PROGRAM, "LOCKS_PROGRAM does not tell the program")
+class BytesTest(Store):
+    """Files of given bytes."""
+
+    def setUp(self):
+        super().setUp()
+        self.pieces = [bytes.fromhex(it) for it in (BASE, PROMISED, VOTED, DECIDED)]
+        self.file = written("a", self.pieces)
+
+    def test_every_flipped_bit_is_noticed(self):
+        plain = b"".join(self.pieces)
+        self.assertFalse(self.is_noticed(self.file))
+        missed = [bit for bit in range(8 * len(self.file)) if not self.is_noticed(flipped(self.file, bit))]
+        self.assertEqual(missed, [])
+        unnoticed = sum(not self.is_noticed(flipped(plain, bit)) for bit in range(8 * len(plain)))
+        self.assertGreater(unnoticed, len(plain), "of a store without sums many are not")
+
+    def test_a_wrong_sum_is_told_with_its_place(self):
+        at = len(written("a", self.pieces[:2]))
+        self.put(flipped(self.file, 8 * at + 47))
+        told = f"{self.folder}/a: wrong sum at byte {at}\n"
+        for words in (("dump",), ("inspect",), ("scrub",)):
+            status, out, err = ran(*words, "--dir", self.folder)
+            self.assertEqual((status, err.startswith(told), err.splitlines()[-1]), (1, True, "fault 9"), words)
+            self.assertNotIn("a: sums right", out)
+
+    def test_a_start_does_not_go_on_with_changed_bytes(self):
+        with Node(PROGRAM, self.folder) as node:
+            file = written("a", [node.bytes_of(it) for it in (BASE, PROMISED, VOTED)])
+            choose = random.Random(3)
+            for bit in choose.sample(range(8 * len(file)), 12):
+                for words in ((), ("--sums",)):
+                    node.write(flipped(file, bit))
+                    node.words = words
+                    self.assertEqual((node.start(), node.kill()), ("fault 9", 1), bit)
+                    self.assertEqual((node.read("a"), node.read("b")), (flipped(file, bit), b""))
+
+    def test_frames_that_are_moved_repeated_or_swapped_are_noticed(self):
+        parts, head = frames("a", self.file), MAGIC["a"]
+        others = {
+            "generation": frames("a", written("a", [bytes.fromhex(it) for it in (SECOND, PROMISED, VOTED, DECIDED)])),
+            "node": frames("a", written("a", [bytes.fromhex(it) for it in (OF_NODE_3, PROMISED, VOTED, DECIDED)])),
+            "side": frames("b", written("b", self.pieces)),
+        }
+        for i, part in enumerate(parts):
+            for j in range(len(parts)):
+                moved = [*parts[:i], *parts[i + 1 :]]
+                moved.insert(j, part)
+                repeated = [*parts[: j + 1], part, *parts[j + 1 :]]
+                for tried in (moved, repeated):
+                    if tried != parts:
+                        self.assertTrue(self.is_noticed(head + b"".join(tried)), (i, j))
+            if i + 1 < len(parts):
+                self.assertTrue(self.is_noticed(head + b"".join([*parts[:i], *parts[i + 1 :]])), i)
+            for whose, of in others.items():
+                swapped = [*parts[:i], of[i], *parts[i + 1 :]]
+                self.assertTrue(self.is_noticed(head + b"".join(swapped)), (whose, i))
+        self.assertTrue(self.is_noticed(b"", self.file), "a file in the place of the other")
+
+    def test_what_a_stop_leaves_is_no_damage(self):
+        ends = [len(written("a", self.pieces[:count])) for count in range(len(self.pieces) + 1)]
+        for length in range(len(self.file) + 1):
+            self.put(self.file[:length])
+            status, out, err = self.scrub()
+            self.assertEqual((status, err), (0, ""), length)
+            whole = sum(end <= length for end in ends[1:])
+            status, out, err = self.dump()
+            self.assertEqual((status, err), (0 if whole else 1, ""), length)
+            self.assertEqual(out == "no store\n", not whole)
+            if whole:
+                self.assertTrue(out.endswith("format 3\n"))
+
+    def test_a_front_of_a_first_base_is_begun_anew(self):
+        with Node(PROGRAM, self.folder) as node:
+            file = written("a", [node.bytes_of(BASE)])
+            for length in (1, 7, 8, 9, 20, len(file) - 1):
+                node.write(file[:length])
+                node.start()
+                self.assertEqual(node.kill(), -9)
+                begun = file if length >= len(MAGIC["a"]) else node.bytes_of(BASE)
+                self.assertEqual((node.read("a"), node.read("b")), (begun, b""), length)
+
+    def test_a_torn_rest_is_cut_off(self):
+        with Node(PROGRAM, self.folder) as node:
+            kept = written("a", [node.bytes_of(it) for it in (BASE, PROMISED)])
+            whole = written("a", [node.bytes_of(it) for it in (BASE, PROMISED, VOTED)])
+            for length in range(len(kept) + 1, len(whole)):
+                if length % 5 == 0:
+                    node.write(whole[:length])
+                    node.start()
+                    self.assertEqual((node.kill(), node.read("a")), (-9, kept), length)
+
+    def test_scrub_tells_of_both_files(self):
+        wrong = flipped(self.file, 100), flipped(written("b", self.pieces), 200)
+        self.put(*wrong)
+        status, out, err = self.scrub()
+        places = re.findall(rf"(?m)^{re.escape(self.folder)}/([ab]): wrong sum at byte (\d+)$", err)
+        self.assertEqual((status, out, places), (1, "", [("a", "8"), ("b", "8")]))
+        self.put(self.file, wrong[1])
+        status, out, err = self.scrub()
+        self.assertEqual((status, out), (1, f"{self.folder}/a: sums right\n"))
+        self.assertIn("/b: wrong sum", err)
+        self.assertEqual((self.get("a"), self.get("b")), (self.file, wrong[1]))
+
+    def test_scrub_of_files_without_sums(self):
+        self.put(b"".join(self.pieces))
+        told = f"{self.folder}/a: no sums\n{self.folder}/b: no sums\n"
+        self.assertEqual(self.scrub(), (0, told, ""))
+        os.remove(os.path.join(self.folder, "b"))
+        self.assertEqual(self.scrub()[0], 1)
+
+    def test_dump_and_inspect_say_the_format(self):
+        for a, b, said in (
+            (self.file, b"", "3"),
+            (b"", written("b", self.pieces), "3"),
+            (b"".join(self.pieces), b"", "2"),
+            (b"".join(self.pieces), b"locks", "2"),
+            (b"".join(self.pieces), b"locks 3b" + self.file[8:20], "2"),
+        ):
+            self.put(a, b)
+            status, out, err = self.dump()
+            self.assertEqual((status, out.splitlines()[-1], err), (0, f"format {said}", ""))
+            status, out, err = ran("inspect", "--dir", self.folder)
+            self.assertEqual((status, out.startswith("format 3\n"), err), (0, said == "3", ""))
+
+    def test_random_changes_of_a_longer_store_are_noticed(self):
+        votes = [
+            bytes.fromhex("00000016 03") + position.to_bytes(8, "big") + bytes.fromhex("0000000000000003 00000001 00")
+            for position in range(1, 60)
+        ]
+        file = written("a", [*self.pieces[:2], *(b"".join(votes[i : i + 3]) for i in range(0, len(votes), 3))])
+        self.assertFalse(self.is_noticed(file))
+        choose = random.Random(1)
+        for _ in range(RANDOM_FLIPS):
+            changed = bytearray(file)
+            for _ in range(choose.choice((1, 1, 2, 8))):
+                changed[choose.randrange(len(file))] ^= 1 << choose.randrange(8)
+            if changed != file:
+                self.assertTrue(self.is_noticed(bytes(changed)))
+
+
+@unittest.skipUnless(PROGRAM, "LOCKS_PROGRAM does not tell the program")
+class NodesTest(Store):
+    """Nodes that write such files."""
+
+    def test_init_begins_a_store_with_sums(self):
+        [port] = free_ports(1)
+        words = ("--genesis", f"5,2,1:{port}", "--number", "1", "--dir", self.folder)
+        self.assertEqual(ran("init", "--sums", *words), (0, "", ""))
+        [base] = pieces("a", self.get("a"))
+        self.assertEqual((base[:5], self.get("b")), (bytes.fromhex("00000061 01"), b""))
+        self.assertEqual(self.scrub()[0], 0)
+        self.assertTrue(self.dump()[1].endswith("format 3\n"))
+
+    def test_a_node_writes_what_it_would_write_without_them(self):
+        with Node(PROGRAM, self.folder) as node:
+            for words in ((), ("--sums",)):
+                node.words = words
+                node.write(b"")
+                node.start()
+                for datagram in (PREPARE, ACCEPT):
+                    node.asked(node.bytes_of(datagram))
+                node.kill()
+                kept = node.bytes_of(BASE, PROMISED, VOTED)
+                if words:
+                    self.assertEqual(b"".join(pieces("a", node.read("a"))), kept)
+                else:
+                    self.assertEqual(node.read("a"), kept)
+                self.assertEqual(node.read("b"), b"")
+            # Once begun they stay.
+            node.words = ()
+            before = node.read("a")
+            node.start()
+            node.asked(node.bytes_of(PREPARE))
+            node.kill()
+            self.assertEqual(node.read("a")[: len(before)], before)
+            pieces("a", node.read("a"))
+
+    def test_a_store_without_sums_gets_them_with_its_next_snapshot(self):
+        with Cluster(PROGRAM, self.folder, nodes=1, alpha=2) as cluster:
+            folder = os.path.join(self.folder, "1")
+            with cluster.client(Client, 7, patience=30.0) as client:
+                last = [client.acquire("db")]
+                for options, requests in (((), 20), (("--sums",), 300), ((), 300)):
+                    cluster.kill(1)
+                    before = ran("inspect", "--dir", folder)[1].splitlines()
+                    cluster.options = options
+                    cluster.start(1)
+                    for _ in range(requests // 2):
+                        client.release("db", last[-1])
+                        last.append(client.acquire("db"))
+                    told = ran("dump", "--dir", folder)[1]
+                    self.assertEqual(told.splitlines()[-1], "format 2" if requests == 20 else "format 3")
+                    self.assertEqual(ran("scrub", "--dir", folder)[0], 0, before)
+                    if requests == 20:
+                        cluster.kill(1)
+                        cluster.options = ("--sums",)
+                        cluster.start(1)
+                        client.ask("db")
+                        self.assertTrue(ran("dump", "--dir", folder)[1].endswith("format 2\n"))
+            self.assertEqual(last, sorted(set(last)))
+            cluster.kill(1)
+            told = ran("inspect", "--dir", folder)[1].splitlines()
+            self.assertEqual((told[0], told[-1]), ("format 3", f"held db 7 {last[-1]}"))
+
+    def test_scrub_does_not_disturb_a_node(self):
+        with Cluster(PROGRAM, self.folder, nodes=1, alpha=2, options=("--sums",)) as cluster:
+            folder = os.path.join(self.folder, "1")
+            with cluster.client(Client, 7, patience=30.0) as client:
+                client.acquire("db")
+                words = [PROGRAM, "scrub", "--dir", folder]
+                for _ in range(40):
+                    with subprocess.Popen(words, stdout=subprocess.DEVNULL) as scrubbing:
+                        for _ in range(15):
+                            client.ask("db")
+                        self.assertEqual(scrubbing.wait(), 0)
+
+
+if __name__ == "__main__":
+    unittest.main()
