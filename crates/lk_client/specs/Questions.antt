@@ -11,7 +11,7 @@ use Rattle.lk_messages.specs.declared.message.Content.TheVariants as content
 use Rattle.lk_messages.specs.declared.message.Message.{Message}
 use Rattle.lk_auth.specs.Seals.{key_list, framed_by, replied}
 use Rattle.lk_auth.specs.Seals as seals
-use Rattle.lk_transport.specs.Hosts.{host_of}
+use Rattle.lk_address_book.specs.Hosts.{host_of}
 use Rattle.lk_transport.specs.Chains.{Repeats}
 use Rattle.lk_client.specs.Replies.{reply_of}
 use Rattle.lk_client.specs.declared.destination.Destination.{Destination}

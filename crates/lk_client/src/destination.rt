@@ -4,8 +4,8 @@ ghost use Rattle.std.specs.Net.Socket.{socket_port};
 ghost use Rattle.std.specs.Prelude.{◌≡◌, ◌↔◌, IfSome, IsNone, IsTrue};
 ghost use Rattle.lk_client.specs.Questions.{IsAt, destination_place};
 
+use lk_address_book::hosts::Hosts;
 use lk_auth::{AskerSeals, Keys};
-use lk_transport::hosts::Hosts;
 use lk_types::{Member, Port};
 use std::net::{IpAddr, Ipv4Addr, SocketAddr};
 

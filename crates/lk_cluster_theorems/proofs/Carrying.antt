@@ -30,13 +30,14 @@ use Rattle.lk_auth.specs.Seals.{key_list, to_node, replying, framed_by, heard, h
 use Rattle.lk_auth.specs.declared.seals.Seals.{Seals}
 use Rattle.lk_replica.specs.Posts.{CarriesAll}
 use Rattle.lk_replica.specs.ReplicaValue.{ReplicaValue}
-use Rattle.lk_transport.specs.Addresses.{AddressBook, Filter, filter_of}
+use Rattle.lk_address_book.specs.Addresses.{AddressBook, Filter, filter_of}
 use Rattle.lk_transport.specs.Askers.{asker, frame_for, keys_to, Replies, SendsTo}
 use Rattle.lk_transport.specs.Inquiring.{SendsProbe, question_by}
 use Rattle.lk_transport.specs.Listening.{HearsIf, HearsKept, ProbesAt, ProbesOther, ProbesMembers, ProbesIf}
-use Rattle.lk_transport.specs.Listening.{SendsSealedProbe, member_probe}
-use Rattle.lk_transport.specs.Posts.{SendState, Becomes, Loses, frame_of, keys_for, carried, all_filtered}
-use Rattle.lk_transport.specs.Posts.{is_filtered_out, is_beside_protocol}
+use Rattle.lk_transport.specs.Listening.{SendsSealedProbe, asks_state, member_probe}
+use Rattle.lk_transport.specs.Posts.{SendState, Becomes, Loses, frame_of, keys_for, carried}
+use Rattle.lk_address_book.specs.Filters.{all_filtered}
+use Rattle.lk_address_book.specs.Filters.{is_filtered_out, is_beside_protocol}
 use Rattle.lk_transport.specs.declared.received_probe.ReceivedProbe.{ReceivedProbe}
 use Rattle.lk_server.specs.Premises.{IsNoNodeMessage}
 use Rattle.lk_server.specs.ProbeHandling.{HandlesProbes, ListensFor}
@@ -203,46 +204,47 @@ module _ (observable : Type 0) (shown : observable) where
       beside_posts letters address (frame_of s to sends.0) (keys_for s to) old new
       (subst IsNoNodeMessage (sym (frame_is s none to sends.0)) (probe_is_none p sends.0 sends.1)) sends.2
 
-  probe_at_posts : (letters : List LetterValue) (node : ℕ) (m : Member) (token : ℕ) (address : Option SocketAddr)
-      (old new : AddressBook) (before after : SendState) → HasNoKey old.seals
-      → ProbesAt observable node m token address old new before after
+  probe_at_posts : (letters : List LetterValue) (node : ℕ) (asks : Bool) (m : Member) (token : ℕ)
+      (address : Option SocketAddr) (old new : AddressBook) (before after : SendState) → HasNoKey old.seals
+      → ProbesAt observable node asks m token address old new before after
       → (new.seals ≡ old.seals) × PostsOnly letters before.sent after.sent
-  probe_at_posts letters node m token None old new before after none p = (
+  probe_at_posts letters node asks m token None old new before after none p = (
     ap (λ (b : AddressBook). b.seals) p.0,
     posts_none letters before.sent after.sent (ap (λ (s : SendState). s.sent) p.1),
   )
-  probe_at_posts letters node m token (Some address) old new before after none p = (
+  probe_at_posts letters node asks m token (Some address) old new before after none p = (
     ap (λ (b : AddressBook). b.seals) p.0,
-    sealed_probe_posts letters old.seals none (Node m.node m.port) (member_probe old.seals node token) address before
-        after p.1,
+    sealed_probe_posts letters old.seals none (Node m.node m.port) (member_probe old.seals node asks token) address
+        before after p.1,
   )
 
-  member_posts : (letters : List LetterValue) (is_own : Bool) (node : ℕ) (m : Member) (token : ℕ)
+  member_posts : (letters : List LetterValue) (is_own : Bool) (node : ℕ) (asks : Bool) (m : Member) (token : ℕ)
       (old new : AddressBook) (before after : SendState) → HasNoKey old.seals
-      → ProbesOther is_own observable node m token old new before after
+      → ProbesOther is_own observable node asks m token old new before after
       → (new.seals ≡ old.seals) × PostsOnly letters before.sent after.sent
-  member_posts letters true node m token old new before after none p = (
+  member_posts letters true node asks m token old new before after none p = (
     ap (λ (b : AddressBook). b.seals) p.0,
     posts_none letters before.sent after.sent (ap (λ (s : SendState). s.sent) p.1),
   )
-  member_posts letters false node m token old new before after none p =
-      probe_at_posts letters node m token p.0 old new before after none p.2
+  member_posts letters false node asks m token old new before after none p =
+      probe_at_posts letters node asks m token p.0 old new before after none p.2
 
-  members_posts : (letters : List LetterValue) (node : ℕ) (ms : List Member) (old new : AddressBook)
-      (before after : SendState) → HasNoKey old.seals → ProbesMembers observable node ms old new before after
+  members_posts : (letters : List LetterValue) (node : ℕ) (asks : Bool) (ms : List Member) (old new : AddressBook)
+      (before after : SendState) → HasNoKey old.seals → ProbesMembers observable node asks ms old new before after
       → PostsOnly letters before.sent after.sent
-  members_posts letters node [] old new before after none p =
+  members_posts letters node asks [] old new before after none p =
       posts_none letters before.sent after.sent (ap (λ (s : SendState). s.sent) p.1)
-  members_posts letters node (m ∷ ms) old new before after none p =
-      let one = member_posts letters (m.node == node) node m p.0 old p.1 before p.2 none p.3 in
+  members_posts letters node asks (m ∷ ms) old new before after none p =
+      let one = member_posts letters (m.node == node) node asks m p.0 old p.1 before p.2 none p.3 in
       posts_both letters before.sent p.2.sent after.sent one.1
-      (members_posts letters node ms p.1 new p.2 after (subst HasNoKey (sym one.0) none) p.4)
+      (members_posts letters node asks ms p.1 new p.2 after (subst HasNoKey (sym one.0) none) p.4)
 
   round_posts : (letters : List LetterValue) (is_due : Bool) (node now : ℕ) (ms : List Member) (old new : AddressBook)
       (before after : SendState) → HasNoKey old.seals → ProbesIf is_due observable node now ms old new before after
       → PostsOnly letters before.sent after.sent
   round_posts letters true node now ms old new before after none p =
-      members_posts letters node ms (record old { hearing = having_begun now old.hearing }) new before after none p
+      members_posts letters node (asks_state now) ms (record old { hearing = having_begun now old.hearing }) new before
+      after none p
   round_posts letters false node now ms old new before after none p =
       posts_none letters before.sent after.sent (ap (λ (s : SendState). s.sent) p.1)
 

@@ -15,7 +15,7 @@ use Rattle.lk_transport.specs.declared.received_watch.ReceivedWatch.{ReceivedWat
 use Rattle.lk_server.specs.Servers.{ServerValue, Turn, LastTurn, IsIdle}
 use Rattle.lk_probe.specs.declared.reported.Reported.{Reported}
 use Rattle.lk_transport.specs.declared.received_probe.ReceivedProbe.{ReceivedProbe}
-use Rattle.lk_transport.specs.declared.hosts.HostNews.{HostNews}
+use Rattle.lk_address_book.specs.declared.hosts.HostNews.{HostNews}
 use Rattle.lk_node_process.specs.Turns.{ActsBeside, DoesTurnWith, TellsFailure, letters_in}
 use Rattle.lk_sim.specs.Networks.{IsStillDown, RestsBy, Stops, nothing}
 use Rattle.lk_sim_nodes.specs.Rooms.{AreShort}
@@ -365,9 +365,7 @@ module _ (May : Network) (Metered observable : Type 0) where
     mid_failure mid next news asked reported watched acts failure =
         let as_was : next ≡ record mid {
           addresses = next.addresses;
-          queue = next.queue;
-          aged = next.aged;
-          changed = next.changed;
+          waiting = next.waiting;
           sent = next.sent;
           socket_failures = next.socket_failures;
           incoming = next.incoming;

@@ -16,12 +16,12 @@ use Rattle.lk_node.specs.Histories.{Genesis, Datagram}
 use Rattle.lk_node.specs.Leavings.{DisksFit}
 use Rattle.lk_replica.specs.Posts.{CarriesAll}
 use Rattle.lk_replica.specs.ReplicaValue.{ReplicaValue, device_of}
-use Rattle.lk_transport.specs.Addresses.{AddressBook}
+use Rattle.lk_address_book.specs.Addresses.{AddressBook}
 use Rattle.lk_transport.specs.Posts.{SendState, Becomes}
 use Rattle.lk_pacing.specs.Paces.{ticks_after, MayFollow}
 use Rattle.lk_server.specs.WatchHandling.{HandlesWatches}
 use Rattle.lk_server_replica.specs.Tables.{table_of}
-use Rattle.lk_transport.specs.declared.hosts.HostNews.{HostNews}
+use Rattle.lk_address_book.specs.declared.hosts.HostNews.{HostNews}
 use Rattle.lk_node_process.specs.Turns.{ActsBeside, KnowsJoined, TakesHosts}
 use Rattle.lk_transport.specs.declared.received_watch.ReceivedWatch.{ReceivedWatch}
 use Rattle.lk_server_replica.specs.Showing.{IsShown}
@@ -272,27 +272,21 @@ at_rest server after = record after {
   sent = server.sent;
   socket_failures = server.socket_failures;
   withheld = server.withheld;
-  queue = server.queue;
-  aged = server.aged;
-  changed = server.changed;
+  waiting = server.waiting;
 }
 
 -- what handling watches may change
 pub watches_change : {observable : Type 0} (watched : Option ReceivedWatch) (old new : ServerValue ReplicaValue)
     → HandlesWatches table_of IsShown observable watched old new
     → new ≡ record old {
-      queue = new.queue;
-      aged = new.aged;
-      changed = new.changed;
+      waiting = new.waiting;
       sent = new.sent;
       socket_failures = new.socket_failures;
       incoming = new.incoming;
     }
 watches_change watched old new (inl quiet) =
     quiet.same ∙ ap (λ (s : ServerValue ReplicaValue). record old {
-      queue = s.queue;
-      aged = s.aged;
-      changed = s.changed;
+      waiting = s.waiting;
       sent = s.sent;
       socket_failures = s.socket_failures;
       incoming = s.incoming;
@@ -309,9 +303,7 @@ at_last news told noted new joined hosts =
 -- what a step changed, and after it the addresses
 after_told : (old told new : ServerValue ReplicaValue) → told ≡ record old {
   addresses = told.addresses;
-  queue = told.queue;
-  aged = told.aged;
-  changed = told.changed;
+  waiting = told.waiting;
   sent = told.sent;
   socket_failures = told.socket_failures;
   incoming = told.incoming;
@@ -319,9 +311,7 @@ after_told : (old told new : ServerValue ReplicaValue) → told ≡ record old {
     → new ≡ record told { addresses = new.addresses }
     → new ≡ record old {
       addresses = new.addresses;
-      queue = new.queue;
-      aged = new.aged;
-      changed = new.changed;
+      waiting = new.waiting;
       sent = new.sent;
       socket_failures = new.socket_failures;
       incoming = new.incoming;
@@ -329,9 +319,7 @@ after_told : (old told new : ServerValue ReplicaValue) → told ≡ record old {
 after_told old told new first last =
     ap (λ (s : ServerValue ReplicaValue). record s {
       addresses = new.addresses;
-      queue = new.queue;
-      aged = new.aged;
-      changed = new.changed;
+      waiting = new.waiting;
       sent = new.sent;
       socket_failures = new.socket_failures;
       incoming = new.incoming;
@@ -343,9 +331,7 @@ pub beside_changes : {observable : Type 0} (news : HostNews) (asked : Option Rec
     → (acts : ActsBeside observable news asked reported watched old new)
     → new ≡ record old {
       addresses = new.addresses;
-      queue = new.queue;
-      aged = new.aged;
-      changed = new.changed;
+      waiting = new.waiting;
       sent = new.sent;
       socket_failures = new.socket_failures;
       incoming = new.incoming;
@@ -354,9 +340,7 @@ beside_changes news asked reported watched old new acts =
     let book = acts.told.addresses in
     let told : acts.told ≡ record old {
       addresses = book;
-      queue = acts.told.queue;
-      aged = acts.told.aged;
-      changed = acts.told.changed;
+      waiting = acts.told.waiting;
       sent = acts.told.sent;
       socket_failures = acts.told.socket_failures;
       incoming = acts.told.incoming;
@@ -365,9 +349,7 @@ beside_changes news asked reported watched old new acts =
     (watches_change watched acts.probed acts.told acts.watches)
     ∙ ap (λ (s : ServerValue ReplicaValue). record s {
       addresses = book;
-      queue = acts.told.queue;
-      aged = acts.told.aged;
-      changed = acts.told.changed;
+      waiting = acts.told.waiting;
       sent = acts.told.sent;
       socket_failures = acts.told.socket_failures;
       incoming = acts.told.incoming;
@@ -387,9 +369,7 @@ at_rest_by server after (inl i) =
       addresses = server.addresses;
       sent = server.sent;
       socket_failures = server.socket_failures;
-      queue = server.queue;
-      aged = server.aged;
-      changed = server.changed;
+      waiting = server.waiting;
     }) i.1.same
 at_rest_by server after (inr a) =
     ap (λ (s : ServerValue ReplicaValue). at_rest server s) (beside_changes a.0 a.1 a.2 a.3 server after a.4)

@@ -3,8 +3,8 @@ use Rattle.std.proofs.Common.{ℕ, List, Option, Result, Ok, Err, inl, inr}
 use Rattle.std.specs.Prelude.{OnOk, OnErr}
 use Rattle.std.specs.declared.net.socket_addr.SocketAddr.{SocketAddr}
 use Rattle.lk_node_interface.specs.Letters.{LetterValue}
-use Rattle.lk_transport.specs.Addresses.{Filter, filter_of}
-use Rattle.lk_transport.specs.Posts.{all_filtered}
+use Rattle.lk_address_book.specs.Addresses.{Filter, filter_of}
+use Rattle.lk_address_book.specs.Filters.{all_filtered}
 use Rattle.lk_server.specs.Servers.{ServerValue, DeliversLetters, HasReceived, Turn, LastTurn, TurnOrIdle}
 
 module _ {R : Type 0} (S T : R → List (Option (List ℕ)) → List LetterValue → R → Type 0)

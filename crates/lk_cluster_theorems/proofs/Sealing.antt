@@ -16,8 +16,8 @@ use Rattle.lk_node.specs.Histories.{Genesis, Datagram}
 use Rattle.lk_replica.specs.ReplicaValue.{ReplicaValue}
 use Rattle.lk_auth.specs.Seals.{key_list, heard}
 use Rattle.lk_auth.specs.declared.seals.Seals.{Seals}
-use Rattle.lk_transport.specs.Addresses.{Filter, filter_of}
-use Rattle.lk_transport.specs.Posts.{all_filtered, is_filtered_out, is_beside_protocol}
+use Rattle.lk_address_book.specs.Addresses.{Filter, filter_of}
+use Rattle.lk_address_book.specs.Filters.{all_filtered, is_filtered_out, is_beside_protocol}
 use Rattle.lk_server.specs.Premises.{IsFromANode, IsNoNodeMessage}
 use Rattle.lk_server.specs.Servers.{ServerValue}
 use Rattle.lk_transport.specs.Chains.{Chain}

@@ -62,7 +62,15 @@ module _ (Metered observable Honest : Type 0) (came : List (SocketAddr Ã— List â
         silent = refl;
         ticks = refl;
         heard = x.heard;
-        same = record { cluster = refl; node = refl; pace = refl; queue = refl; aged = refl };
+        same = record {
+          cluster = refl;
+          node = refl;
+          pace = refl;
+          queue = refl;
+          aged = refl;
+          spoke = refl;
+          served = refl;
+        };
         ended = refl;
       } in
       (after, last, refl, refl)

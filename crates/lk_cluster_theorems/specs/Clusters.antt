@@ -21,7 +21,7 @@ use Rattle.lk_replica.specs.Groups.{StepSaid}
 use Rattle.lk_replica.specs.ReplicaValue.{ReplicaValue}
 use Rattle.lk_server_replica.specs.Sayings.{SaysByGroup, IsSilenced, SaysOf}
 use Rattle.lk_server.specs.Premises.{IsNoNodeMessage}
-use Rattle.lk_transport.specs.declared.hosts.HostNews.{HostNews}
+use Rattle.lk_address_book.specs.declared.hosts.HostNews.{HostNews}
 use Rattle.lk_node_process.specs.Turns.{ActsBeside}
 use Rattle.lk_server.specs.Servers.{ServerValue, Turn, LastTurn, IsIdle}
 use Rattle.lk_probe.specs.declared.reported.Reported.{Reported}

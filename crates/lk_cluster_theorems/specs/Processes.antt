@@ -16,8 +16,8 @@ use Rattle.lk_node.specs.Histories.{Datagram}
 use Rattle.lk_node.specs.Leavings.{header_of}
 use Rattle.lk_replica.specs.ReplicaValue.{ReplicaValue}
 use Rattle.lk_server.specs.Servers.{ServerValue, Turn, LastTurn, IsIdle}
-use Rattle.lk_transport.specs.Addresses.{filter_of}
-use Rattle.lk_transport.specs.Posts.{all_filtered}
+use Rattle.lk_address_book.specs.Addresses.{filter_of}
+use Rattle.lk_address_book.specs.Filters.{all_filtered}
 use Rattle.lk_program_fault.specs.declared.fault.ProgramFault.{ProgramFault}
 use Rattle.lk_node_process.specs.Revivals.{IsServerStarted, IsRefusedWith}
 use Rattle.lk_node_process.specs.Turns.{DoesTurnWith, HasFollowedNoStranger, HasFollowedStranger, TellsFailure}

@@ -9,8 +9,8 @@ use Rattle.lk_node.specs.Histories.{Datagram}
 use Rattle.lk_replica.specs.ReplicaValue.{ReplicaValue}
 use Rattle.lk_auth.specs.Seals.{key_list, to_node, IsSealedBy}
 use Rattle.lk_auth.specs.declared.seals.Seals.{Seals}
-use Rattle.lk_transport.specs.Addresses.{filter_of}
-use Rattle.lk_transport.specs.Posts.{all_filtered, is_beside_protocol}
+use Rattle.lk_address_book.specs.Addresses.{filter_of}
+use Rattle.lk_address_book.specs.Filters.{all_filtered, is_beside_protocol}
 use Rattle.lk_server.specs.Servers.{ServerValue}
 use Rattle.lk_sim_nodes.specs.declared.seat.Life.{Life}
 use Rattle.lk_cluster_theorems.specs.Clusters.{WasGiven}

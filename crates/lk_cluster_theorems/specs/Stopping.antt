@@ -6,8 +6,8 @@ use Rattle.lk_locks.specs.Packed.{IsTableText}
 use Rattle.lk_replica.specs.Groups.{GroupValue}
 use Rattle.lk_replica.specs.ReplicaValue.{ReplicaValue}
 use Rattle.lk_server_replica.specs.Sayings.{GathersOf}
-use Rattle.lk_transport.specs.Addresses.{AddressBook}
-use Rattle.lk_transport.specs.Posts.{RecordsSenders}
+use Rattle.lk_address_book.specs.Addresses.{AddressBook}
+use Rattle.lk_address_book.specs.Senders.{RecordsSenders}
 use Rattle.lk_server.specs.Servers.{ServerValue, LettersFirst, TakesLetters, GivenPrefix, datagrams_in}
 
 -- in a turn of this server its replica has been given this so far, a prefix of what it may be given, and is now in that

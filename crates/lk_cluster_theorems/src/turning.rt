@@ -5,8 +5,8 @@ ghost use Rattle.std.specs.declared.net.socket_addr.SocketAddr.{SocketAddr as Ad
 ghost use Rattle.lk_types.specs.declared.genesis.Genesis.{Genesis as GenesisValue};
 ghost use Rattle.lk_node.specs.Leavings.{header_of};
 ghost use Rattle.lk_cluster_theorems.specs.Clusters.{HasStarted, Says};
-ghost use Rattle.lk_transport.specs.Addresses.{filter_of};
-ghost use Rattle.lk_transport.specs.Posts.{all_filtered};
+ghost use Rattle.lk_address_book.specs.Addresses.{filter_of};
+ghost use Rattle.lk_address_book.specs.Filters.{all_filtered};
 ghost use Rattle.lk_transport.specs.Kept.{KeepsOf};
 ghost use Rattle.lk_server.specs.Servers.{HasReceived, TurnOrIdle, LastTurn};
 

@@ -53,6 +53,15 @@ abbrev pub answered_at : Reply → ℕ → Option Asked → Option Asked
 answered_at r now None = None
 answered_at r now (Some a) = Some (answered r now a)
 
+-- the report replies to one of these probes
+abbrev pub is_reply_at : Reply → Option Asked → Bool
+is_reply_at r None = false
+is_reply_at r (Some a) = is_reply r a.probe
+
+abbrev pub is_expected : Reply → Entries → Bool
+is_expected r [] = false
+is_expected r (e ∷ es) = is_reply_at r e || is_expected r es
+
 -- ---- what changes
 
 -- one more probe was sent: it is the most recent, and only 112 are remembered

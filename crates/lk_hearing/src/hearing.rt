@@ -3,7 +3,7 @@
 ghost use Rattle.std.specs.Prelude.{◌≡◌, ◌↔◌, ◌≤◌, length, IsTrue};
 ghost use Rattle.lk_hearing.specs.Probes.{IsHeard, answered, answered_at, is_reply, is_recent, counts_for, hears};
 ghost use Rattle.lk_hearing.specs.Probes.{count_heard, hears_majority, having_sent, having_heard, having_begun};
-ghost use Rattle.lk_hearing.specs.Probes.{is_round_due, nothing_sent};
+ghost use Rattle.lk_hearing.specs.Probes.{is_expected, is_reply_at, is_round_due, nothing_sent};
 
 use lk_types::{Member, NodeNo};
 use std::marker::Model;
@@ -104,6 +104,28 @@ fn counts_for(node: NodeNo, now: u64, entry: &Option<Asked>) -> bool
     }
 }
 
+// Whether an entry is a probe to which a report replies.
+fn is_reply_at(reply: &Reply, entry: &Option<Asked>) -> bool
+    ensures { result ≡ is_reply_at reply.now entry.now }
+{
+    match entry {
+        Some(asked) => asked.probe.is_answered_by(reply),
+        None => false,
+    }
+}
+
+// Whether a report replies to one of the entries.
+fn is_expected(reply: &Reply, entries: &[Option<Asked>]) -> bool
+    ensures { result ≡ is_expected reply.now entries.now }
+{
+    for entry in entries {
+        if is_reply_at(reply, entry) {
+            return true;
+        }
+    }
+    false
+}
+
 // Returns an entry after this report.
 fn answered_at(reply: &Reply, now: u64, entry: Option<Asked>) -> Option<Asked>
     ensures { result ≡ answered_at reply.now now entry }
@@ -175,6 +197,13 @@ impl Hearing {
         ensures { self.new ≡ record self.old { asked = having_heard reply.now now self.old.asked } }
     {
         answer_all(&mut self.asked, reply, now);
+    }
+
+    /// Whether a report replies to one of the last 112 probes.
+    pub fn expects(&self, reply: &Reply) -> bool
+        ensures { result ≡ is_expected reply.now self.now.asked }
+    {
+        is_expected(reply, &self.asked)
     }
 
     /// Whether a node is heard in period `now`: it replied to a probe in this period or in one of the seven before it.

@@ -6,11 +6,11 @@ use Rattle.lk_node_events.specs.declared.event.Event.TheVariants.{Leaderless}
 use Rattle.lk_node_events.specs.declared.event.Event.TheVariants.{Joined}
 use Rattle.lk_node_events.specs.declared.event.Event.TheVariants.{Left, Wrote, Installed, Unsent, Behind, CaughtUp}
 use Rattle.lk_node_events.specs.declared.event.Event.TheVariants.{OtherGenesis, OtherCluster, Deaf, Hears, Outside}
-use Rattle.lk_node_events.specs.declared.event.Event.TheVariants.{QueueFull, Names, Barred, Unopened, Hosts}
+use Rattle.lk_node_events.specs.declared.event.Event.TheVariants.{QueueFull, Names, Barred, Unopened, Hosts, Apart}
 
 -- how many kinds of events there are
 abbrev pub kinds : ℕ
-kinds = 23
+kinds = 24
 
 -- the index of an event's kind, below that number
 abbrev pub kind_of : Event → ℕ
@@ -37,6 +37,7 @@ kind_of (Names count) = 19
 kind_of (Barred client) = 20
 kind_of (Unopened from cluster) = 21
 kind_of (Hosts are_usable) = 22
+kind_of (Apart node position) = 23
 
 -- an operator has to look at it
 abbrev pub is_warning : Event → Bool
@@ -50,4 +51,5 @@ is_warning (Names count) = true
 is_warning (Barred client) = true
 is_warning (Unopened from cluster) = true
 is_warning (Hosts are_usable) = not are_usable
+is_warning (Apart node position) = true
 is_warning _ = false

@@ -1,17 +1,18 @@
 -- Which events an observation of a node yields, compared with what was reported of it.
-use Rattle.std.specs.Prelude.{◌≡◌, ◌≢◌, ◌<◌, ◌≤◌, ◌==◌, ℕ, Bool, true, false, List, [], ◌∷◌, ◌++◌, Option, Some, None}
+use Rattle.std.specs.Prelude.{◌≡◌, ◌≢◌, ◌<◌, ◌≤◌, ◌==◌, ◌||◌, ℕ, Bool, true, false, if◌then◌else◌}
+use Rattle.std.specs.Prelude.{List, [], ◌∷◌, ◌++◌, replicate, take, Option, Some, None}
 use Rattle.std.specs.List.{list_any}
 use Rattle.std.specs.declared.net.socket_addr.SocketAddr.{SocketAddr}
 use Rattle.lk_types.specs.declared.member.Member.{Member}
 use Rattle.lk_types.specs.BallotValue.{BallotValue}
-use Rattle.lk_node_events.specs.Observations.{why_of}
+use Rattle.lk_node_events.specs.Observations.{apart_in, why_of}
 use Rattle.lk_node_events.specs.declared.event.Event.{Event}
 use Rattle.lk_node_events.specs.declared.event.Event.TheVariants.{StartedEmpty, Found, Leads, Ended, Follows}
 use Rattle.lk_node_events.specs.declared.event.Event.TheVariants.{Leaderless}
 use Rattle.lk_node_events.specs.declared.event.Event.TheVariants.{Joined}
 use Rattle.lk_node_events.specs.declared.event.Event.TheVariants.{Left, Wrote, Installed, Unsent, Behind, CaughtUp}
 use Rattle.lk_node_events.specs.declared.event.Event.TheVariants.{OtherGenesis, OtherCluster, Deaf, Hears, Outside}
-use Rattle.lk_node_events.specs.declared.event.Event.TheVariants.{QueueFull, Names, Barred, Unopened, Hosts}
+use Rattle.lk_node_events.specs.declared.event.Event.TheVariants.{QueueFull, Names, Barred, Unopened, Hosts, Apart}
 use Rattle.lk_node_events.specs.declared.event.Why.{Why}
 use Rattle.lk_node_events.specs.declared.story.Story.{Story}
 use Rattle.lk_node_events.specs.declared.observation.Observation.{Observation}
@@ -27,6 +28,32 @@ newer (Some node) old = Some node
 -- so many names of the lock table are reported: nine tenths of the 512 that it can have
 abbrev pub many_names : ℕ
 many_names = 461
+
+-- ---- the nodes that were reported to have another state, the last first, after which the missing ones follow
+
+-- there is none yet
+abbrev pub none_apart : List (Option ℕ)
+none_apart = replicate 16 None
+
+-- the node is one of them
+abbrev pub is_entry_of : ℕ → Option ℕ → Bool
+is_entry_of node None = false
+is_entry_of node (Some other) = other == node
+
+abbrev pub is_reported : ℕ → List (Option ℕ) → Bool
+is_reported node [] = false
+is_reported node (e ∷ es) = is_entry_of node e || is_reported node es
+
+-- a node was found to have another state: it is one of them, and only 16 are remembered
+abbrev pub having_reported : ℕ → List (Option ℕ) → List (Option ℕ)
+having_reported node es = if is_reported node es then es else Some node ∷ take 15 es
+
+-- the same if one was found, with the position
+abbrev pub apart_after : Option (ℕ × ℕ) → List (Option ℕ) → List (Option ℕ)
+apart_after None es = es
+apart_after (Some found) es = having_reported found.0 es
+
+-- ---- news
 
 -- the event is due: the observation differs from the story in this way, or the turn has brought it
 abbrev pub IsNews : Story → Observation → Event → Type 0
@@ -52,6 +79,8 @@ IsNews story seen (Names count) = (count ≡ seen.names) × (many_names ≤ coun
 IsNews story seen (Barred client) = seen.barred ≡ Some client
 IsNews story seen (Unopened from cluster) = seen.unopened ≡ Some (from, cluster)
 IsNews story seen (Hosts are_usable) = seen.are_hosts_usable ≡ Some are_usable
+IsNews story seen (Apart node position) =
+    (apart_in seen ≡ Some (node, position)) × (is_reported node story.apart ≡ false)
 IsNews story seen StartedEmpty = ⊥
 IsNews story seen (Found executed) = ⊥
 IsNews story seen (Leaderless seconds) = ⊥
@@ -68,6 +97,7 @@ story_with seen story = record {
   snapshot = seen.snapshot;
   deaf = seen.deaf;
   names = seen.names;
+  apart = apart_after (apart_in seen) story.apart;
 }
 
 -- the story after it was reported that nobody leads, if it was: then any leader is news
@@ -75,7 +105,7 @@ abbrev pub forgetting : Option Event → Story → Story
 forgetting None story = story
 forgetting (Some event) story = record story { follows = None }
 
--- the story of a node that was first seen like this: no number of names was reported
+-- the story of a node that was first seen like this: no number of names was reported, and no other state
 abbrev pub story_of : Observation → Story
 story_of seen = record {
   leads = seen.leads;
@@ -84,6 +114,7 @@ story_of seen = record {
   snapshot = seen.snapshot;
   deaf = seen.deaf;
   names = 0;
+  apart = none_apart;
 }
 
 -- ---- news by what it is about
@@ -92,7 +123,7 @@ story_of seen = record {
 -- more, and that it does; who is a member: that a node joined, and that one left; and its work: a snapshot that it
 -- wrote, one that it installed, what it could not send, whom it heard of another genesis, what it heard of another
 -- cluster, that it had no room for a watch, that the lock table fills up, that a request was barred, what it could not
--- open, and what it read of its hosts
+-- open, what it read of its hosts, and whose state is another one
 pub data Topic : Type 0 where
   ending : Topic
   leading : Topic
@@ -111,6 +142,7 @@ pub data Topic : Type 0 where
   barring : Topic
   mismatching : Topic
   rehosting : Topic
+  differing : Topic
 
 abbrev pub lead_topics : List Topic
 lead_topics = ending ∷ leading ∷ following ∷ deafening ∷ hearing ∷ []
@@ -131,7 +163,8 @@ member_topics story seen = joins seen.members ++ leaves story.members
 
 abbrev pub work_topics : List Topic
 work_topics =
-    writing ∷ installing ∷ failing ∷ meeting ∷ straying ∷ refusing ∷ filling ∷ barring ∷ mismatching ∷ rehosting ∷ []
+    writing ∷ installing ∷ failing ∷ meeting ∷ straying ∷ refusing ∷ filling ∷ barring ∷ mismatching ∷ rehosting
+    ∷ differing ∷ []
 
 abbrev pub topics : Story → Observation → List Topic
 topics story seen = lead_topics ++ (member_topics story seen ++ work_topics)
@@ -164,6 +197,8 @@ IsNewsOf mismatching story seen event =
     × IsNews story seen (Unopened from cluster)
 IsNewsOf rehosting story seen event =
     (are_usable : Bool) × (event ≡ Hosts are_usable) × IsNews story seen (Hosts are_usable)
+IsNewsOf differing story seen event =
+    (node : ℕ) × (position : ℕ) × (event ≡ Apart node position) × IsNews story seen (Apart node position)
 
 -- the event is news of this topic; without an event there is no such news
 abbrev pub Gives : Topic → Story → Observation → Option Event → Type 0

@@ -9,7 +9,7 @@ use std::fmt;
 use std::net::SocketAddr;
 
 /// The number of kinds of events.
-pub const KINDS: usize = 23;
+pub const KINDS: usize = 24;
 
 /// Why a node no longer leads.
 #[derive(Clone, Copy, Debug)]
@@ -72,6 +72,8 @@ pub enum Event {
     Unopened(SocketAddr, Option<u64>),
     /// It has read the file of its hosts again: nodes have moved, or the file cannot be used.
     Hosts(bool),
+    /// This node has executed other commands than it: their states differ at this position.
+    Apart(NodeNo, Executed),
 }
 
 impl Event {
@@ -104,6 +106,7 @@ impl Event {
             Event::Barred(_) => 20,
             Event::Unopened(_, _) => 21,
             Event::Hosts(_) => 22,
+            Event::Apart(_, _) => 23,
         }
     }
 
@@ -123,6 +126,7 @@ impl Event {
                 | Event::Barred(_)
                 | Event::Unopened(_, _)
                 | Event::Hosts(false)
+                | Event::Apart(_, _)
         )
     }
 }
@@ -252,6 +256,20 @@ fn write_heard<W: fmt::Write>(
     write!(f, "hears {heard} of {count} members{what}")
 }
 
+// Writes that another node has executed other commands, and how to find out which of them to stop.
+fn write_apart<W: fmt::Write>(
+    node: NodeNo,
+    position: Executed,
+    f: &mut fmt::Formatter<W>,
+) -> fmt::Result {
+    let (node, position) = (node.get(), position.get());
+    write!(
+        f,
+        "has executed other commands than node {node} up to position {position}: "
+    )?;
+    f.write_str("`locks status` says which to stop")
+}
+
 impl fmt::Display for Event {
     fn fmt<W: fmt::Write>(&self, f: &mut fmt::Formatter<W>) -> fmt::Result {
         match self {
@@ -282,6 +300,7 @@ impl fmt::Display for Event {
             }
             Event::Unopened(from, cluster) => write_unopened(*from, *cluster, f),
             Event::Hosts(are_usable) => f.write_str(text_of_hosts(*are_usable)),
+            Event::Apart(node, position) => write_apart(*node, *position, f),
         }
     }
 }

@@ -1,9 +1,10 @@
 //! An observation: what is seen of a node after a turn.
 
 ghost use Rattle.std.specs.Prelude.{◌≡◌};
-ghost use Rattle.lk_node_events.specs.Observations.{why_of, has_leader};
+ghost use Rattle.lk_node_events.specs.Observations.{apart_in, has_leader, why_of};
 
 use crate::event::Why;
+use lk_probe::StateDigest;
 use lk_types::{Ballot, Executed, Members, NodeNo, RealBallot};
 use std::net::SocketAddr;
 
@@ -49,6 +50,10 @@ pub struct Observation {
     pub are_hosts_usable: Option<bool>,
     /// The client that is no admin whose administrative request was dropped, if that is to be reported.
     pub barred: Option<u16>,
+    /// The digest that it took last of its state.
+    pub state: StateDigest,
+    /// The node whose state a report told in the turn, and the digest that it told.
+    pub told: Option<(NodeNo, StateDigest)>,
 }
 
 impl Observation {
@@ -57,6 +62,17 @@ impl Observation {
         ensures { result ≡ has_leader self.now }
     {
         self.leads.is_some() || self.follows.is_some()
+    }
+
+    /// Returns the node whose state was told in the turn and differs from its own at one position, and that position.
+    pub fn apart(&self) -> Option<(NodeNo, Executed)>
+        ensures { result ≡ apart_in self.now }
+    {
+        let (node, state) = self.told?;
+        if !self.state.differs_from(&state) {
+            return None;
+        }
+        Some((node, state.position))
     }
 
     /// Returns why the node no longer leads in `ballot`: it is no member, or else it has promised a greater ballot, or

@@ -45,6 +45,7 @@ impl RateLimits {
                 RateLimit::EMPTY,
                 RateLimit::EMPTY,
                 RateLimit::EMPTY,
+                RateLimit::EMPTY,
             ],
         }
     }

@@ -4,7 +4,9 @@ ghost use Rattle.std.specs.Prelude.{◌≡◌};
 ghost use Rattle.lk_node_events.specs.News.{Gives, story_of, forgetting, story_with, is_one_of};
 ghost use Rattle.lk_node_events.specs.News.{deafening, ending, hearing, leading, following, joining, leaving};
 ghost use Rattle.lk_node_events.specs.News.{writing, installing, failing, meeting, straying, refusing, filling};
-ghost use Rattle.lk_node_events.specs.News.{barring, mismatching, rehosting};
+ghost use Rattle.lk_node_events.specs.News.{barring, differing, mismatching, rehosting};
+ghost use Rattle.lk_node_events.specs.News.{apart_after, is_entry_of, is_reported};
+ghost use Rattle.lk_node_events.specs.Observations.{apart_in};
 ghost use Rattle.lk_node_events.specs.News.{lead_topics, joins, leaves, member_topics, work_topics, topics};
 ghost use Rattle.lk_node_events.specs.Watches.{PutsNews};
 
@@ -15,6 +17,9 @@ use lk_types::{Executed, Member, Members, NodeNo, RealBallot};
 
 // How many names of the lock table are reported: nine tenths of the 512 that it can have.
 const MANY_NAMES: usize = 461;
+
+// How many nodes of another state are remembered: more than twice as many as there are members at a time.
+const MOST_APART: usize = 16;
 
 /// What was last reported of a node.
 #[derive(Drop)]
@@ -31,6 +36,30 @@ pub struct Story {
     pub deaf: bool,
     /// How many names its lock table has; 0 before the first turn.
     pub names: usize,
+    /// The nodes whose states were reported to differ from its own, the last first.
+    pub apart: [Option<NodeNo>; MOST_APART],
+}
+
+// Whether an entry is that node.
+fn is_entry_of(node: NodeNo, entry: &Option<NodeNo>) -> bool
+    ensures { result ≡ is_entry_of node entry.now }
+{
+    match entry {
+        Some(other) => *other == node,
+        None => false,
+    }
+}
+
+// Whether one of the entries is that node.
+fn is_reported(node: NodeNo, entries: &[Option<NodeNo>]) -> bool
+    ensures { result ≡ is_reported node entries.now }
+{
+    for entry in entries {
+        if is_entry_of(node, entry) {
+            return true;
+        }
+    }
+    false
 }
 
 // Whether the node is one of these members.
@@ -61,6 +90,7 @@ impl Story {
             snapshot,
             deaf,
             names: 0,
+            apart: [None; MOST_APART],
         }
     }
 
@@ -227,6 +257,17 @@ impl Story {
         Some(Event::Hosts(are_usable))
     }
 
+    /// Returns `Apart` if a report told a state that differs from its own, and its node was not reported so before.
+    pub fn apart(&self, seen: &Observation) -> Option<Event>
+        ensures { Gives differing self.now seen.now result }
+    {
+        let (node, position) = seen.apart()?;
+        if is_reported(node, &self.apart) {
+            return None;
+        }
+        Some(Event::Apart(node, position))
+    }
+
     // Puts the news of the leader, and of whether a majority is heard, into the slots.
     fn put_leads(&self, now: u64, seen: &Observation, slots: &mut RateLimits)
         ensures { PutsNews now self.now seen.now lead_topics slots.old.all slots.new.all }
@@ -264,8 +305,8 @@ impl Story {
         self.put_left(now, seen, self.members.as_slice(), slots);
     }
 
-    // Puts the news of snapshots, of failed sends, of datagrams of another genesis, cluster or key, of what is full,
-    // and of the hosts.
+    // Puts the news of snapshots, of failed sends, of datagrams of another genesis, cluster or key, of what is full, of
+    // the hosts, and of other states.
     fn put_work(&self, now: u64, seen: &Observation, slots: &mut RateLimits)
         ensures { PutsNews now self.now seen.now work_topics slots.old.all slots.new.all }
     {
@@ -279,6 +320,7 @@ impl Story {
         slots.put_some(now, self.barred(seen));
         slots.put_some(now, self.unopened(seen));
         slots.put_some(now, self.hosts(seen));
+        slots.put_some(now, self.apart(seen));
     }
 
     // Puts all news into the slots.
@@ -299,10 +341,25 @@ impl Story {
         }
     }
 
+    // Remembers the node whose state was found to differ from its own, if one was.
+    fn note_apart(&mut self, seen: &Observation)
+        ensures { self.new ≡ record self.old { apart = apart_after (apart_in seen.now) self.old.apart } }
+    {
+        let Some((node, _)) = seen.apart() else {
+            return;
+        };
+        if is_reported(node, &self.apart) {
+            return;
+        }
+        self.apart.rotate_right(1);
+        self.apart[0] = Some(node);
+    }
+
     // Replaces the story by an observation. If that names no leader, the one followed last is kept.
     fn become_observed(&mut self, seen: Observation)
         ensures { self.new ≡ story_with seen self.old }
     {
+        self.note_apart(&seen);
         let Observation {
             leads,
             follows,

@@ -10,14 +10,14 @@ use Rattle.lk_recovery.specs.Revivals.{IsRefusedFor}
 use Rattle.lk_state.specs.Meanings.{Meaning}
 use Rattle.lk_node_interface.specs.Letters.{LetterValue}
 use Rattle.lk_replica.specs.ReplicaValue.{ReplicaValue}
-use Rattle.lk_transport.specs.Addresses.{AddressBook, IsNetworkAfter, IsSameNetwork, filter_of}
-use Rattle.lk_transport.specs.Hosts.{hosts_after}
-use Rattle.lk_transport.specs.declared.hosts.Hosts.{Hosts}
-use Rattle.lk_transport.specs.declared.hosts.HostNews.{HostNews}
-use Rattle.lk_transport.specs.declared.hosts.HostNews.TheVariants.{Nothing, Read, Unusable}
+use Rattle.lk_address_book.specs.Addresses.{AddressBook, IsNetworkAfter, IsSameNetwork, filter_of}
+use Rattle.lk_address_book.specs.Hosts.{hosts_after}
+use Rattle.lk_address_book.specs.declared.hosts.Hosts.{Hosts}
+use Rattle.lk_address_book.specs.declared.hosts.HostNews.{HostNews}
+use Rattle.lk_address_book.specs.declared.hosts.HostNews.TheVariants.{Nothing, Read, Unusable}
 use Rattle.lk_transport.specs.ReceiveBuffers.{BufferValue}
 use Rattle.lk_transport.specs.Kept.{KeepsOf}
-use Rattle.lk_transport.specs.Posts.{all_filtered}
+use Rattle.lk_address_book.specs.Filters.{all_filtered}
 use Rattle.lk_server_replica.specs.Sayings.{SaysOf}
 use Rattle.lk_server.specs.Servers.{ServerValue, HasReceived, TurnOrIdle as ServerTurn, LastTurn}
 use Rattle.lk_server.specs.ProbeHandling.{HandlesProbes}

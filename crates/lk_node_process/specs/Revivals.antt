@@ -19,7 +19,7 @@ use Rattle.lk_recovery.specs.Revivals.{IsRefusedFor}
 use Rattle.lk_node_interface.specs.declared.fault.ReplicaFault.{ReplicaFault}
 use Rattle.lk_program_fault.specs.Faults.{replica_fault}
 use Rattle.lk_program_fault.specs.declared.fault.ProgramFault.{ProgramFault}
-use Rattle.lk_transport.specs.declared.network.Network.{Network}
+use Rattle.lk_address_book.specs.declared.network.Network.{Network}
 use Rattle.lk_pacing.specs.declared.pace.Pace.{Pace}
 use Rattle.lk_server.specs.Servers.{ServerValue, IsConfiguredAs, HasSocket}
 use Rattle.lk_node_setup.specs.KeysOfNode.{AreSealsOf}

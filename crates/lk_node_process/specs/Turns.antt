@@ -6,10 +6,10 @@ use Rattle.lk_node_interface.specs.Letters.{LetterValue}
 use Rattle.lk_replica.specs.ReplicaValue.{ReplicaValue}
 use Rattle.lk_probe.specs.Neighbours.{bound_in}
 use Rattle.lk_probe.specs.declared.reported.Reported.{Reported}
-use Rattle.lk_transport.specs.Addresses.{IsNetworkAfter, IsSameNetwork, filter_of}
-use Rattle.lk_transport.specs.Hosts.{hosts_after}
-use Rattle.lk_transport.specs.declared.hosts.HostNews.{HostNews}
-use Rattle.lk_transport.specs.Posts.{all_filtered}
+use Rattle.lk_address_book.specs.Addresses.{IsNetworkAfter, IsSameNetwork, filter_of}
+use Rattle.lk_address_book.specs.Hosts.{hosts_after}
+use Rattle.lk_address_book.specs.declared.hosts.HostNews.{HostNews}
+use Rattle.lk_address_book.specs.Filters.{all_filtered}
 use Rattle.lk_node_setup.specs.HostWatches.{AreHosts}
 use Rattle.lk_server.specs.ProbeHandling.{HandlesProbes}
 use Rattle.lk_server.specs.WatchHandling.{HandlesWatches}

@@ -3,6 +3,7 @@
 ghost use Rattle.std.specs.Prelude.{◌≤◌};
 
 use crate::running::revive;
+use lk_address_book::network::Network;
 use lk_client::destination::Destination;
 use lk_client::question::{Heard, Question, datagram, next_reply, write_reply};
 use lk_client::reply::Reply;
@@ -14,7 +15,6 @@ use lk_replica::Replica;
 use lk_server::server::Server;
 use lk_server_replica::TableMachine;
 use lk_store_format::Header;
-use lk_transport::network::Network;
 use lk_transport::receive_buffer::ReceiveBuffer;
 use lk_transport::socket::{DatagramSocket, LocalSocket, local};
 use lk_types::{ClientNo, Genesis, Member, NodeNo, Port, Request, RequestNumber};

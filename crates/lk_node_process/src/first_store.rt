@@ -47,33 +47,40 @@ pub fn begin_store<M: Machine, D: LogDisk + FailureCause + Drop, E: Write>(
     }
 }
 
+/// What `locks init` is to do: the node with its genesis, the folder of its files, and whether the store has sums.
+#[derive(Drop)]
+pub struct InitPlan<'a> {
+    pub header: Header,
+    pub folder: &'a str,
+    pub sums: bool,
+}
+
 // Creates the files of a folder that has neither, and begins the store in them.
 fn begin_folder<M: Machine, R: Files<File = File>, E: Write>(
     rt: &R,
     alloc: Global,
-    header: &Header,
-    folder: &str,
+    plan: &InitPlan<'_>,
     err: &mut E,
 ) -> Result<(), ProgramFault> {
+    let folder = plan.folder;
     create_files(rt, alloc, folder, err)?;
     let _lock = FolderLock::acquire(rt, alloc, folder, err)?;
-    let device = open_device(rt, alloc, folder, err)?;
-    begin_store::<M, _, E>(alloc, header, device, folder, err)?;
+    let device = open_device(rt, alloc, folder, plan.sums, err)?;
+    begin_store::<M, _, E>(alloc, &plan.header, device, folder, err)?;
     Ok(())
 }
 
-/// Begins the store of a header's node in a folder, which must exist and have neither file of a store: otherwise
+/// Begins the store of a plan's node in its folder, which must exist and have neither file of a store: otherwise
 /// nothing changes. Returns status 0 once the store is synced, or 1 after an error message.
 pub fn init<M: Machine, R: Files<File = File>, E: Write>(
     rt: &R,
     alloc: Global,
-    header: &Header,
-    folder: &str,
+    plan: &InitPlan<'_>,
     err: &mut E,
 ) -> u8
     ensures { result ≤ 1 }
 {
-    match begin_folder::<M, R, E>(rt, alloc, header, folder, err) {
+    match begin_folder::<M, R, E>(rt, alloc, plan, err) {
         Ok(()) => 0,
         Err(fault) => fault.write_to(err),
     }

@@ -65,6 +65,8 @@ fn observation_of<M: TableMachine, D: LogDisk + Drop, S: DatagramSocket + Drop>(
         deaf: server.is_deaf(),
         is_queue_full: events.is_queue_full,
         names: node.machine().table().len(),
+        state: server.state_digest(),
+        told: events.told,
     }
 }
 

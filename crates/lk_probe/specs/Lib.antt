@@ -2,3 +2,4 @@ pub mod Grammar
 pub mod Reading
 pub mod Neighbours
 pub mod Questions
+pub mod StateDigests

@@ -1,7 +1,7 @@
--- The probe by which a node asks for the genesis of another one, and what it keeps of the report.
+-- The probe by which a node asks for the genesis of another one, and what it keeps of a report.
 use Rattle.std.specs.Prelude.{◌≡◌, ℕ, false, List, Option, Some, None}
 use Rattle.std.specs.declared.net.socket_addr.SocketAddr.{SocketAddr}
-use Rattle.lk_probe.specs.Grammar.{SpellsReport}
+use Rattle.lk_probe.specs.Grammar.{SpellsReport, digest_in}
 use Rattle.lk_probe.specs.declared.neighbours.Origin.{Origin}
 use Rattle.lk_probe.specs.declared.probe.Probe.{Probe}
 use Rattle.lk_probe.specs.declared.probe.Report.{Report}
@@ -23,3 +23,4 @@ IsReportedOf cluster d None = (r : Report) → SpellsReport r d.1 → IsForANode
 IsReportedOf cluster d (Some t) =
     (r : Report) × SpellsReport r d.1 × IsForANode cluster r × (t.from ≡ d.0)
     × (t.reporter ≡ record { node = r.node; genesis = r.status.identity.genesis }) × (t.token ≡ r.token)
+    × (t.state ≡ digest_in r.reach)

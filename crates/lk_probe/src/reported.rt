@@ -1,18 +1,22 @@
-//! The probe by which a node asks for the genesis of another one, and what it keeps of the report.
+//! The probe by which a node asks for the genesis of another one, and what it keeps of a report.
 
 ghost use Rattle.std.specs.Prelude.{◌≡◌};
 ghost use Rattle.lk_probe.specs.Questions.{IsReportedOf, question};
 
 use crate::neighbours::Origin;
 use crate::probe::{Probe, Report};
+use crate::state_digest::StateDigest;
 use std::net::SocketAddr;
 
-/// The node and the genesis that a report names, the token that it repeats, and the address that it came from.
+/// The node and the genesis that a report names, the token that it repeats, the digest that it tells, and the address
+/// that it came from.
 #[derive(Clone, Copy)]
 pub struct Reported {
     pub from: SocketAddr,
     pub reporter: Origin,
     pub token: u64,
+    /// The digest of its node's state, that of none in a report of form 1.
+    pub state: StateDigest,
 }
 
 /// Returns the probe by which the node `asker` asks for a genesis. Its token is the asker's number.
@@ -46,6 +50,7 @@ impl Reported {
             from,
             reporter,
             token: report.token,
+            state: report.state_digest(),
         })
     }
 }

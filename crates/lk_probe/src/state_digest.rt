@@ -1,6 +1,7 @@
 // The digest of a node's state at a position.
 ghost use Rattle.std.specs.Prelude.{◌≡◌};
 ghost use Rattle.lk_probe.specs.Grammar.{IsStateDigest, no_digest};
+ghost use Rattle.lk_probe.specs.StateDigests.{are_comparable, do_differ};
 
 use crate::status::STATE_DIGEST;
 use lk_types::Executed;
@@ -23,6 +24,20 @@ impl StateDigest {
             position: Executed::default(),
             digest: [0; STATE_DIGEST],
         }
+    }
+
+    /// Whether both were taken, and of one position.
+    pub fn is_comparable_to(&self, other: &StateDigest) -> bool
+        ensures { result ≡ are_comparable self.now other.now }
+    {
+        self.position.get() != 0 && self.position == other.position
+    }
+
+    /// Whether both were taken of one position, and differ: then their nodes have executed other commands.
+    pub fn differs_from(&self, other: &StateDigest) -> bool
+        ensures { result ≡ do_differ self.now other.now }
+    {
+        self.is_comparable_to(other) && self.digest != other.digest
     }
 
     /// Shows the prover that each part is in its range. Does nothing at run time.

@@ -52,8 +52,8 @@ pub struct Leadership {
     pub leads: bool,
     /// The node that it takes for the leader.
     pub leader: Option<NodeNo>,
-    /// How many ticks ago it last heard of a leader, or since its start if it never did: 28 at most, where the count
-    /// stays.
+    /// For how many periods, by datagrams ticks, it has heard of no leader, or since its start if it never did; 0 while
+    /// it seeks votes.
     pub silence: u64,
     /// The ballot that it has promised.
     pub promised: Ballot,

@@ -1,8 +1,9 @@
 -- How a server handles probes and reports, one step after another.
 use Rattle.std.proofs.Common.{◌≡◌, ◌∙◌, ℕ, Option, Some, None, ap, subst, subst₂}
 use Rattle.lk_probe.specs.declared.reported.Reported.{Reported}
-use Rattle.lk_transport.specs.Addresses.{AddressBook, Filter, IsSameFilter, IsSameNetwork}
-use Rattle.lk_transport.specs.Inquiring.{AsksOne, LearnsKept}
+use Rattle.lk_address_book.specs.Addresses.{AddressBook, Filter, IsSameFilter, IsSameNetwork}
+use Rattle.lk_transport.specs.Inquiring.{AsksOne}
+use Rattle.lk_address_book.specs.Inquiries.{LearnsKept}
 use Rattle.lk_transport.specs.Posts.{SendState}
 use Rattle.lk_transport.specs.declared.received_probe.ReceivedProbe.{ReceivedProbe}
 use Rattle.lk_server.specs.ProbeHandling.{HandlesProbes, ListensFor, ListensIf, Welcomes}

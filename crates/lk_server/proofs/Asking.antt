@@ -20,7 +20,7 @@ use Rattle.lk_watch.specs.Grammar.{SpellsWatch}
 use Rattle.lk_watch.specs.declared.watch.Watch.{Watch}
 use Rattle.lk_transport.specs.Kept.{BringNothing, BringsFirst, IsFirstOf, KeepsFirst, KeepsFirstOf, KeepsLast}
 use Rattle.lk_transport.specs.Kept.{KeepsOf, OnlyLastBrings}
-use Rattle.lk_transport.specs.Posts.{is_beside_protocol}
+use Rattle.lk_address_book.specs.Filters.{is_beside_protocol}
 use Rattle.lk_transport.specs.declared.received_probe.ReceivedProbe.{ReceivedProbe}
 
 -- ---- a frame

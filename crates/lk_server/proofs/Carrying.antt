@@ -5,7 +5,7 @@ use Rattle.std.specs.Prelude.{Result, Ok, Err, IfOk, OnOk, OnErr}
 use Rattle.lk_node_interface.specs.Letters.{LetterValue}
 use Rattle.lk_replica.specs.Groups.{GroupValue}
 use Rattle.lk_replica.specs.Posts.{CarriesAll, GivesLetters}
-use Rattle.lk_transport.specs.Addresses.{AddressBook}
+use Rattle.lk_address_book.specs.Addresses.{AddressBook}
 use Rattle.lk_server_replica.specs.Groups.{Sayings, Gatherings}
 use Rattle.lk_server.specs.Gatherings.{DeliversAllLetters, SaysNothing}
 use Rattle.lk_transport.specs.Posts.{SocketPostValue, SendState, Becomes, CarriesLetter, send_state_of}

@@ -2,8 +2,8 @@
 use Rattle.std.proofs.Common.{◌≡◌, ℕ, Bool, ◌||◌, ◌&&◌, true, false, List, refl}
 use Rattle.std.specs.declared.net.socket_addr.SocketAddr.{SocketAddr}
 use Rattle.lk_auth.specs.Seals.{heard}
-use Rattle.lk_transport.specs.Addresses.{Filter}
-use Rattle.lk_transport.specs.Posts.{is_filtered_out, is_beside_protocol, is_dropped}
+use Rattle.lk_address_book.specs.Addresses.{Filter}
+use Rattle.lk_address_book.specs.Filters.{is_filtered_out, is_beside_protocol, is_dropped}
 
 first_true : (a b : Bool) → a ≡ true → a || b ≡ true
 first_true true b is = refl

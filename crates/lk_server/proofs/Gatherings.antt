@@ -7,7 +7,7 @@ use Rattle.std.proofs.lemmas.List.{map-append, take_all}
 use Rattle.std.specs.declared.net.socket_addr.SocketAddr.{SocketAddr}
 use Rattle.lk_node_interface.specs.Letters.{LetterValue}
 use Rattle.lk_replica.specs.Groups.{GroupValue}
-use Rattle.lk_transport.specs.Addresses.{AddressBook, Filter, filter_of, IsSameFilter}
+use Rattle.lk_address_book.specs.Addresses.{AddressBook, Filter, filter_of, IsSameFilter}
 use Rattle.lk_server_replica.specs.Groups.{Sayings, Gatherings, GathersMore, SaysNoMore}
 use Rattle.lk_server.specs.Gatherings.{AddsAll, EndsWithin, AddsLoopback, EndsLoopback, AddsHeard, EndsHeard}
 use Rattle.lk_server.specs.Gatherings.{AddsFromSocket}
@@ -16,7 +16,8 @@ use Rattle.lk_pacing.specs.declared.turn_input.TurnInput.{TurnInput}
 use Rattle.lk_pacing.specs.declared.turn_input.TurnInput.TheVariants.{Nothing, Filtered, Something}
 use Rattle.lk_transport.specs.Streams.{Stream, Receives, ComeWithin, listed}
 use Rattle.lk_transport.proofs.Streaming.{come_none, come_more, come_wider}
-use Rattle.lk_transport.specs.Posts.{RecordsSender, RecordsSenders, is_filtered_out, opened_as, filtered, all_filtered}
+use Rattle.lk_address_book.specs.Senders.{RecordsSender, RecordsSenders}
+use Rattle.lk_address_book.specs.Filters.{is_filtered_out, opened_as, filtered, all_filtered}
 use Rattle.lk_pacing.specs.Paces.{ticks_after}
 use Rattle.lk_pacing.specs.declared.pace.Pace.{Pace}
 use Rattle.lk_server.specs.Servers.{ServerValue, one_more, one_more_tick, ticks_behind, inputs, all_inputs, all_ticks}

@@ -10,10 +10,11 @@ use Rattle.lk_watch.specs.declared.waiter.Letter.{Letter}
 use Rattle.lk_transport.specs.Posts.{SendState}
 use Rattle.lk_transport.specs.Watches.{SendsNotice, SendsNotices}
 use Rattle.lk_transport.specs.declared.received_watch.ReceivedWatch.{ReceivedWatch}
-use Rattle.lk_server.specs.Servers.{ServerValue, periods, send_state_at}
-use Rattle.lk_server.specs.WatchHandling.{Speaks, ServesWaiters, AnswersWatch, TellsNext, TellsWaiters}
-use Rattle.lk_server.specs.WatchHandling.{ChangesByNotices, IsAllNew, begun_at}
-use Rattle.lk_server.specs.ChangedNames.{ChangedValue, none_changed}
+use Rattle.lk_server.specs.Servers.{ServerValue, send_state_at}
+use Rattle.lk_server.specs.WatchHandling.{IsMoment, ServesWaiters, AnswersWatch, TellsNext, TellsWaiters}
+use Rattle.lk_server.specs.WatchHandling.{ChangesByNotices, ChangesQueue, IsAllNew}
+use Rattle.lk_waiting.specs.Waits.{WaitingValue, begun_at}
+use Rattle.lk_waiting.specs.declared.moment.Moment.{Moment}
 use Rattle.lk_watch.specs.Seen.{standing_by}
 use Rattle.lk_watch.specs.declared.seen.SeenName.{SeenName}
 use Rattle.std.specs.Prelude.{IfSome}
@@ -49,7 +50,7 @@ module _ {R : Type 0} (T : R → Standings) (observable : Type 0) where
   -- those so far were told
   abbrev pub HasTold : List Letter → ServerValue R → ServerValue R → Type 0
   HasTold letters old new =
-      TellsEach (T old.replica) old.queue letters new.queue
+      TellsEach (T old.replica) old.waiting.queue letters new.waiting.queue
       × SendsNotices observable old.addresses.seals old.node letters (send_state_at old.loopback old)
       (send_state_at new.loopback new)
       × (observable → new.incoming ≡ old.incoming)
@@ -57,8 +58,8 @@ module _ {R : Type 0} (T : R → Standings) (observable : Type 0) where
 
   -- the next one
   pub tells_next : (letter : Letter) (mid one new : ServerValue R)
-      → TellsFirst (T mid.replica) mid.queue letter one.queue
-      → one ≡ record mid { queue = one.queue }
+      → TellsFirst (T mid.replica) mid.waiting.queue letter one.waiting.queue
+      → ChangesQueue mid one
       → SendsNotice observable one.addresses.seals one.node letter (send_state_at one.loopback one)
       (send_state_at new.loopback new)
       → new ≡ record one {
@@ -73,14 +74,14 @@ module _ {R : Type 0} (T : R → Standings) (observable : Type 0) where
       let node : one.node ≡ mid.node = ap (λ (s : ServerValue R). s.node) one_is in
       let before : send_state_at one.loopback one ≡ send_state_at mid.loopback mid =
       ap (λ (s : ServerValue R). send_state_at s.loopback s) one_is in
-      let queue : one.queue ≡ new.queue = sym (ap (λ (s : ServerValue R). s.queue) new_is) in
+      let queue : one.waiting.queue ≡ new.waiting.queue = sym (ap (λ (s : ServerValue R). s.waiting.queue) new_is) in
       let after = send_state_at new.loopback new in
       let by_keys : SendsNotice observable mid.addresses.seals mid.node letter (send_state_at one.loopback one) after =
       subst₂ (λ (s : Seals) (n : ℕ). SendsNotice observable s n letter (send_state_at one.loopback one) after)
       seals node sends in
       record {
         letter = letter;
-        tells = subst (λ (q : QueueValue). TellsFirst (T mid.replica) mid.queue letter q) queue tells;
+        tells = subst (λ (q : QueueValue). TellsFirst (T mid.replica) mid.waiting.queue letter q) queue tells;
         sends = subst (λ (t : SendState). SendsNotice observable mid.addresses.seals mid.node letter t after) before
             by_keys;
       }
@@ -97,18 +98,18 @@ module _ {R : Type 0} (T : R → Standings) (observable : Type 0) where
       let seals : mid.addresses.seals ≡ old.addresses.seals =
       ap (λ (s : ServerValue R). s.addresses.seals) changes in
       let node : mid.node ≡ old.node = ap (λ (s : ServerValue R). s.node) changes in
-      let told : TellsFirst (T old.replica) mid.queue letter new.queue =
-      subst (λ (r : R). TellsFirst (T r) mid.queue letter new.queue) replica next.tells in
+      let told : TellsFirst (T old.replica) mid.waiting.queue letter new.waiting.queue =
+      subst (λ (r : R). TellsFirst (T r) mid.waiting.queue letter new.waiting.queue) replica next.tells in
       let after = send_state_at new.loopback new in
       let sent : SendsNotice observable old.addresses.seals old.node letter (send_state_at mid.loopback mid) after =
       subst₂ (λ (s : Seals) (n : ℕ). SendsNotice observable s n letter (send_state_at mid.loopback mid) after)
       seals node next.sends in (
-        tells_more (T old.replica) letters letter old.queue mid.queue new.queue so_far.0 told,
+        tells_more (T old.replica) letters letter old.waiting.queue mid.waiting.queue new.waiting.queue so_far.0 told,
         sends_both observable old.addresses.seals old.node letters (letter ∷ []) (send_state_at old.loopback old)
             (send_state_at mid.loopback mid) after so_far.1 (after, sent, refl),
         λ t. still t ∙ so_far.2 t,
         new_is ∙ ap (λ (s : ServerValue R). record s {
-          queue = new.queue;
+          waiting = record s.waiting { queue = new.waiting.queue };
           sent = new.sent;
           socket_failures = new.socket_failures;
           incoming = new.incoming;
@@ -118,8 +119,8 @@ module _ {R : Type 0} (T : R → Standings) (observable : Type 0) where
 module _ {R : Type 0} (T : R → Standings) (observable : Type 0) where
   -- those who were to be told are
   pub told_all : (letters : List Letter) (old mid new : ServerValue R) → HasTold T observable letters old mid
-      → ((mid.queue.left ≡ 0) ⊎ NoneDueBefore (T mid.replica) mid.queue.waiters
-      (length mid.queue.waiters))
+      → ((mid.waiting.queue.left ≡ 0) ⊎ NoneDueBefore (T mid.replica) mid.waiting.queue.waiters
+      (length mid.waiting.queue.waiters))
       → new ≡ mid → TellsWaiters (T old.replica) observable true old new
   told_all letters old mid new so_far ends same =
       let replica : mid.replica ≡ old.replica = ap (λ (s : ServerValue R). s.replica) so_far.3 in
@@ -127,8 +128,8 @@ module _ {R : Type 0} (T : R → Standings) (observable : Type 0) where
         letters = letters;
         tells = record {
           each = so_far.0;
-          ends = subst (λ (r : R). (mid.queue.left ≡ 0) ⊎ NoneDueBefore (T r) mid.queue.waiters
-              (length mid.queue.waiters)) replica ends;
+          ends = subst (λ (r : R). (mid.waiting.queue.left ≡ 0) ⊎ NoneDueBefore (T r) mid.waiting.queue.waiters
+              (length mid.waiting.queue.waiters)) replica ends;
         };
         sends = so_far.1;
       } in
@@ -139,8 +140,8 @@ module _ {R : Type 0} (T : R → Standings) (observable : Type 0) where
 module _ {R : Type 0} (table : Table) (observable : Type 0) (speaks : Bool) (r : ReceivedWatch) where
   -- by a letter
   pub answered : (letter : Letter) (old mid new : ServerValue R)
-      → HearsOrNot (standing_in table) speaks r.watch r.from old.queue (letter ∷ []) mid.queue
-      → mid ≡ record old { queue = mid.queue }
+      → HearsOrNot (standing_in table) speaks r.watch r.from old.waiting.queue (letter ∷ []) mid.waiting.queue
+      → ChangesQueue old mid
       → SendsNotice observable mid.addresses.seals mid.node letter (send_state_at mid.loopback mid)
       (send_state_at new.loopback new)
       → new ≡ record mid {
@@ -155,14 +156,14 @@ module _ {R : Type 0} (table : Table) (observable : Type 0) (speaks : Bool) (r :
       let node : mid.node ≡ old.node = ap (λ (s : ServerValue R). s.node) mid_is in
       let before : send_state_at mid.loopback mid ≡ send_state_at old.loopback old =
       ap (λ (s : ServerValue R). send_state_at s.loopback s) mid_is in
-      let queue : mid.queue ≡ new.queue = sym (ap (λ (s : ServerValue R). s.queue) new_is) in
+      let queue : mid.waiting.queue ≡ new.waiting.queue = sym (ap (λ (s : ServerValue R). s.waiting.queue) new_is) in
       let after = send_state_at new.loopback new in
       let by_keys : SendsNotice observable old.addresses.seals old.node letter (send_state_at mid.loopback mid) after =
       subst₂ (λ (s : Seals) (n : ℕ). SendsNotice observable s n letter (send_state_at mid.loopback mid) after)
       seals node sends in
       record {
         letters = letter ∷ [];
-        hears = subst (λ (q : QueueValue). HearsOrNot (standing_in table) speaks r.watch r.from old.queue
+        hears = subst (λ (q : QueueValue). HearsOrNot (standing_in table) speaks r.watch r.from old.waiting.queue
             (letter ∷ []) q) queue hears;
         sends = (
           after,
@@ -173,8 +174,8 @@ module _ {R : Type 0} (table : Table) (observable : Type 0) (speaks : Bool) (r :
 
   -- or by none
   pub unanswered : (old new : ServerValue R)
-      → HearsOrNot (standing_in table) speaks r.watch r.from old.queue [] new.queue
-      → new ≡ record old { queue = new.queue } → AnswersWatch table observable speaks (Some r) old new
+      → HearsOrNot (standing_in table) speaks r.watch r.from old.waiting.queue [] new.waiting.queue
+      → ChangesQueue old new → AnswersWatch table observable speaks (Some r) old new
   unanswered old new hears new_is = record {
     letters = [];
     hears = hears;
@@ -184,72 +185,61 @@ module _ {R : Type 0} (table : Table) (observable : Type 0) (speaks : Bool) (r :
 -- ---- a whole turn of the queue
 
 module _ {R : Type 0} (T : R → Table) (Shows : R → ProbedState → Type 0) (observable : Type 0)
-    (watched : Option ReceivedWatch) (seen : Option (List SeenName)) (speaks : Bool)
+    (watched : Option ReceivedWatch) (seen : Option (List SeenName)) (moment : Moment)
     (old first mid new : ServerValue R) where
   -- it begins, hears the watch that is kept, and tells those who wait
-  pub served : first ≡ record old {
-    queue = begun_at (T old.replica) seen old;
-    aged = periods old;
-    changed = none_changed;
-  }
-      → IfSome seen (IsAllNew (T old.replica) watched old) → Speaks Shows old speaks
-      → AnswersWatch (T first.replica) observable speaks watched first mid
+  pub served : first ≡ record old { waiting = begun_at (T old.replica) seen moment old.waiting }
+      → IfSome seen (IsAllNew (T old.replica) watched old.waiting moment) → IsMoment Shows old moment
+      → AnswersWatch (T first.replica) observable moment.speaks watched first mid
       → (observable → mid.incoming ≡ first.incoming) → ChangesByNotices first mid
-      → TellsWaiters (standing_by (T mid.replica) seen) observable speaks mid new
+      → TellsWaiters (standing_by (T mid.replica) seen) observable moment.speaks mid new
       → (observable → new.incoming ≡ mid.incoming)
       → ChangesByNotices mid new → ServesWaiters (T old.replica) Shows observable watched old new
   served first_is looks says answers quiet mid_is tells still new_is =
+      let begun = begun_at (T old.replica) seen moment old.waiting in
       let mid_so : mid ≡ record old {
-        queue = mid.queue;
-        aged = periods old;
-        changed = none_changed;
+        waiting = record begun { queue = mid.waiting.queue };
         sent = mid.sent;
         socket_failures = mid.socket_failures;
         incoming = mid.incoming;
       } =
       mid_is ∙ ap (λ (s : ServerValue R). record s {
-        queue = mid.queue;
+        waiting = record s.waiting { queue = mid.waiting.queue };
         sent = mid.sent;
         socket_failures = mid.socket_failures;
         incoming = mid.incoming;
       }) first_is in
       let new_so : new ≡ record old {
-        queue = new.queue;
-        aged = periods old;
-        changed = none_changed;
+        waiting = record begun { queue = new.waiting.queue };
         sent = new.sent;
         socket_failures = new.socket_failures;
         incoming = new.incoming;
       } =
       new_is ∙ ap (λ (s : ServerValue R). record s {
-        queue = new.queue;
+        waiting = record s.waiting { queue = new.waiting.queue };
         sent = new.sent;
         socket_failures = new.socket_failures;
         incoming = new.incoming;
       }) mid_so in
-      let aged : new.aged ≡ periods old = ap (λ (s : ServerValue R). s.aged) new_so in
-      let changed : new.changed ≡ none_changed = ap (λ (s : ServerValue R). s.changed) new_so in
-      let heard : AnswersWatch (T old.replica) observable speaks watched
-      (record old {
-        queue = begun_at (T old.replica) seen old;
-        aged = periods old;
-        changed = none_changed;
-      }) mid =
-      subst (λ (s : ServerValue R). AnswersWatch (T s.replica) observable speaks watched s mid) first_is answers in
+      let waiting : new.waiting ≡ record begun { queue = new.waiting.queue } =
+      ap (λ (s : ServerValue R). s.waiting) new_so in
+      let heard : AnswersWatch (T old.replica) observable moment.speaks watched (record old { waiting = begun }) mid =
+      subst (λ (s : ServerValue R). AnswersWatch (T s.replica) observable moment.speaks watched s mid) first_is
+      answers in
       let replica : mid.replica ≡ old.replica = ap (λ (s : ServerValue R). s.replica) mid_so in
       let seals : mid.addresses.seals ≡ old.addresses.seals =
       ap (λ (s : ServerValue R). s.addresses.seals) mid_so in
       let node : mid.node ≡ old.node = ap (λ (s : ServerValue R). s.node) mid_so in
       let after = send_state_at new.loopback new in
-      let told : TellsWaiters (standing_by (T old.replica) seen) observable speaks mid new =
-      subst (λ (r : R). TellsWaiters (standing_by (T r) seen) observable speaks mid new) replica tells in
+      let told : TellsWaiters (standing_by (T old.replica) seen) observable moment.speaks mid new =
+      subst (λ (r : R). TellsWaiters (standing_by (T r) seen) observable moment.speaks mid new) replica tells in
       record {
-        speaks = speaks;
-        says = says;
+        moment = moment;
+        is_now = says;
         seen = seen;
         looks = looks;
         answers = heard.letters;
-        heard = mid.queue;
+        heard = mid.waiting.queue;
         hears = heard.hears;
         told = told.letters;
         tells = told.tells;
@@ -258,21 +248,11 @@ module _ {R : Type 0} (T : R → Table) (Shows : R → ProbedState → Type 0) (
             (subst₂ (λ (s : Seals) (n : ℕ). SendsNotices observable s n told.letters (send_state_at mid.loopback mid)
             after) seals node told.sends);
         still = λ t. still t ∙ quiet t ∙ ap (λ (s : ServerValue R). s.incoming) first_is;
-        aged = aged;
-        changed = changed;
-        same = new_so ∙ ap (λ (n : ℕ). record old {
-          queue = new.queue;
-          aged = n;
-          changed = none_changed;
+        waiting = waiting;
+        same = new_so ∙ ap (λ (w : WaitingValue). record old {
+          waiting = w;
           sent = new.sent;
           socket_failures = new.socket_failures;
           incoming = new.incoming;
-        }) (sym aged) ∙ ap (λ (c : ChangedValue). record old {
-          queue = new.queue;
-          aged = new.aged;
-          changed = c;
-          sent = new.sent;
-          socket_failures = new.socket_failures;
-          incoming = new.incoming;
-        }) (sym changed);
+        }) (sym waiting);
       }

@@ -7,14 +7,15 @@ use Rattle.std.specs.Prelude.{Result, Ok, Err, OnOk, OnErr}
 use Rattle.std.specs.declared.net.socket_addr.SocketAddr.{SocketAddr}
 use Rattle.lk_node_interface.specs.Letters.{LetterValue}
 use Rattle.lk_replica.specs.Groups.{GroupValue}
-use Rattle.lk_transport.specs.Addresses.{AddressBook, Filter, filter_of, IsSameFilter}
+use Rattle.lk_address_book.specs.Addresses.{AddressBook, Filter, filter_of, IsSameFilter}
 use Rattle.lk_server_replica.specs.Groups.{Sayings, Gatherings, GathersMore, SaysNoMore}
 use Rattle.lk_server.specs.Gatherings.{AreFound, Finds, AddsAll, EndsWithin, AddsLoopback, EndsLoopback}
 use Rattle.lk_server.specs.Gatherings.{AddsHeard, EndsHeard, AddsWaiting, AddsGroup, EndsGroup, DeliversAllLetters}
 use Rattle.lk_server.specs.Gatherings.{ChangesInGroup, SaysNothing}
 use Rattle.lk_pacing.specs.Paces.{MayFollow}
 use Rattle.lk_auth.specs.Seals.{heard}
-use Rattle.lk_transport.specs.Posts.{RecordsSenders, is_filtered_out, all_filtered}
+use Rattle.lk_address_book.specs.Senders.{RecordsSenders}
+use Rattle.lk_address_book.specs.Filters.{is_filtered_out, all_filtered}
 use Rattle.lk_transport.specs.Streams.{Stream, Receives, ReceivesOne, frames_in, listed}
 use Rattle.lk_transport.proofs.Streaming.{receives_frames, come_none, come_first}
 use Rattle.lk_server.specs.Servers.{ServerValue, DeliversLetters, DeliversNothing, HasReceived, IsSameServer, Turn}
@@ -149,8 +150,10 @@ same_by old new others = record {
   cluster = ap (λ (s : ServerValue _). s.cluster) others;
   node = ap (λ (s : ServerValue _). s.node) others;
   pace = ap (λ (s : ServerValue _). s.pace) others;
-  queue = ap (λ (s : ServerValue _). s.queue) others;
-  aged = ap (λ (s : ServerValue _). s.aged) others;
+  queue = ap (λ (s : ServerValue _). s.waiting.queue) others;
+  aged = ap (λ (s : ServerValue _). s.waiting.aged) others;
+  spoke = ap (λ (s : ServerValue _). s.waiting.spoke) others;
+  served = ap (λ (s : ServerValue _). s.waiting.served) others;
 }
 
 pub same_in_group : {R : Type 0} (old new : ServerValue R) → ChangesInGroup old new → IsSameServer old new
@@ -158,8 +161,10 @@ same_in_group old new others = record {
   cluster = ap (λ (s : ServerValue _). s.cluster) others;
   node = ap (λ (s : ServerValue _). s.node) others;
   pace = ap (λ (s : ServerValue _). s.pace) others;
-  queue = ap (λ (s : ServerValue _). s.queue) others;
-  aged = ap (λ (s : ServerValue _). s.aged) others;
+  queue = ap (λ (s : ServerValue _). s.waiting.queue) others;
+  aged = ap (λ (s : ServerValue _). s.waiting.aged) others;
+  spoke = ap (λ (s : ServerValue _). s.waiting.spoke) others;
+  served = ap (λ (s : ServerValue _). s.waiting.served) others;
 }
 
 -- one receive is all that a turn receives
@@ -723,6 +728,8 @@ module _ {R : Type 0} (S : Sayings R) (G : Gatherings R) (observable : Type 0) w
     pace = same.pace ∙ first.pace;
     queue = same.queue ∙ first.queue;
     aged = same.aged ∙ first.aged;
+    spoke = same.spoke ∙ first.spoke;
+    served = same.served ∙ first.served;
   }
 
   pub turn_of : (frames : List (SocketAddr × List ℕ)) (group now : GroupValue) (old mid new : ServerValue R)

@@ -5,8 +5,9 @@ use Rattle.lk_replica.specs.Groups.{GroupValue}
 use Rattle.lk_server_replica.specs.Groups.{Sayings, Gatherings, GathersMore, SaysNoMore}
 use Rattle.lk_pacing.specs.declared.turn_input.TurnInput.{TurnInput}
 use Rattle.lk_pacing.specs.declared.turn_input.TurnInput.TheVariants.{Nothing, Filtered, Something}
-use Rattle.lk_transport.specs.Addresses.{Filter, filter_of, IsSameFilter}
-use Rattle.lk_transport.specs.Posts.{RecordsSenders, is_filtered_out, all_filtered}
+use Rattle.lk_address_book.specs.Addresses.{Filter, filter_of, IsSameFilter}
+use Rattle.lk_address_book.specs.Senders.{RecordsSenders}
+use Rattle.lk_address_book.specs.Filters.{is_filtered_out, all_filtered}
 use Rattle.lk_transport.specs.Streams.{ReceivesOne, ComeWithin}
 use Rattle.lk_server.specs.Servers.{ServerValue, all_inputs, all_ticks, counted, datagrams_in, Given, GivenPrefix}
 use Rattle.lk_server.specs.Servers.{HasReceived, IsPrefix, TakesLetters, DeliversLetters, Withholding}

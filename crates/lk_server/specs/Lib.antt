@@ -1,11 +1,9 @@
 pub mod GroupFaults
 pub mod Counts
-pub mod ChangedNames
 pub mod Servers
 pub mod Gatherings
 pub mod Pauses
 pub mod Probes
 pub mod ProbeHandling
 pub mod WatchHandling
-pub mod FullQueues
 pub mod Premises

@@ -1,9 +1,10 @@
 -- How a server handles probes and reports, after the letters of a turn.
 use Rattle.std.specs.Prelude.{◌≡◌, ℕ, Option, Some, None}
 use Rattle.lk_probe.specs.declared.reported.Reported.{Reported}
-use Rattle.lk_transport.specs.Addresses.{AddressBook, IsSameNetwork}
-use Rattle.lk_transport.specs.Inquiring.{AsksOne, LearnsKept, ReadmitsKept}
-use Rattle.lk_transport.specs.Probers.{RecordsKeptProber}
+use Rattle.lk_address_book.specs.Addresses.{AddressBook, IsSameNetwork}
+use Rattle.lk_transport.specs.Inquiring.{AsksOne, ReadmitsKept}
+use Rattle.lk_address_book.specs.Inquiries.{LearnsKept}
+use Rattle.lk_transport.specs.Askers.{RecordsKeptProber}
 use Rattle.lk_transport.specs.declared.received_probe.ReceivedProbe.{ReceivedProbe}
 use Rattle.lk_server.specs.Probes.{RepliesToKept}
 use Rattle.lk_server.specs.Servers.{ServerValue, periods, send_state_at}

@@ -67,7 +67,7 @@ pub record RepliesToProbe {R : Type 0} (Shows : R → ProbedState → Type 0) (o
   pub shows : Shows old.replica shown
   pub bytes : List ℕ
   pub reports : IsReportTo old.node old.addresses.seals.genesis (periods old) old.withheld (heard_by shown.members old)
-      (length old.queue.waiters) old.digest shown a.probe bytes
+      (length old.waiting.queue.waiters) old.digest shown a.probe bytes
   pub located : ProbedState
   pub locates : Shows old.replica located
   pub address : SocketAddr

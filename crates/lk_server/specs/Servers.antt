@@ -9,16 +9,17 @@ use Rattle.lk_node_interface.specs.declared.input.Input.{Input}
 use Rattle.lk_node_interface.specs.declared.input.Input.TheVariants.{Tick, Nudge, Datagram}
 use Rattle.lk_replica.specs.Groups.{GroupValue}
 use Rattle.lk_replica.specs.Posts.{CarriesAll}
-use Rattle.lk_transport.specs.Addresses.{AddressBook, filter_of, client_at, node_at}
+use Rattle.lk_address_book.specs.Addresses.{AddressBook, filter_of, client_at, node_at}
 use Rattle.lk_hearing.specs.Probes.{count_heard, nothing_sent}
 use Rattle.lk_pacing.specs.Paces.{is_clock, ticks_after, MayFollow}
-use Rattle.lk_transport.specs.Posts.{RecordsSenders, SendState, Becomes, all_filtered}
+use Rattle.lk_address_book.specs.Senders.{RecordsSenders}
+use Rattle.lk_transport.specs.Posts.{SendState, Becomes}
+use Rattle.lk_address_book.specs.Filters.{all_filtered}
 use Rattle.lk_transport.specs.Streams.{Stream, Receives, ReceivesOne, ComeWithin, frames_in}
-use Rattle.lk_transport.specs.declared.network.Network.{Network}
-use Rattle.lk_watch.specs.Queues.{QueueValue}
+use Rattle.lk_address_book.specs.declared.network.Network.{Network}
+use Rattle.lk_waiting.specs.Waits.{WaitingValue, nobody_waits}
 use Rattle.lk_probe.specs.Grammar.{no_digest}
 use Rattle.lk_probe.specs.declared.state_digest.StateDigest.{StateDigest}
-use Rattle.lk_server.specs.ChangedNames.{ChangedValue}
 use Rattle.lk_pacing.specs.declared.pace.Pace.{Pace}
 use Rattle.lk_pacing.specs.declared.pace.Pace.TheVariants.{Clock}
 
@@ -46,11 +47,8 @@ pub record ServerValue (R : Type 0) : Type 0 where
   pub socket_failures : ℕ
   -- what its receives are to find, in order
   pub incoming : Stream
-  -- who waits for a name, and the count of periods up to which their watches have lived
-  pub queue : QueueValue
-  pub aged : ℕ
-  -- the names whose holders may have changed since then
-  pub changed : ChangedValue
+  -- who waits for a name, and what the queue looked at in its last turn
+  pub waiting : WaitingValue
 
 -- it serves as this node of this cluster, with this pace, these hosts, these keys and these admins
 pub record IsConfiguredAs {R : Type 0} (c n : ℕ) (p : Pace) (known : Network) (s : ServerValue R) : Type 0 where
@@ -73,8 +71,7 @@ pub record HasHeardNobody {R : Type 0} (s : ServerValue R) : Type 0 where
   pub deaf : s.addresses.deaf ≡ is_clock s.pace
   pub clients : (c : ℕ) → IsClient c → client_at s.addresses c ≡ None
   pub nodes : (n : ℕ) → node_at s.addresses n ≡ None
-  pub waiters : s.queue.waiters ≡ []
-  pub aged : s.aged ≡ 0
+  pub waiting : s.waiting ≡ nobody_waits
 
 -- it runs this replica, which a call has ended or not
 pub record Runs {R : Type 0} (r : R) (ended : Bool) (s : ServerValue R) : Type 0 where
@@ -260,8 +257,10 @@ pub record IsSameServer {R : Type 0} (old new : ServerValue R) : Type 0 where
   pub cluster : new.cluster ≡ old.cluster
   pub node : new.node ≡ old.node
   pub pace : new.pace ≡ old.pace
-  pub queue : new.queue ≡ old.queue
-  pub aged : new.aged ≡ old.aged
+  pub queue : new.waiting.queue ≡ old.waiting.queue
+  pub aged : new.waiting.aged ≡ old.waiting.aged
+  pub spoke : new.waiting.spoke ≡ old.waiting.spoke
+  pub served : new.waiting.served ≡ old.waiting.served
 
 -- Where letters of the node to itself wait, it takes the first 64 of them, in order, and nothing of the socket; else
 -- what came. Its replica was given just that as one group, and a tick where one was due and not withheld, and each tick

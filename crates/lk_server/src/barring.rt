@@ -4,8 +4,8 @@
 ghost use Rattle.std.specs.Prelude.{◌≡◌};
 
 use crate::server::Server;
+use lk_address_book::admins::client_in;
 use lk_server_replica::ServerReplica;
-use lk_transport::admins::client_in;
 use lk_transport::socket::DatagramSocket;
 use log::Log;
 

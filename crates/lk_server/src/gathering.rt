@@ -19,13 +19,13 @@ ghost use Rattle.lk_server.specs.Servers.{WithholdsTicks, one_more_tick};
 
 use crate::group_fault::GroupFault;
 use crate::server::Server;
-use crate::watching::{log_catch_up, log_changes};
+use lk_address_book::arrival::Arrival;
 use lk_node_interface::{Input, Letter};
 use lk_pacing::tick_timer::TickTimer;
 use lk_pacing::turn_input::TurnInput;
 use lk_replica::Group;
+use lk_server_log::{log_catch_up, log_changes};
 use lk_server_replica::ServerReplica;
-use lk_transport::arrival::Arrival;
 use lk_transport::receive_buffer::ReceiveBuffer;
 use lk_transport::socket::DatagramSocket;
 use lk_wire::Datagram;

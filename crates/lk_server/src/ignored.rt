@@ -5,7 +5,7 @@ ghost use Rattle.std.specs.Prelude.{◌≡◌, ◌≢◌, Some, None, if◌then�
 ghost use Rattle.lk_server.specs.Counts.{is_power_of_two};
 ghost use Rattle.lk_disk.specs.Disk.{one_more};
 
-use lk_transport::arrival::Arrival;
+use lk_address_book::arrival::Arrival;
 use log::{Log, debug};
 
 /// How many datagrams did not parse, how many were of another cluster, how many were administrative requests of clients

@@ -3,14 +3,12 @@
 #![tactic(auto)]
 
 mod barring;
-pub mod changed_names;
 mod gathering;
 pub mod group_fault;
 pub mod ignored;
 mod joining;
 pub mod laws;
 mod neighbourhood;
-pub mod notes;
 mod pausing;
 mod probing;
 mod rehosting;
@@ -20,4 +18,3 @@ mod state_digests;
 pub mod turn_events;
 mod unopened;
 mod watch_handling;
-pub mod watching;

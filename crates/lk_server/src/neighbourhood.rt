@@ -3,18 +3,20 @@
 
 ghost use Rattle.std.specs.Prelude.{◌≡◌, None, not};
 ghost use Rattle.lk_probe.specs.Neighbours.{bound_in};
-ghost use Rattle.lk_transport.specs.Addresses.{IsSameFilter, IsSameNetwork};
+ghost use Rattle.lk_address_book.specs.Addresses.{IsSameFilter, IsSameNetwork};
 ghost use Rattle.lk_hearing.specs.Probes.{count_heard, hears_majority};
 ghost use Rattle.lk_server_replica.specs.declared.probed_state.ProbedState.{ProbedState as ProbedStateValue};
-ghost use Rattle.lk_transport.specs.Inquiring.{AsksOne, LearnsKept};
+ghost use Rattle.lk_transport.specs.Inquiring.{AsksOne};
+ghost use Rattle.lk_address_book.specs.Inquiries.{LearnsKept};
 ghost use Rattle.lk_transport.specs.Listening.{HearsKept, ProbesRound};
 ghost use Rattle.lk_server.specs.ProbeHandling.{HandlesProbes, ListensIf, RecordsMember, Welcomes};
 ghost use Rattle.lk_server.specs.Servers.{periods, send_state_at};
 
 use crate::server::Server;
-use crate::watching::log_stranger;
+use lk_probe::StateDigest;
 use lk_probe::neighbours::{Neighbour, Origin};
 use lk_probe::reported::Reported;
+use lk_server_log::{log_apart, log_stranger};
 use lk_server_replica::ServerReplica;
 use lk_transport::receive_buffer::ReceiveBuffer;
 use lk_transport::received_probe::ReceivedProbe;
@@ -151,13 +153,34 @@ impl<R: ServerReplica, S: DatagramSocket + Drop> Server<R, S> {
         self.post.count_heard(shown.members.as_slice(), self.now()) as u8
     }
 
-    // Counts the kept report as a reply to a probe, if there is one.
-    fn hear(&mut self, reported: &Option<Reported>, now: u64)
+    // Logs a warning that a node tells another state than its own at one position: once in 600 periods at most.
+    fn warn_of_state<L: Log>(&mut self, node: NodeNo, told: &StateDigest, log: &L)
+        ensures { self.new ≡ self.old }
+    {
+        if self.digest.differs_from(told) && self.is_minute_past(self.state_warned) {
+            self.state_warned = Some(self.now());
+            log_apart(log, node, told.position);
+        }
+    }
+
+    // Records for the events which state a report tells, if it replies to a probe of this server.
+    fn note_state<L: Log>(&mut self, reported: &Reported, log: &L)
+        ensures { self.new ≡ self.old }
+    {
+        self.events.told = self.post.state_told(reported);
+        if let Some((node, told)) = self.events.told {
+            self.warn_of_state(node, &told, log);
+        }
+    }
+
+    // Counts the kept report as a reply to a probe, if there is one. Records the state that it tells for the events.
+    fn hear<L: Log>(&mut self, reported: &Option<Reported>, now: u64, log: &L)
         ensures hears { HearsKept now reported.now self.old.addresses self.new.addresses }
         ensures network { IsSameNetwork self.old.addresses self.new.addresses }
         ensures others { self.new ≡ record self.old { addresses = self.new.addresses } }
     {
         if let Some(reported) = reported {
+            self.note_state(reported, log);
             self.post.note_reply(reported, now);
         }
     }
@@ -195,7 +218,7 @@ impl<R: ServerReplica, S: DatagramSocket + Drop> Server<R, S> {
 
     // Where ticks go by the clock: counts the kept report, probes the members of the next position if that is due, and
     // finds out whether it hears a majority of them.
-    fn listen(&mut self, reported: &Option<Reported>)
+    fn listen<L: Log>(&mut self, reported: &Option<Reported>, log: &L)
         ensures listens { ListensIf R.Shows S.is_observable reported.now self.old self.new }
         ensures network { IsSameNetwork self.old.addresses self.new.addresses }
         ensures still { S.is_observable → self.new.incoming ≡ self.old.incoming }
@@ -212,7 +235,7 @@ impl<R: ServerReplica, S: DatagramSocket + Drop> Server<R, S> {
         }
         let now = self.now();
         let shown = self.replica.show();
-        self.hear(reported, now);
+        self.hear(reported, now, log);
         self.probe_members(shown.members.as_slice(), now);
         self.judge(shown.members.as_slice(), now);
     }
@@ -242,7 +265,7 @@ impl<R: ServerReplica, S: DatagramSocket + Drop> Server<R, S> {
         self.learn(&reported, log);
         let now = self.now();
         self.probe_next(now);
-        self.listen(&reported);
+        self.listen(&reported, log);
         self.followed_stranger()
     }
 }

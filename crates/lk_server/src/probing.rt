@@ -86,7 +86,7 @@ impl<R: ServerReplica, S: DatagramSocket + Drop> Server<R, S> {
 
     // Returns how many watches it keeps.
     fn count_watches(&self) -> u16
-        ensures { result ≡ length self.now.queue.waiters }
+        ensures { result ≡ length self.now.waiting.queue.waiters }
     {
         // It does nothing; by its contract there are at most 1,024.
         self.watches.facts();
@@ -97,7 +97,7 @@ impl<R: ServerReplica, S: DatagramSocket + Drop> Server<R, S> {
     // and names it keeps, and the digest that it took last.
     fn reach_of(&self, shown: &ProbedState) -> Reach
         ensures heard { result.heard ≡ heard_by shown.now.members self.now }
-        ensures watches { result.watches ≡ length self.now.queue.waiters }
+        ensures watches { result.watches ≡ length self.now.waiting.queue.waiters }
         ensures names { result.names ≡ shown.now.names }
         ensures state { result.state ≡ self.now.digest }
     {
@@ -120,8 +120,8 @@ impl<R: ServerReplica, S: DatagramSocket + Drop> Server<R, S> {
     fn report(&self, asked: &ReceivedProbe) -> ProbeDatagram
         ensures { (shown : ProbedStateValue) × R.Shows self.now.replica shown
             × IsReportTo self.now.node self.now.addresses.seals.genesis (periods self.now) self.now.withheld
-            (heard_by shown.members self.now) (length self.now.queue.waiters) self.now.digest shown asked.now.probe
-            result }
+            (heard_by shown.members self.now) (length self.now.waiting.queue.waiters) self.now.digest shown
+            asked.now.probe result }
     {
         let shown = self.replica.show();
         let reach = self.reach_of(&shown);

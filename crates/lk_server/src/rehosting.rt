@@ -2,12 +2,12 @@
 
 ghost use Rattle.std.specs.Prelude.{◌≡◌};
 ghost use Rattle.lk_server.specs.Servers.{periods};
-ghost use Rattle.lk_transport.specs.Hosts.{hosts_after};
+ghost use Rattle.lk_address_book.specs.Hosts.{hosts_after};
 
 use crate::server::Server;
-use crate::watching::{log_moved, log_unusable};
+use lk_address_book::hosts::{HostNews, Hosts};
+use lk_server_log::{log_moved, log_unusable};
 use lk_server_replica::ServerReplica;
-use lk_transport::hosts::{HostNews, Hosts};
 use lk_transport::socket::DatagramSocket;
 use log::Log;
 use std::alloc::Global;

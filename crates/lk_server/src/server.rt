@@ -2,22 +2,20 @@
 
 ghost use Rattle.std.specs.Prelude.{◌≡◌, ℕ, List, ◌∷◌, [], None, true, false, OnOk, OnErr, IfOk, IfErr};
 ghost use Rattle.std.specs.declared.net.socket_addr.SocketAddr.{SocketAddr as Address};
-ghost use Rattle.lk_transport.specs.Addresses.{filter_of, IsSameNetwork};
+ghost use Rattle.lk_address_book.specs.Addresses.{filter_of, IsSameNetwork};
 ghost use Rattle.lk_server.specs.Gatherings.{Finds, DeliversAllLetters, SaysNothing};
-ghost use Rattle.lk_transport.specs.Posts.{all_filtered};
-ghost use Rattle.lk_server.specs.WatchHandling.{NotesChanges};
+ghost use Rattle.lk_address_book.specs.Filters.{all_filtered};
+ghost use Rattle.lk_waiting.specs.Waits.{NotesChanges};
 ghost use Rattle.lk_transport.specs.Kept.{KeepsOf};
 ghost use Rattle.lk_server_replica.specs.Refusals.{IsOfGroups};
 ghost use Rattle.lk_server.specs.Servers.{DeliversLetters, DeliversNothing, HasHeardNobody, HasReceived, IsSameServer};
 ghost use Rattle.lk_server.specs.Servers.{KeepsCounts, LastTurn};
 ghost use Rattle.lk_server.specs.Servers.{Runs, IsConfiguredAs, HasSocket, TurnOrIdle, Turn, one_more_tick};
 
-use crate::changed_names::ChangedNames;
 use crate::group_fault::GroupFault;
 use crate::ignored::IgnoredCounts;
-use crate::notes::log_notes;
 use crate::turn_events::TurnEvents;
-use crate::watching::log_sends;
+use lk_address_book::network::Network;
 use lk_hearing::token_source::TokenSource;
 use lk_node_interface::ReplicaFault;
 use lk_pacing::pace::Pace;
@@ -26,14 +24,14 @@ use lk_pacing::tick_timer::{FrozenClock, TickTimer};
 use lk_pacing::turn_input::TurnInput;
 use lk_probe::StateDigest;
 use lk_replica::Group;
+use lk_server_log::{log_notes, log_sends};
 use lk_server_replica::silence::Silence;
 use lk_server_replica::{ServerReplica, TableVersion};
-use lk_transport::network::Network;
 use lk_transport::post::SocketPost;
 use lk_transport::receive_buffer::ReceiveBuffer;
 use lk_transport::socket::DatagramSocket;
 use lk_types::NodeNo;
-use lk_watch::queue::WatchQueue;
+use lk_waiting::Waiting;
 use log::Log;
 use std::alloc::Global;
 use std::marker::Model;
@@ -71,18 +69,14 @@ pub struct Server<R: ServerReplica, S: DatagramSocket + Drop> {
     pub(crate) tokens: TokenSource,
     // the count of periods at its last warning of a node of another genesis
     pub(crate) stranger_warned: Option<u64>,
+    // the same for a warning of a node whose state differs
+    pub(crate) state_warned: Option<u64>,
     // the same of a node's frame that did not open
     pub(crate) unopened_warned: Option<u64>,
     // the same at its last event of an administrative request that it dropped
     pub(crate) barred_noted: Option<u64>,
-    // who waits for a name, and the count of periods up to which their watches have lived
-    pub(crate) watches: WatchQueue,
-    pub(crate) aged: u64,
-    // the names whose holders may have changed since the queue's last turn
-    pub(crate) changed: ChangedNames,
-    // whether it spoke for the cluster then, and how many positions it had executed
-    pub(crate) spoke: bool,
-    pub(crate) served: u64,
+    // who waits for a name
+    pub(crate) watches: Waiting,
 }
 
 impl<R: ServerReplica, S: DatagramSocket + Drop> Model for Server<R, S> {
@@ -105,9 +99,7 @@ impl<R: ServerReplica, S: DatagramSocket + Drop> Model for Server<R, S> {
       sent = s.post.sent;
       socket_failures = s.post.socket_failures;
       incoming = s.post.incoming;
-      queue = s.watches;
-      aged = s.aged;
-      changed = s.changed;
+      waiting = s.watches;
     } };
 }
 
@@ -150,13 +142,10 @@ impl<R: ServerReplica, S: DatagramSocket + Drop> Server<R, S> {
             sync_pause: SyncPause::NONE,
             tokens: TokenSource::new(),
             stranger_warned: None,
+            state_warned: None,
             unopened_warned: None,
             barred_noted: None,
-            watches: WatchQueue::new(alloc),
-            aged: 0,
-            changed: ChangedNames::new(alloc),
-            spoke: false,
-            served: 0,
+            watches: Waiting::new(alloc),
         }
     }
 
@@ -203,7 +192,7 @@ impl<R: ServerReplica, S: DatagramSocket + Drop> Server<R, S> {
         ensures alive { OnOk result (self.new.failed ≡ false) }
         ensures broken { OnErr result (self.new.failed ≡ true) }
         ensures told { IfErr result IsOfGroups }
-        ensures unchanged { self.new.changed ≡ self.old.changed }
+        ensures unchanged { self.new.waiting ≡ self.old.waiting }
     {
         self.post.start_group();
         let released = self.replica.release(group, &mut self.post);
@@ -228,7 +217,7 @@ impl<R: ServerReplica, S: DatagramSocket + Drop> Server<R, S> {
         ensures alive { OnOk result (self.new.failed ≡ false) }
         ensures broken { OnErr result (self.new.failed ≡ true) }
         // The names of the commands that were executed are noted, if anybody waits.
-        ensures noted { OnOk result (NotesChanges group.now.notes self.old self.new) }
+        ensures noted { OnOk result (NotesChanges group.now.notes self.old.waiting self.new.waiting) }
     {
         match self.sync_and_send(group, log) {
             Ok(_) => {

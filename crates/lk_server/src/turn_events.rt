@@ -1,11 +1,12 @@
 //! What happened to a node in a turn, for the observer of its events.
 
 ghost use Rattle.std.specs.Prelude.{◌≡◌, ◌≤◌, ◌<◌, ◌||◌, ℕ, Some, None};
-ghost use Rattle.lk_transport.specs.Arrivals.{sender};
-ghost use Rattle.lk_server.specs.FullQueues.{says_full};
+ghost use Rattle.lk_address_book.specs.Arrivals.{sender};
+ghost use Rattle.lk_waiting.specs.FullQueues.{says_full};
 
+use lk_address_book::arrival::Arrival;
+use lk_probe::StateDigest;
 use lk_server_replica::replica_status::ReplicaStatus;
-use lk_transport::arrival::Arrival;
 use lk_transport::post::SendSummary;
 use lk_transport::unopened::UnopenedFrame;
 use lk_types::{Executed, NodeNo};
@@ -28,6 +29,8 @@ pub struct TurnEvents {
     pub barred: Option<u16>,
     /// Whether the file of the hosts can be used, if it was read again and that is to be reported.
     pub are_hosts_usable: Option<bool>,
+    /// The node whose state a report told, and the digest that it told, if a report of form 2 came.
+    pub told: Option<(NodeNo, StateDigest)>,
     /// Whether a watch was answered that the queue of those who wait has no room for its client.
     pub is_queue_full: bool,
 }
@@ -42,6 +45,7 @@ impl TurnEvents {
         unopened: None,
         barred: None,
         are_hosts_usable: None,
+        told: None,
         is_queue_full: false,
     };
 

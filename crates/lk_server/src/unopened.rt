@@ -2,11 +2,11 @@
 
 ghost use Rattle.std.specs.Prelude.{◌≡◌, ◌≢◌, Some, None, IfSome};
 ghost use Rattle.lk_transport.specs.Unopened.{unopened};
-ghost use Rattle.lk_transport.specs.declared.arrival.Arrival.TheVariants.{Bad};
+ghost use Rattle.lk_address_book.specs.declared.arrival.Arrival.TheVariants.{Bad};
 
 use crate::server::Server;
+use lk_address_book::arrival::Arrival;
 use lk_server_replica::ServerReplica;
-use lk_transport::arrival::Arrival;
 use lk_transport::socket::DatagramSocket;
 use lk_transport::unopened::UnopenedFrame;
 use std::net::SocketAddr;

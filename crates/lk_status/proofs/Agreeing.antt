@@ -8,9 +8,10 @@ use Rattle.std.proofs.lemmas.Bool.{eqb-true}
 use Rattle.std.proofs.lemmas.Bool.Decides.{nat_tests}
 use lib.Pointwise.{bytes_decides}
 use Rattle.lk_probe.specs.Grammar.{digest_in}
+use Rattle.lk_probe.specs.StateDigests.{do_differ}
 use Rattle.lk_probe.specs.declared.probe.Report.{Report}
 use Rattle.lk_probe.specs.declared.state_digest.StateDigest.{StateDigest}
-use Rattle.lk_status.specs.States.{AgreesWith, AgreeAll, HoldAlike, differs_from, do_differ, is_apart, one_state}
+use Rattle.lk_status.specs.States.{AgreesWith, AgreeAll, HoldAlike, differs_from, is_apart, one_state}
 use Rattle.lk_status.specs.States.{some_apart}
 
 -- ---- of truth values

@@ -4,6 +4,7 @@ use Rattle.std.specs.Prelude.{◌∷◌, if◌then◌else◌}
 use Rattle.std.specs.Cmp.Lexicographic.{pointwise}
 use Rattle.std.specs.List.{AllByRecursion, list_any}
 use Rattle.lk_probe.specs.Grammar.{digest_in}
+use Rattle.lk_probe.specs.StateDigests.{are_comparable, do_differ}
 use Rattle.lk_probe.specs.declared.probe.Report.{Report}
 use Rattle.lk_probe.specs.declared.state_digest.StateDigest.{StateDigest}
 
@@ -16,16 +17,9 @@ HoldAlike d e = d.position ≢ 0 → d.position ≡ e.position → d.digest ≡ 
 abbrev pub AgreesWith : Report → Report → Type 0
 AgreesWith r o = HoldAlike (digest_in r.reach) (digest_in o.reach)
 
--- both tell a digest, and of one position
-abbrev pub are_comparable : StateDigest → StateDigest → Bool
-are_comparable d e = not (d.position == 0) && d.position == e.position
-
--- and it is the same, or another one
+-- both tell a digest of one position, and it is the same
 abbrev pub are_alike : StateDigest → StateDigest → Bool
 are_alike d e = are_comparable d e && pointwise nat_eq d.digest e.digest
-
-abbrev pub do_differ : StateDigest → StateDigest → Bool
-do_differ d e = are_comparable d e && not (pointwise nat_eq d.digest e.digest)
 
 abbrev pub is_alike : Report → Report → Bool
 is_alike r o = are_alike (digest_in r.reach) (digest_in o.reach)

@@ -5,7 +5,7 @@ use Rattle.std.specs.declared.net.ip_addr.IpAddr.{IpAddr}
 use Rattle.lk_types.specs.Ranges.{IsPort}
 use Rattle.lk_types.specs.declared.member.Member.{Member}
 use Rattle.lk_word_parsers.specs.Geneses.{IsMemberWord}
-use Rattle.lk_transport.specs.Hosts.{host_of}
+use Rattle.lk_address_book.specs.Hosts.{host_of}
 use Rattle.lk_client.specs.Questions.{known_or}
 use Rattle.lk_client.specs.declared.destination.Place.{Place}
 use Rattle.lk_status.specs.declared.target.Inquiry.{Inquiry}

@@ -1,32 +1,18 @@
 //! Finds the nodes that hold another state than others at one position: they have executed other commands.
 
 ghost use Rattle.std.specs.Prelude.{◌≡◌, ◌≤◌, length};
-ghost use Rattle.lk_status.specs.States.{are_alike, are_comparable, count_holding, differs_from, do_differ};
+ghost use Rattle.lk_status.specs.States.{are_alike, count_holding, differs_from};
 ghost use Rattle.lk_status.specs.States.{is_alike, is_apart, is_held_by, is_last_to_hold, is_rivalled, is_outnumbered};
 ghost use Rattle.lk_status.specs.States.{rivals, one_state, outnumbers, some_apart};
 
 use lk_probe::{Report, StateDigest};
 use lk_types::NodeNo;
 
-// Whether both are digests, and of one position.
-fn are_comparable(one: &StateDigest, other: &StateDigest) -> bool
-    ensures { result ≡ are_comparable one.now other.now }
-{
-    one.position.get() != 0 && one.position == other.position
-}
-
 // Whether both are digests of one position, and the same.
 fn are_alike(one: &StateDigest, other: &StateDigest) -> bool
     ensures { result ≡ are_alike one.now other.now }
 {
-    are_comparable(one, other) && one.digest == other.digest
-}
-
-// Whether both are digests of one position, and differ.
-fn do_differ(one: &StateDigest, other: &StateDigest) -> bool
-    ensures { result ≡ do_differ one.now other.now }
-{
-    are_comparable(one, other) && one.digest != other.digest
+    one.is_comparable_to(other) && one.digest == other.digest
 }
 
 // Whether two reports tell one state at one position.
@@ -40,7 +26,7 @@ fn is_alike(report: &Report, other: &Report) -> bool
 pub fn differs_from(report: &Report, other: &Report) -> bool
     ensures { result ≡ differs_from report.now other.now }
 {
-    do_differ(&report.state_digest(), &other.state_digest())
+    report.state_digest().differs_from(&other.state_digest())
 }
 
 // Whether a report of that node tells the state of `report`.

@@ -125,6 +125,24 @@ mute_text (Some node) =
     ++ codes " sends and hears nobody: stop it, and check its --port, the hosts and the keys\n")
 mute_text None = codes "the members do not hear each other\n"
 
+-- it seeks votes, and has run for the 4 ticks after which the first member begins to: a node that has just begun and
+-- had led before shows the same
+abbrev pub is_candidate : Report → Bool
+is_candidate r = seeks_votes r && nat_le 4 r.status.traffic.ticks
+
+-- that node reports so
+abbrev pub has_candidate : ℕ → List Report → Bool
+has_candidate node rs = list_any (λ r. r.node == node && is_candidate r) rs
+
+abbrev pub not_yet_text : ℕ → List ℕ
+not_yet_text node =
+    codes "look again: node " ++ (decimal node ++ codes ", which others follow, does not lead yet\n")
+
+-- a node that is followed and seeks votes sends, and hears nobody; one that does not has just begun, or will be led
+abbrev pub followed_text : Option ℕ → List Report → List ℕ
+followed_text None rs = mute_text None
+followed_text (Some node) rs = if has_candidate node rs then mute_text (Some node) else not_yet_text node
+
 -- a node is followed and does not answer: it has just died, or else it sends and hears nobody
 abbrev pub silent_text : ℕ → List ℕ
 silent_text node =
@@ -135,7 +153,7 @@ silent_text node =
 abbrev pub cause_text : List Report → List ℕ
 cause_text rs =
     if list_all hears rs then codes "let long datagrams pass (fragments): the members hear each other\n"
-    else mute_text (followed rs)
+    else followed_text (followed rs) rs
 
 -- what to do if that lasts: where the node that is followed does not answer, the others show nothing of the cause yet
 abbrev pub remedy_text : Option ℕ → List Report → List ℕ

@@ -5,6 +5,7 @@ ghost use Rattle.std.specs.Option.{option_copied};
 ghost use Rattle.std.specs.Prelude.{◌≡◌, OnOk, flat_map, is_some};
 ghost use Rattle.lk_status_reasons.specs.Reasons.{follows, followed, hears, node_reasons, nobody_line, majority_line};
 ghost use Rattle.lk_status_reasons.specs.Reasons.{mute_text, silent_text, unless_reported, silent_in, cause_text};
+ghost use Rattle.lk_status_reasons.specs.Reasons.{followed_text, has_candidate, is_candidate, not_yet_text};
 ghost use Rattle.lk_status_reasons.specs.Reasons.{remedy_text, leaderless_line, unfollowed_line, unfollowed_reason};
 ghost use Rattle.lk_status_reasons.specs.Reasons.{geneses_reason, leader_reason, leaders_reason, members_reason, reads};
 ghost use Rattle.lk_status_reasons.specs.Reasons.{sends, some_send, unread_reason, bundles_reason, shown_text};
@@ -19,6 +20,9 @@ use lk_status::verdict::{
 use lk_types::{Member, NodeNo};
 use std::io;
 use std::io::Write;
+
+// The ticks without a leader after which the first member begins to seek votes.
+const FIRST: u64 = 4;
 
 // Whether a node follows a leader, of which it has heard in the last 28 ticks.
 fn follows(report: &Report) -> bool
@@ -88,6 +92,44 @@ fn write_mute<W: Write>(node: Option<NodeNo>, out: &mut W) -> io::Result<()>
     Ok(())
 }
 
+// Whether a node seeks votes, and has run long enough for that.
+fn is_candidate(report: &Report) -> bool
+    ensures { result ≡ is_candidate report.now }
+{
+    seeks_votes(report) && report.status.traffic.ticks >= FIRST
+}
+
+// Whether that node reports so.
+fn has_candidate(node: NodeNo, reports: &[Report]) -> bool
+    ensures { result ≡ has_candidate node reports.now }
+{
+    reports
+        .iter()
+        .any(|report| report.node == node && is_candidate(report))
+}
+
+// Writes that a node, which others follow, does not lead yet: what it hears shows later.
+fn write_not_yet<W: Write>(node: NodeNo, out: &mut W) -> io::Result<()>
+    ensures { OnOk result (Appends (W.contents out.old) (W.contents out.new) (not_yet_text node)) }
+{
+    let node = node.get();
+    writeln!(
+        out,
+        "look again: node {node}, which others follow, does not lead yet"
+    )
+}
+
+// Writes what keeps a leader from being elected, where that node is followed, if one is.
+fn write_followed<W: Write>(node: Option<NodeNo>, reports: &[Report], out: &mut W) -> io::Result<()>
+    ensures { OnOk result (Appends (W.contents out.old) (W.contents out.new) (followed_text node reports.now)) }
+{
+    match node {
+        Some(node) if !has_candidate(node, reports) => write_not_yet(node, out)?,
+        _ => write_mute(node, out)?,
+    }
+    Ok(())
+}
+
 // Whether each of these nodes says that it hears a majority.
 fn all_hear(reports: &[Report]) -> bool
     ensures { result ≡ list_all hears reports.now }
@@ -96,14 +138,14 @@ fn all_hear(reports: &[Report]) -> bool
 }
 
 // Writes why nobody leads if that lasts, where the node that is followed answers, or none is: the members hear each
-// other, or else see `write_mute`.
+// other, or else see `write_followed`.
 fn write_cause<W: Write>(reports: &[Report], out: &mut W) -> io::Result<()>
     ensures { OnOk result (Appends (W.contents out.old) (W.contents out.new) (cause_text reports.now)) }
 {
     if all_hear(reports) {
         out.write_all(b"let long datagrams pass (fragments): the members hear each other\n")?;
     } else {
-        write_mute(followed_in(reports), out)?;
+        write_followed(followed_in(reports), reports, out)?;
     }
     Ok(())
 }

@@ -2,6 +2,7 @@
 ghost use Rattle.std.specs.Prelude.{◌≡◌};
 ghost use Rattle.lk_memory_disk.specs.Memory.{empty};
 
+use lk_address_book::admins::Admins;
 use lk_memory_disk::MemoryDisk;
 use lk_memory_socket::MemorySocket;
 use lk_node_setup::network::NetworkOptions;
@@ -11,7 +12,6 @@ use lk_node_setup::text_files::TextFiles;
 use lk_pacing::pace::Pace;
 use lk_program_fault::ProgramFault;
 use lk_store_format::Header;
-use lk_transport::admins::Admins;
 use lk_transport::socket::local;
 use lk_types::{Genesis, NodeNo, Port};
 use lk_word_parsers::genesis::read_genesis;
@@ -61,7 +61,7 @@ impl<'a> TextFiles for MemoryPlatform<'a> {
 impl<'a> Platform<MemoryDisk, MemorySocket> for MemoryPlatform<'a> {
     type Lock = u8;
 
-    ghost is_store = { λ p folder device. (folder ≡ p.folder.now) × (device ≡ empty) };
+    ghost is_store = { λ p folder sums device. (folder ≡ p.folder.now) × (device ≡ empty) };
 
     ghost is_bound = { λ p address socket. address ≡ p.address };
 
@@ -84,6 +84,7 @@ impl<'a> Platform<MemoryDisk, MemorySocket> for MemoryPlatform<'a> {
         alloc: Global,
         folder: &str,
         existing: bool,
+        _sums: bool,
         _err: &mut E,
     ) -> Result<(MemoryDisk, u8), ProgramFault> {
         if existing || folder != self.folder {
@@ -102,6 +103,7 @@ fn plan_of<'a>(port: u16, folder: &'a str, hosts: &'a str) -> Option<NodePlan<'a
         pace: Pace::Datagrams,
         folder,
         existing: false,
+        sums: false,
         bundles: false,
         options: NetworkOptions {
             hosts: Some(hosts),

@@ -2,6 +2,7 @@
 
 use crate::clocks::Stopped;
 use crate::replicas::{Locks, begun};
+use lk_address_book::network::Network;
 use lk_client::destination::Destination;
 use lk_client::question::{Question, datagram};
 use lk_client::reply::{Reply, read_reply};
@@ -9,7 +10,6 @@ use lk_memory_socket::{MemoryDatagram, MemorySocket};
 use lk_pacing::pace::Pace;
 use lk_pacing::tick_timer::TickTimer;
 use lk_server::server::{Server, node_turn};
-use lk_transport::network::Network;
 use lk_transport::receive_buffer::ReceiveBuffer;
 use lk_transport::socket::local;
 use lk_types::{Answer, ClientNo, NodeNo, Port, Request, RequestNumber};

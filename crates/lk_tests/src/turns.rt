@@ -4,6 +4,7 @@ ghost use Rattle.lk_server_replica.specs.Tables.{greatest_of, table_of};
 
 use crate::clocks::Stopped;
 use crate::replicas::{Locks, begun};
+use lk_address_book::network::Network;
 use lk_locks::LockTable;
 use lk_memory_socket::MemorySocket;
 use lk_node_interface::{Input, Note, Outbox, Post, ReplicaFault};
@@ -15,7 +16,6 @@ use lk_replica::Group;
 use lk_server::server::{Server, node_turn};
 use lk_server_replica::replica_status::ReplicaStatus;
 use lk_server_replica::{ProbedState, ServerReplica};
-use lk_transport::network::Network;
 use lk_transport::receive_buffer::ReceiveBuffer;
 use lk_types::{Ballot, Command, Executed, NodeNo, Position, RealBallot};
 use log::sink::Memory;
@@ -193,27 +193,27 @@ const CHANGES: [Change; 6] = [
     (
         NEW,
         (1, 0, 0, 3, 0),
-        b"[DEBUG lk_server::watching] term 3.1 begun\n",
+        b"[DEBUG lk_server_log::changes] term 3.1 begun\n",
     ),
     (
         (1, 0, 0, 3, 1),
         (1, 0, 0, 0, 2),
-        b"[DEBUG lk_server::watching] term 3.1 ended by a tick\n[DEBUG lk_server::watching] known leader 2\n",
+        b"[DEBUG lk_server_log::changes] term 3.1 ended by a tick\n[DEBUG lk_server_log::changes] known leader 2\n",
     ),
     (
         (1, 0, 256, 0, 2),
         (2, 256, 256, 0, 0),
-        b"[DEBUG lk_server::watching] known leader none\n[DEBUG lk_server::watching] compacted at 256\n",
+        b"[DEBUG lk_server_log::changes] known leader none\n[DEBUG lk_server_log::changes] compacted at 256\n",
     ),
     (
         (1, 0, 5, 0, 0),
         (2, 300, 300, 0, 0),
-        b"[DEBUG lk_server::watching] installed at 300\n",
+        b"[DEBUG lk_server_log::changes] installed at 300\n",
     ),
     (
         (1, 0, 256, 0, 0),
         (3, 600, 600, 0, 0),
-        b"[DEBUG lk_server::watching] compacted at 256\n[DEBUG lk_server::watching] installed at 600\n",
+        b"[DEBUG lk_server_log::changes] compacted at 256\n[DEBUG lk_server_log::changes] installed at 600\n",
     ),
 ];
 
@@ -237,7 +237,10 @@ fn what_changes_by_a_turn_is_logged(rt: HostRuntime) -> Result<(), Fail> {
 #[test]
 fn notes_are_logged_unless_the_replica_ends(rt: HostRuntime) -> Result<(), Fail> {
     for (end, text) in [
-        (End::Notes, b"[INFO  lk_server::notes] ran 3\n".as_slice()),
+        (
+            End::Notes,
+            b"[INFO  lk_server_log::notes] ran 3\n".as_slice(),
+        ),
         (End::Broken, b"".as_slice()),
     ] {
         assert_eq!(rt; logged(rt.alloc(), end, NEW, NEW)?.as_slice(), text);

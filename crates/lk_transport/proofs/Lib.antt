@@ -1,5 +1,2 @@
 pub mod Chaining
 pub mod Streaming
-mod Books
-mod AdminLaws
-mod OutsiderLaws

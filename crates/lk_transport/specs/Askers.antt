@@ -1,5 +1,5 @@
--- Probes that a node answers: which ones, whom they name, and where the report goes.
-use Rattle.std.specs.Prelude.{◌≡◌, ◌≢◌, ◌⊎◌, ◌==◌, if◌then◌else◌, ◌++◌, ℕ, List, [], ◌∷◌, length, Option, Some, None}
+-- Probes that a node answers: which ones, whom they name, where the report goes, and whose address they make known.
+use Rattle.std.specs.Prelude.{◌≡◌, ◌≢◌, ◌⊎◌, ◌++◌, ℕ, List, [], ◌∷◌, length, Option, Some, None}
 use Rattle.std.specs.Prelude.{IsSome}
 use Rattle.std.specs.declared.net.socket_addr.SocketAddr.{SocketAddr}
 use Rattle.lk_probe.specs.Grammar.{SpellsProbe, node_in}
@@ -9,7 +9,8 @@ use Rattle.lk_auth.specs.declared.seals.Seals.{Seals}
 use Rattle.lk_node_interface.specs.declared.to.To.{To}
 use Rattle.lk_node_interface.specs.declared.to.To.TheVariants.{Node, Client}
 use Rattle.lk_types.specs.declared.member.Member.{Member}
-use Rattle.lk_transport.specs.Addresses.{AddressBook}
+use Rattle.lk_address_book.specs.Addresses.{AddressBook}
+use Rattle.lk_address_book.specs.Probers.{RecordsProber, port_among}
 use Rattle.lk_transport.specs.Posts.{SendState, IsRoute, Loses, frame_of, keys_for}
 use Rattle.lk_transport.specs.declared.received_probe.ReceivedProbe.{ReceivedProbe}
 
@@ -53,11 +54,6 @@ pub record SendsTo (observable : Type 0) (address : SocketAddr) (frame : List �
   pub sent : observable → new.sent ≡ old.sent ++ (address, frame) ∷ []
   pub failures : observable → new.failures ≡ old.failures
 
--- the port of a node among these members
-abbrev pub port_among : List Member → ℕ → Option ℕ
-port_among [] node = None
-port_among (m ∷ ms) node = if m.node == node then Some m.port else port_among ms node
-
 -- the address that is known, or else this one
 abbrev pub known_or_from : Option SocketAddr → SocketAddr → SocketAddr
 known_or_from None from = from
@@ -83,3 +79,8 @@ abbrev pub Replies : Type 0 → Seals → ReceivedProbe → SocketAddr → List 
 Replies observable s a address bytes old new =
     SendsTo observable address (frame_for s (asker a.probe) bytes) old new
     ⊎ Loses observable (keys_to s (asker a.probe)) old new
+
+-- the address of a kept probe, if there is one, is recorded as `RecordsProber` says
+abbrev pub RecordsKeptProber : ℕ → List Member → Option ReceivedProbe → AddressBook → AddressBook → Type 0
+RecordsKeptProber own ms None old new = new ≡ old
+RecordsKeptProber own ms (Some a) old new = RecordsProber own ms a.probe.origin a.from old new

@@ -1,16 +1,10 @@
 pub mod Chains
-pub mod Admins
-pub mod Outsiders
 pub mod Unopened
-pub mod Addresses
-pub mod Hosts
 pub mod Posts
 pub mod Streams
 pub mod ReceiveBuffers
 pub mod Askers
 pub mod Inquiring
 pub mod Kept
-pub mod Arrivals
 pub mod Listening
 pub mod Watches
-pub mod Probers

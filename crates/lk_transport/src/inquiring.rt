@@ -1,14 +1,14 @@
 //! Asks each node that writes to this one which genesis it was started with, and records the reports.
 
 ghost use Rattle.std.specs.Prelude.{◌≡◌, Some, is_some};
-ghost use Rattle.lk_probe.specs.Neighbours.{Readmits, bound_in, is_stranger};
+ghost use Rattle.lk_probe.specs.Neighbours.{bound_in, is_stranger};
 ghost use Rattle.lk_auth.specs.Seals.{heard};
-ghost use Rattle.lk_transport.specs.Addresses.{IsSameNetwork};
-ghost use Rattle.lk_transport.specs.Inquiring.{AsksOne, IsAskedAt, IsReportedBy, LearnsOf, ReadmitsKept, SendsProbe};
+ghost use Rattle.lk_address_book.specs.Addresses.{IsSameNetwork};
+ghost use Rattle.lk_address_book.specs.Inquiries.{LearnsOf};
+ghost use Rattle.lk_transport.specs.Inquiring.{AsksOne, IsReportedBy, ReadmitsKept, SendsProbe};
 ghost use Rattle.lk_transport.specs.Inquiring.{question_by};
 ghost use Rattle.lk_transport.specs.Posts.{send_state_of};
 
-use crate::addresses::Addresses;
 use crate::post::SocketPost;
 use crate::received_probe::ReceivedProbe;
 use crate::socket::DatagramSocket;
@@ -18,44 +18,6 @@ use lk_probe::neighbours::{Neighbour, Origin};
 use lk_probe::reported::{Reported, question};
 use lk_types::NodeNo;
 use std::net::SocketAddr;
-
-impl Addresses {
-    // Returns an address at which a question is due, if there is one, and records it as asked. `now` is the count of
-    // ticks. If the nodes have a key it returns `None`: their frames already prove the genesis.
-    fn next_to_probe(&mut self, now: u64) -> Option<SocketAddr>
-        ensures asked { IsAskedAt now result self.old self.new }
-        ensures network { IsSameNetwork self.old self.new }
-    {
-        if !self.seals().nodes.is_none() {
-            return None;
-        }
-        self.neighbours.next_to_probe(now)
-    }
-
-    // Records that a node of this genesis asked from an address: if another genesis was recorded there, the address
-    // counts as never asked.
-    fn readmit(&mut self, address: SocketAddr)
-        ensures readmits { Readmits address self.old.neighbours self.new.neighbours }
-        ensures others { self.new ≡ record self.old { neighbours = self.new.neighbours } }
-    {
-        self.neighbours.readmit(address);
-    }
-
-    // Records the genesis that a report names for the node at its address, and returns the updated entry; `None`, and
-    // nothing changes, if it does not reply to the question of `node`, this node, or that address was not asked or has
-    // answered before.
-    fn learn(&mut self, node: NodeNo, reported: &Reported) -> Option<Neighbour>
-        ensures learns { LearnsOf node reported.now result self.old self.new }
-        ensures network { IsSameNetwork self.old self.new }
-    {
-        if reported.token != u64::from(node.get()) {
-            return None;
-        }
-        let own = self.seals().genesis;
-        self.neighbours
-            .learn(reported.from, &own, reported.reporter)
-    }
-}
 
 impl<S: DatagramSocket + Drop> SocketPost<S> {
     // Returns the probe by which this node asks another for its genesis.
@@ -148,13 +110,13 @@ impl<S: DatagramSocket + Drop> SocketPost<S> {
     pub fn stranger(&self, address: SocketAddr) -> Option<NodeNo>
         ensures { is_some result ≡ is_stranger self.now.addresses.neighbours address }
     {
-        self.addresses.neighbours.stranger(address)
+        self.addresses.stranger(address)
     }
 
     /// Returns the first node of another genesis that this node has followed, if there is one.
     pub fn followed_stranger(&self) -> Option<Origin>
         ensures { result ≡ bound_in self.now.addresses.neighbours }
     {
-        self.addresses.neighbours.followed_stranger()
+        self.addresses.followed_stranger()
     }
 }

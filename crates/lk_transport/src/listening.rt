@@ -1,18 +1,14 @@
 //! Probes the other members, and finds out by their reports whether this node hears a majority of them.
 
 ghost use Rattle.std.specs.Prelude.{◌≡◌, ◌≤◌, length};
-ghost use Rattle.lk_hearing.specs.Probes.{count_heard, hears_majority, having_begun, having_heard, having_sent};
-ghost use Rattle.lk_hearing.specs.Probes.{is_round_due};
-ghost use Rattle.lk_transport.specs.Addresses.{IsSameNetwork, filter_of};
-ghost use Rattle.lk_transport.specs.Admins.{bars};
-ghost use Rattle.lk_transport.specs.Askers.{IsReplyAddress, IsReplyOf, port_among};
+ghost use Rattle.lk_hearing.specs.Probes.{count_heard, hears_majority};
+ghost use Rattle.lk_address_book.specs.Addresses.{IsSameNetwork};
 ghost use Rattle.lk_transport.specs.Listening.{HearsReported, ProbesMember, ProbesMembers, ProbesRound};
-ghost use Rattle.lk_transport.specs.Listening.{SendsSealedProbe, member_probe};
-ghost use Rattle.lk_transport.specs.Posts.{is_dropped, send_state_of};
+ghost use Rattle.lk_transport.specs.Listening.{SendsSealedProbe, asks_state, is_expected_by, member_probe, reply_of};
+ghost use Rattle.lk_transport.specs.Listening.{state_told};
+ghost use Rattle.lk_transport.specs.Posts.{send_state_of};
 
-use crate::addresses::Addresses;
 use crate::post::{SocketPost, framed, route};
-use crate::received_probe::{ReceivedProbe, is_request};
 use crate::socket::DatagramSocket;
 use lk_hearing::hearing::{Reply, SentProbe};
 use lk_hearing::token_source::TokenSource;
@@ -20,143 +16,30 @@ use lk_node_interface::{SendFault, To};
 use lk_probe::neighbours::Origin;
 use lk_probe::reported::Reported;
 use lk_probe::{Probe, Reach, StateDigest};
-use lk_types::{Member, NodeNo, Port};
+use lk_types::{Member, NodeNo};
 use std::net::SocketAddr;
 
-impl Addresses {
-    // Whether this node was found to hear too few members.
-    fn is_deaf(&self) -> bool
-        ensures { result ≡ self.now.deaf }
-    {
-        self.is_deaf
-    }
+// In so many periods one round of probes asks for a digest. A round is due in each second period.
+const STATE_ROUND: u64 = 50;
 
-    // Sets whether clients' requests are dropped.
-    fn set_deaf(&mut self, is_deaf: bool)
-        ensures { self.new ≡ record self.old { deaf = is_deaf } }
-    {
-        self.is_deaf = is_deaf;
-    }
-
-    // Returns how many of these members are heard in period `now`; `own`, this node, always is.
-    fn count_heard(&self, own: NodeNo, members: &[Member], now: u64) -> usize
-        ensures value { result ≡ count_heard own now self.now.hearing.asked members.now }
-        ensures most { result ≤ length members.now }
-    {
-        self.hearing.count_heard(own, members, now)
-    }
-
-    // Whether `own`, this node, hears more than half of these members in period `now`.
-    fn hears_majority(&self, own: NodeNo, members: &[Member], now: u64) -> bool
-        ensures { result ≡ hears_majority own now self.now.hearing.asked members.now }
-    {
-        self.hearing.hears_majority(own, members, now)
-    }
-
-    // Records a reply that came in period `now`.
-    fn note_reply(&mut self, reply: &Reply, now: u64)
-        ensures { self.new
-            ≡ record self.old {
-              hearing = record self.old.hearing { asked = having_heard reply.now now self.old.hearing.asked };
-            } }
-    {
-        self.hearing.note_reply(reply, now);
-    }
-
-    // Records a probe that is sent.
-    fn note_sent(&mut self, probe: SentProbe)
-        ensures { self.new
-            ≡ record self.old {
-              hearing = record self.old.hearing { asked = having_sent probe self.old.hearing.asked };
-            } }
-    {
-        self.hearing.note_sent(probe);
-    }
-
-    // Whether probes are due in period `now`; if so, the next are due two periods later.
-    fn begin_round(&mut self, now: u64) -> bool
-        ensures due { result ≡ is_round_due now self.old.hearing }
-        ensures next { self.new ≡ record self.old { hearing = having_begun now self.old.hearing } }
-    {
-        self.hearing.begin_round(now)
-    }
-}
-
-// Returns the port of a node, if it is one of these members.
-pub(crate) fn port_among(members: &[Member], node: NodeNo) -> Option<Port>
-    ensures { result ≡ port_among members.now node }
+// Whether the probes of period `now` ask for a digest.
+fn asks_state(now: u64) -> bool
+    ensures { result ≡ asks_state now }
 {
-    for member in members {
-        if member.node == node {
-            return Some(member.port);
-        }
-    }
-    None
+    now % STATE_ROUND >= STATE_ROUND - 2
 }
 
-impl Addresses {
-    // Returns where the report to a probe from `from` goes that names this node, if it names one: to a member where its
-    // letters go, if that is known; else to where the probe came from.
-    fn reply_address(
-        &self,
-        members: &[Member],
-        asker: Option<NodeNo>,
-        from: SocketAddr,
-    ) -> SocketAddr
-        ensures { IsReplyOf self.now members.now asker from result }
-    {
-        let Some(node) = asker else {
-            return from;
-        };
-        match port_among(members, node) {
-            Some(port) => route(self, &To::Node(node, port.get())).unwrap_or(from),
-            None => from,
-        }
+// Returns the reply that a report is.
+fn reply_of(reported: &Reported) -> Reply
+    ensures { result ≡ reply_of reported.now }
+{
+    Reply {
+        node: reported.reporter.node,
+        token: reported.token,
     }
 }
 
 impl<S: DatagramSocket + Drop> SocketPost<S> {
-    /// Returns where the report that replies to a probe goes: to one of these members where its letters go, if that is
-    /// known, so that a node whose datagrams come from elsewhere hears what others hear; else to where the probe came
-    /// from.
-    pub fn reply_address(&self, members: &[Member], asked: &ReceivedProbe) -> SocketAddr
-        ensures { IsReplyAddress self.now.addresses members.now asked.now result }
-    {
-        self.addresses
-            .reply_address(members, asked.probe.node(), asked.from)
-    }
-
-    /// Whether this node was found to hear too few members, so that clients' requests are dropped.
-    pub fn is_deaf(&self) -> bool
-        ensures { result ≡ self.now.addresses.deaf }
-    {
-        self.addresses.is_deaf()
-    }
-
-    /// Sets whether clients' requests are dropped.
-    pub fn set_deaf(&mut self, is_deaf: bool)
-        ensures { self.new
-            ≡ record self.old { addresses = record self.old.addresses { deaf = is_deaf } } }
-    {
-        self.addresses.set_deaf(is_deaf);
-    }
-
-    /// Whether a datagram is an administrative request of a client that is no admin.
-    pub fn bars(&self, datagram: &[u8]) -> bool
-        ensures { result ≡ bars self.now.addresses.admins datagram.now }
-    {
-        self.addresses.admins.bars(datagram)
-    }
-
-    /// Whether a datagram is dropped, wherever it came from: it is a client's request, and this node hears too few
-    /// members, or it is administrative and the client is no admin; or it is a Want of a number that never joined, and
-    /// the nodes have no key.
-    pub fn drops(&self, datagram: &[u8]) -> bool
-        ensures { result ≡ is_dropped (filter_of self.now.addresses) datagram.now }
-    {
-        (self.is_deaf() && is_request(datagram)) || self.bars(datagram) || self.is_unowed(datagram)
-    }
-
     /// Returns how many of these members this node hears in period `now`; itself it always hears.
     pub fn count_heard(&self, members: &[Member], now: u64) -> usize
         ensures value { result ≡ count_heard self.now.node now self.now.addresses.hearing.asked members.now }
@@ -190,6 +73,26 @@ impl<S: DatagramSocket + Drop> SocketPost<S> {
         }
     }
 
+    // Whether a report replies to a probe that this node remembers, and its node has this genesis.
+    fn expects(&self, reported: &Reported) -> bool
+        ensures { result ≡ is_expected_by self.now.addresses reported.now }
+    {
+        let reply = reply_of(reported);
+        let seals = self.addresses.seals();
+        reported.reporter.genesis == seals.genesis && self.addresses.expects(&reply)
+    }
+
+    /// Returns the node that reports, and the digest of its state that it tells. `None` if the report replies to no
+    /// probe that this node remembers, or its node has another genesis.
+    pub fn state_told(&self, reported: &Reported) -> Option<(NodeNo, StateDigest)>
+        ensures { result ≡ state_told self.now.addresses reported.now }
+    {
+        if !self.expects(reported) {
+            return None;
+        }
+        Some((reported.reporter.node, reported.state))
+    }
+
     /// Records a report that came in period `now` as a reply to a probe, if its node has this genesis.
     pub fn note_reply(&mut self, reported: &Reported, now: u64)
         ensures hears { HearsReported now reported.now self.old.addresses self.new.addresses }
@@ -200,16 +103,12 @@ impl<S: DatagramSocket + Drop> SocketPost<S> {
         if reported.reporter.genesis != seals.genesis {
             return;
         }
-        let reply = Reply {
-            node: reported.reporter.node,
-            token: reported.token,
-        };
-        self.addresses.note_reply(&reply, now);
+        self.addresses.note_reply(&reply_of(reported), now);
     }
 
-    // Returns the probe of this node with that token.
-    fn member_probe(&self, token: u64) -> Probe
-        ensures { result ≡ member_probe self.now.addresses.seals self.now.node token }
+    // Returns the probe of this node with that token, in form 2 if it asks for a digest.
+    fn member_probe(&self, asks_state: bool, token: u64) -> Probe
+        ensures { result ≡ member_probe self.now.addresses.seals self.now.node asks_state token }
     {
         Probe {
             cluster: self.addresses.seals().cluster,
@@ -219,7 +118,7 @@ impl<S: DatagramSocket + Drop> SocketPost<S> {
             }),
             client: None,
             token,
-            asks_reach: false,
+            asks_reach: asks_state,
         }
     }
 
@@ -228,10 +127,11 @@ impl<S: DatagramSocket + Drop> SocketPost<S> {
         &mut self,
         to: &To,
         address: SocketAddr,
+        asks_state: bool,
         token: u64,
     ) -> Result<(), SendFault>
         ensures sends { SendsSealedProbe S.is_observable self.old.addresses.seals to.now
-            (member_probe self.old.addresses.seals self.old.node token) address
+            (member_probe self.old.addresses.seals self.old.node asks_state token) address
             (send_state_of self.old) (send_state_of self.new) }
         ensures still { S.is_observable → self.new.incoming ≡ self.old.incoming }
         ensures others { self.new
@@ -241,7 +141,7 @@ impl<S: DatagramSocket + Drop> SocketPost<S> {
               incoming = self.new.incoming;
             } }
     {
-        let probe = self.member_probe(token).datagram();
+        let probe = self.member_probe(asks_state, token).datagram();
         let datagram = probe.as_slice();
         let Ok(framed) = framed(self.addresses.seals(), to, datagram, &mut self.frame) else {
             return Err(SendFault);
@@ -250,8 +150,9 @@ impl<S: DatagramSocket + Drop> SocketPost<S> {
     }
 
     // Probes a member with that token, if its address is known and it is another node. Returns whether no send failed.
-    fn probe_member(&mut self, member: Member, token: u64) -> bool
-        ensures probes { ProbesMember S.is_observable self.old.node member token self.old.addresses self.new.addresses
+    fn probe_member(&mut self, member: Member, asks_state: bool, token: u64) -> bool
+        ensures probes { ProbesMember S.is_observable self.old.node asks_state member token
+            self.old.addresses self.new.addresses
             (send_state_of self.old) (send_state_of self.new) }
         ensures network { IsSameNetwork self.old.addresses self.new.addresses }
         ensures still { S.is_observable → self.new.incoming ≡ self.old.incoming }
@@ -274,12 +175,19 @@ impl<S: DatagramSocket + Drop> SocketPost<S> {
             node: member.node,
             token,
         });
-        self.send_member_probe(&to, address, token).is_ok()
+        self.send_member_probe(&to, address, asks_state, token)
+            .is_ok()
     }
 
     // Probes each of these members but the node itself, each with a token of its own. Returns how many sends failed.
-    fn probe_members(&mut self, members: &[Member], tokens: &mut TokenSource) -> u64
-        ensures probes { ProbesMembers S.is_observable self.old.node members.now self.old.addresses self.new.addresses
+    fn probe_members(
+        &mut self,
+        members: &[Member],
+        asks_state: bool,
+        tokens: &mut TokenSource,
+    ) -> u64
+        ensures probes { ProbesMembers S.is_observable self.old.node asks_state members.now
+            self.old.addresses self.new.addresses
             (send_state_of self.old) (send_state_of self.new) }
         ensures network { IsSameNetwork self.old.addresses self.new.addresses }
         ensures still { S.is_observable → self.new.incoming ≡ self.old.incoming }
@@ -293,14 +201,15 @@ impl<S: DatagramSocket + Drop> SocketPost<S> {
     {
         let mut lost = 0u64;
         'members: for member in members {
-            if !self.probe_member(*member, tokens.draw()) {
+            if !self.probe_member(*member, asks_state, tokens.draw()) {
                 lost = lost.saturating_add(1);
             }
         }
         lost
     }
 
-    /// Probes the other members, if that is due in period `now`. Returns how many sends failed.
+    /// Probes the other members, if that is due in period `now`, in one of fifty periods for a digest of their states
+    /// too. Returns how many sends failed.
     pub fn probe_round(&mut self, members: &[Member], now: u64, tokens: &mut TokenSource) -> u64
         ensures probes { ProbesRound S.is_observable self.old.node now members.now self.old.addresses self.new.addresses
             (send_state_of self.old) (send_state_of self.new) }
@@ -317,6 +226,6 @@ impl<S: DatagramSocket + Drop> SocketPost<S> {
         if !self.addresses.begin_round(now) {
             return 0;
         }
-        self.probe_members(members, tokens)
+        self.probe_members(members, asks_state(now), tokens)
     }
 }

@@ -4,23 +4,22 @@ ghost use Rattle.std.specs.Prelude.{◌≡◌, ◌≢◌, ◌↔◌, ◌++◌, �
 ghost use Rattle.std.specs.Prelude.{IsErr, IfSome, IsNone};
 ghost use Rattle.lk_types.specs.Ranges.{IsClient};
 ghost use Rattle.lk_disk.specs.Disk.{HasCause, one_more};
-ghost use Rattle.lk_transport.specs.Addresses.{client_at, node_at, IsSameFilter};
+ghost use Rattle.lk_address_book.specs.Addresses.{client_at, node_at, IsSameFilter};
 ghost use Rattle.lk_transport.specs.Streams.{Receives};
 ghost use Rattle.lk_auth.specs.Seals.{heard};
 ghost use Rattle.lk_hearing.specs.Probes.{nothing_sent};
-ghost use Rattle.lk_transport.specs.Posts.{IsRoute, IsBoundFor, Becomes, RecordsSender};
+ghost use Rattle.lk_address_book.specs.Senders.{RecordsSender};
+ghost use Rattle.lk_transport.specs.Posts.{IsRoute, IsBoundFor, Becomes};
 ghost use Rattle.lk_transport.specs.Posts.{send_state_of, frame_of, keys_for};
-ghost use Rattle.lk_transport.specs.Askers.{BringsProbe, Replies, asker, frame_for, keys_to};
 ghost use Rattle.lk_transport.specs.Watches.{BringsWatch};
 
-use crate::addresses::Addresses;
-use crate::arrival::Arrival;
-use crate::hosts::Hosts;
-use crate::network::Network;
 use crate::receive_buffer::ReceiveBuffer;
-use crate::received_probe::ReceivedProbe;
 use crate::received_watch::ReceivedWatch;
 use crate::socket::DatagramSocket;
+use lk_address_book::addresses::Addresses;
+use lk_address_book::arrival::Arrival;
+use lk_address_book::hosts::Hosts;
+use lk_address_book::network::Network;
 use lk_auth::{DIGEST, Seals};
 use lk_node_interface::{Letter, Post, SendFault, To};
 use lk_types::{NoMemory, NodeNo};
@@ -124,22 +123,6 @@ pub(crate) fn framed<'a>(
     match to {
         To::Node(node, _) => seals.seal_to_node(node.get(), bytes, frame),
         To::Client(client) => seals.seal_to_client(client.get(), bytes, frame),
-    }
-}
-
-// Returns the bytes to send for a report: framed for the asker, or the report itself if its probe named none.
-fn framed_for<'a>(
-    seals: &Seals,
-    asker: &Option<To>,
-    report: &'a [u8],
-    frame: &'a mut Vec<u8>,
-) -> Result<&'a [u8], AllocError>
-    ensures ok { IfOk result (λ f. f.now ≡ frame_for seals.now asker.now report.now) }
-    ensures refused { IsErr result → keys_to seals.now asker.now ≢ [] }
-{
-    match asker {
-        Some(to) => framed(seals, to, report, frame),
-        None => Ok(report),
     }
 }
 
@@ -248,20 +231,6 @@ impl<S: DatagramSocket + Drop> SocketPost<S> {
         ensures { result.now ≡ heard self.now.addresses.seals frame.now }
     {
         self.addresses.seals().unseal(frame)
-    }
-
-    /// Parses the probe in a datagram, which was opened from a frame that arrived from an address; `None` if it is not
-    /// to be answered (see `ReceivedProbe::by`).
-    pub fn read_probe(
-        &self,
-        from: SocketAddr,
-        frame: &[u8],
-        datagram: &[u8],
-    ) -> Option<ReceivedProbe>
-        requires { datagram.now ≡ heard self.now.addresses.seals frame.now }
-        ensures { BringsProbe self.now.addresses.seals (from, frame.now) result }
-    {
-        ReceivedProbe::by(self.addresses.seals(), from, frame, datagram)
     }
 
     /// Parses the watch in a datagram, which was opened from a frame that arrived from an address; `None` if it is not
@@ -419,35 +388,6 @@ impl<S: DatagramSocket + Drop> SocketPost<S> {
                 Err(SendFault)
             }
         }
-    }
-
-    /// Sends a report to an address, framed for the asker if its probe names one. A failure is not counted in the
-    /// group.
-    pub fn reply(
-        &mut self,
-        asked: &ReceivedProbe,
-        address: SocketAddr,
-        report: &[u8],
-    ) -> Result<(), SendFault>
-        ensures replies { Replies S.is_observable self.old.addresses.seals asked.now address report.now
-            (send_state_of self.old) (send_state_of self.new) }
-        ensures still { S.is_observable → self.new.incoming ≡ self.old.incoming }
-        ensures others { self.new
-            ≡ record self.old {
-              sent = self.new.sent;
-              socket_failures = self.new.socket_failures;
-              incoming = self.new.incoming;
-            } }
-    {
-        let Ok(framed) = framed_for(
-            self.addresses.seals(),
-            &asked.asker(),
-            report,
-            &mut self.frame,
-        ) else {
-            return Err(SendFault);
-        };
-        self.socket.send_to(address, framed)
     }
 }
 

@@ -2,8 +2,6 @@
 
 ghost use Rattle.std.specs.Prelude.{◌≡◌, ◌≢◌, ◌↔◌, [], length, IsTrue, IsSome};
 ghost use Rattle.lk_auth.specs.Seals.{key_list, heard};
-ghost use Rattle.lk_transport.specs.Admins.{is_request};
-ghost use Rattle.lk_transport.specs.Posts.{is_beside_protocol};
 ghost use Rattle.lk_transport.specs.Askers.{asker, BringsProbe, IsSealedAsNamed};
 ghost use Rattle.lk_transport.specs.Inquiring.{is_of};
 
@@ -17,21 +15,6 @@ use std::net::SocketAddr;
 pub struct ReceivedProbe {
     pub from: SocketAddr,
     pub probe: Probe,
-}
-
-/// Returns whether a datagram begins with the letters LP, as probes and reports do, or LW, as watches and notices do:
-/// no replica gets it.
-pub fn is_beside_protocol(datagram: &[u8]) -> bool
-    ensures { result ≡ is_beside_protocol datagram.now }
-{
-    matches!(datagram, [b'L', b'P' | b'W', ..])
-}
-
-/// Returns whether a datagram begins as a client's request does: with the letters LK, and of its kind.
-pub fn is_request(datagram: &[u8]) -> bool
-    ensures { result ≡ is_request datagram.now }
-{
-    matches!(datagram, [b'L', b'K', _, 9, ..])
 }
 
 // Returns whether a probe may name the node that it names: if the nodes have a key, such a probe must have been sealed.

@@ -1,11 +1,12 @@
 //! Frames from nodes that a node cannot open, and what their bytes tell of the node that sent them.
 
-ghost use Rattle.std.specs.Prelude.{◌≡◌, get_or};
+ghost use Rattle.std.specs.Prelude.{◌≡◌};
 ghost use Rattle.lk_transport.specs.Unopened.{cluster_in, is_node_frame, is_nothing, names_cluster, other_cluster};
 ghost use Rattle.lk_transport.specs.Unopened.{unopened};
 
 use crate::post::SocketPost;
 use crate::socket::DatagramSocket;
+use lk_address_book::kinds::byte_at;
 use std::net::SocketAddr;
 
 /// A frame from a node to a node that this node cannot open.
@@ -20,13 +21,6 @@ pub struct UnopenedFrame {
 const DATAGRAM: usize = 36;
 
 const CLUSTER: usize = DATAGRAM + 4;
-
-// Returns the byte at an offset. A byte that is not there counts as 0.
-fn byte_at(frame: &[u8], offset: usize) -> u8
-    ensures { result ≡ get_or frame.now offset 0 }
-{
-    frame.get(offset).copied().unwrap_or(0)
-}
 
 // Returns whether these bytes begin as a frame from a node to a node does.
 fn is_node_frame(frame: &[u8]) -> bool

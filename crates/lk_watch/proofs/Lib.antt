@@ -1,4 +1,5 @@
 mod PartLaws
 pub mod DatagramLaws
 mod QueueLaws
+mod SeenLaws
 mod OtherLaws

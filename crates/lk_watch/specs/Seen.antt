@@ -1,13 +1,15 @@
 -- What a queue is shown of a lock table: all of it, or only some names.
-use Rattle.std.specs.Prelude.{ℕ, Bool, false, nat_eq, List, map, slice_get, Option, Some, None}
+use Rattle.std.specs.Prelude.{ℕ, Bool, false, nat_eq, nat_lt, List, map, slice_get, Option, Some, None}
 use Rattle.std.specs.Cmp.Lexicographic.{pointwise}
 use Rattle.std.specs.FinMap as names
-use Rattle.std.specs.List.{position_or_len}
+use Rattle.std.specs.List.{list_any, position_or_len}
 use Rattle.lk_locks.specs.Plain.{Table}
+use Rattle.lk_watch.specs.Standings.{places}
 use Rattle.lk_watch.specs.Tables.{standing_of, standing_in, is_holder_of, holds_in}
 use Rattle.lk_watch.specs.declared.seen.SeenName.{SeenName}
 use Rattle.lk_watch.specs.declared.standing.Standing.{Standing}
 use Rattle.lk_watch.specs.declared.standing.Standing.TheVariants as standing
+use Rattle.lk_watch.specs.declared.ticket.Mode.TheVariants.{Share}
 
 -- what a table says of a name, as it is shown
 abbrev pub seen_of : Table → List ℕ → SeenName
@@ -39,6 +41,14 @@ holds_shown client (Some s) = is_holder_of client s.slot
 
 abbrev pub holds_seen : List SeenName → ℕ → List ℕ → Bool
 holds_seen seen client name = holds_shown client (seen_at seen name)
+
+-- whether a client holds one of the names that are shown
+abbrev pub holds_some : ℕ → List SeenName → Bool
+holds_some client seen = list_any (λ s. is_holder_of client s.slot) seen
+
+-- whether one of them has a place: where an exclusive client has one, a sharer has too
+abbrev pub some_open : List SeenName → Bool
+some_open seen = list_any (λ s. nat_lt 0 (places Share (standing_of s.slot))) seen
 
 -- what a queue is told of the names: by all of the table, or by what it is shown
 abbrev pub standing_by : Table → Option (List SeenName) → List ℕ → Standing

@@ -1,5 +1,5 @@
 -- What a lock table says of a name, and what that means for a client that waits for it.
-use Rattle.std.specs.Prelude.{ℕ, ◌-◌, Bool, nat_le, nat_lt, ◌&&◌, if◌then◌else◌}
+use Rattle.std.specs.Prelude.{◌≡◌, ℕ, ◌-◌, Bool, nat_le, nat_lt, ◌&&◌, if◌then◌else◌, List}
 use Rattle.lk_types.specs.Limits.{max_sharers}
 use Rattle.lk_watch.specs.declared.standing.Standing.{Standing}
 use Rattle.lk_watch.specs.declared.standing.Standing.TheVariants as standing
@@ -22,6 +22,10 @@ places Exclusive (standing.Together fence count) = 0
 places Share (standing.Free fence) = max_sharers
 places Share (standing.Alone fence) = 0
 places Share (standing.Together fence count) = max_sharers - count
+
+-- by what is said of each name, none is free for anybody
+abbrev pub HasNoPlace : (List ℕ → Standing) → Type 0
+HasNoPlace table = (name : List ℕ) (mode : Mode) → places mode (table name) ≡ 0
 
 -- the fence at which the name was free last: the first grant after that took the next one
 abbrev pub opening : Standing → ℕ

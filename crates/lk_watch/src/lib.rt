@@ -8,6 +8,7 @@ pub mod laws;
 mod notice;
 pub mod queue;
 mod reading;
+mod same_name;
 mod seen;
 mod standing;
 mod table;

@@ -9,6 +9,7 @@ ghost use Rattle.lk_watch.specs.Queues.{IsQueue, max_letters, position, has_room
 ghost use Rattle.lk_watch.specs.Queues.{without, renewed_in, entered_for, heard, answer_to, place_of, begun, lived};
 ghost use Rattle.lk_watch.specs.Queues.{others, is_due_at, NoneDueBefore, TellsFirst};
 
+use crate::same_name::is_same;
 use crate::standing::{NameTable, Standing};
 use crate::ticket::Ticket;
 use crate::waiter::{Letter, MAX_SENT, Stage, Waiter};
@@ -50,7 +51,7 @@ fn count_of_name(name: &Name, waiters: &[Waiter]) -> usize
 {
     let mut count = 0;
     for waiter in waiters {
-        if waiter.ticket.name.as_slice() == name.as_slice() {
+        if is_same(&waiter.ticket.name, name) {
             count += 1;
         }
     }
@@ -69,18 +70,6 @@ fn count_waiting(name: &Name, waiters: &[Waiter]) -> usize
         }
     }
     count
-}
-
-// Returns how many places for a name the waiters take before those who came later.
-fn load_of(standing: Standing, name: &Name, waiters: &[Waiter]) -> usize
-    requires { length waiters.now ≤ MAX_WAITERS }
-    ensures { result ≡ sum_by (load standing name.now) waiters.now }
-{
-    let mut total = 0;
-    for waiter in waiters {
-        total += waiter.load(standing, name);
-    }
-    total
 }
 
 // Whether the waiters take fewer places for a name than that before those who came later.
@@ -165,8 +154,8 @@ fn is_kept(watch: &Watch, standing: Standing, waiters: &[Waiter]) -> bool
     requires { length waiters.now ≤ MAX_WAITERS }
     ensures { result ≡ is_kept watch.now standing waiters.now }
 {
-    let taken = load_of(standing, &watch.ticket.name, waiters);
-    watch.periods > 0 && standing.places(watch.ticket.mode) <= taken
+    let places = standing.places(watch.ticket.mode);
+    watch.periods > 0 && !leave_place(standing, &watch.ticket.name, waiters, places)
 }
 
 // Removes the waiter at an index, if there is one.
@@ -199,6 +188,9 @@ fn first_due<T: NameTable>(table: &T, waiters: &[Waiter]) -> Option<usize>
         × NoneDueBefore (T.standing table.now) waiters.now i) }
     ensures none { IsNone result → NoneDueBefore (T.standing table.now) waiters.now (length waiters.now) }
 {
+    if !table.has_place() {
+        return None;
+    }
     for index in 0..waiters.len() {
         let waiter = &waiters[index];
         let standing = table.standing(&waiter.ticket.name);
@@ -373,7 +365,7 @@ impl WatchQueue {
 
     /// Returns the letter to the first to arrive of those who are to be told that their name is free, by what the table
     /// says, and counts it. `None`, and nothing changes, if nobody is, or 64 letters were handed out in this turn.
-    /// Looks at each entry, and for a name that is free at those before it too.
+    /// If some name has a place, it looks at each entry, and for a name that is free at those before it too.
     pub fn next_letter<T: NameTable>(&mut self, table: &T) -> Option<Letter>
         ensures first { IfSome result (λ letter. TellsFirst (T.standing table.now) self.old letter self.new) }
         ensures free { IfSome result (λ letter. serves (T.standing table.now letter.ticket.name) letter.ticket ≡ true) }

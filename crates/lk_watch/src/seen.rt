@@ -2,10 +2,12 @@
 
 ghost use Rattle.std.specs.Prelude.{◌≡◌, ◌≤◌, ◌++◌, ◌∷◌, [], length, IfOk, OnOk};
 ghost use Rattle.std.specs.List.{position_or_len};
-ghost use Rattle.lk_watch.specs.Seen.{is_seen, seen_of, seen_in, standing_seen, holds_seen};
+ghost use Rattle.lk_watch.specs.Seen.{is_seen, seen_of, seen_in, standing_seen, holds_seen, holds_some, some_open};
 
+use crate::same_name::is_same;
 use crate::standing::{NameTable, Standing};
 use crate::table::{is_holder_of, standing_of};
+use crate::ticket::Mode;
 use lk_locks::{LockTable, Name, Slot};
 use lk_types::{ClientNo, NoMemory};
 use std::alloc::Global;
@@ -40,7 +42,7 @@ fn position_of(name: &Name, names: &[SeenName]) -> usize
 {
     let mut at = 0;
     for seen in names {
-        if seen.name.as_slice() == name.as_slice() {
+        if is_same(&seen.name, name) {
             return at;
         }
         at += 1;
@@ -56,6 +58,22 @@ fn standing_among(names: &[SeenName], name: &Name) -> Standing
         Some(seen) => standing_of(&seen.slot),
         None => Standing::Alone(0),
     }
+}
+
+// Whether a client holds one of these names.
+fn holds_some(names: &[SeenName], client: ClientNo) -> bool
+    ensures { result ≡ holds_some client names.now }
+{
+    names.iter().any(|seen| is_holder_of(client, &seen.slot))
+}
+
+// Whether one of these names has a place.
+fn some_open(names: &[SeenName]) -> bool
+    ensures { result ≡ some_open names.now }
+{
+    names
+        .iter()
+        .any(|seen| standing_of(&seen.slot).places(Mode::Share) > 0)
 }
 
 // Whether a client holds a name, by what these say: not if it is none of them.
@@ -106,6 +124,13 @@ impl NameTable for SeenNames {
     }
 
     fn holds(&self, client: ClientNo, name: &Name) -> bool {
+        if !holds_some(&self.names, client) {
+            return false;
+        }
         is_holder_among(&self.names, client, name)
+    }
+
+    fn has_place(&self) -> bool {
+        some_open(&self.names)
     }
 }

@@ -1,5 +1,5 @@
 // What a lock table says of a name, and what that means for a client that waits for it.
-ghost use Rattle.std.specs.Prelude.{◌≡◌};
+ghost use Rattle.std.specs.Prelude.{◌≡◌, false};
 ghost use Rattle.lk_watch.specs.Standings.{fence_in, places, opening, serves, news};
 
 use crate::notice::News;
@@ -22,6 +22,7 @@ pub enum Standing {
 /// A lock table, as a queue of watches asks it.
 pub trait NameTable {
     ghost use Rattle.std.specs.Prelude.{ℕ, Bool, List};
+    ghost use Rattle.lk_watch.specs.Standings.{HasNoPlace};
     ghost use Rattle.lk_watch.specs.declared.standing.Standing.{Standing};
 
     ghost standing: { Self → List ℕ → Standing };
@@ -35,6 +36,10 @@ pub trait NameTable {
     /// Whether a client holds a name, alone or together with others.
     fn holds(&self, client: ClientNo, name: &Name) -> bool
         ensures { result ≡ holds self.now client name.now };
+
+    /// Whether some name may have a place for somebody.
+    fn has_place(&self) -> bool
+        ensures { result ≡ false → HasNoPlace (standing self.now) };
 }
 
 impl Standing {

@@ -62,4 +62,8 @@ impl NameTable for LockTable {
     fn holds(&self, client: ClientNo, name: &Name) -> bool {
         is_holder_of(client, &self.slot(name))
     }
+
+    fn has_place(&self) -> bool {
+        true
+    }
 }

@@ -4,6 +4,7 @@ ghost use Rattle.lk_watch.specs.Waiters.{is_of, waits_for, stage_at, is_passed, 
 ghost use Rattle.lk_watch.specs.Waiters.{aged_stage, next_stage, settled, told, weight};
 
 use crate::notice::{News, Notice};
+use crate::same_name::is_same;
 use crate::standing::Standing;
 use crate::ticket::{Mode, Ticket};
 use crate::watch::Watch;
@@ -132,14 +133,14 @@ impl Waiter {
     pub(crate) fn is_of(&self, client: ClientNo, name: &Name) -> bool
         ensures { result ≡ is_of client name.now self.now }
     {
-        self.ticket.client == client && self.ticket.name.as_slice() == name.as_slice()
+        self.ticket.client == client && is_same(&self.ticket.name, name)
     }
 
     /// Whether it waits for that name.
     pub(crate) fn waits_for(&self, name: &Name) -> bool
         ensures { result ≡ waits_for name.now self.now }
     {
-        self.waits && self.ticket.name.as_slice() == name.as_slice()
+        self.waits && is_same(&self.ticket.name, name)
     }
 
     /// Whether it ignores a watch of its client for its name: the watch is not newer than its last one, or comes from

@@ -1,6 +1,6 @@
 use Rattle.std.proofs.Common.{refl}
-use Rattle.lk_transport.specs.Addresses.{filter_of}
-use Rattle.lk_transport.specs.Posts.{all_filtered}
+use Rattle.lk_address_book.specs.Addresses.{filter_of}
+use Rattle.lk_address_book.specs.Filters.{all_filtered}
 use Rattle.lk_cluster_theorems.specs.Sealing.{IsSealed}
 use Rattle.lk_cluster_theorems.proofs.Continuing.{turn_continues}
 use Rattle.lk_cluster_theorems.proofs.Sealing.{seals_forge_nothing}

@@ -1,4 +1,4 @@
-use Rattle.lk_transport.specs.Addresses.{filter_of}
+use Rattle.lk_address_book.specs.Addresses.{filter_of}
 use Rattle.lk_transport.specs.Kept.{KeepsOf}
 use Rattle.lk_cluster_theorems.specs.Clusters.{Says}
 use Rattle.lk_cluster_theorems.proofs.Saying.{on_ok_so, on_err_so}

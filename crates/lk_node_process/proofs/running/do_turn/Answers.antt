@@ -1,6 +1,6 @@
 use Rattle.std.proofs.Common.{◌∙◌, ap, inl, inr}
 use Rattle.std.proofs.lemmas.Result.{on_ok_weaker}
-use Rattle.lk_transport.specs.Hosts.{hosts_after}
+use Rattle.lk_address_book.specs.Hosts.{hosts_after}
 use Rattle.lk_node_setup.specs.HostWatches.{host_path}
 use Rattle.lk_node_process.specs.Turns.{HasFollowedNoStranger, HasFollowedStranger}
 use Rattle.lk_node_process.proofs.Turning.{hosts_found, on_err_weaker, turn_ended, turn_taken}

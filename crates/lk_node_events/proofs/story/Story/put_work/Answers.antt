@@ -11,4 +11,5 @@ returns c = news c.wrote.result c.wrote.ensures c.put_some.ensures
     (news c.names.result c.names.ensures c.put_some-7.ensures
     (news c.barred.result c.barred.ensures c.put_some-8.ensures
     (news c.unopened.result c.unopened.ensures c.put_some-9.ensures
-    (news c.hosts.result c.hosts.ensures c.put_some-10.ensures nothing)))))))))
+    (news c.hosts.result c.hosts.ensures c.put_some-10.ensures
+    (news c.apart.result c.apart.ensures c.put_some-11.ensures nothing))))))))))

@@ -1,6 +1,6 @@
 use Rattle.std.proofs.Common.{◌≡◌, ◌∙◌, ◌+◌, ◌*◌, true, false, [], ◌∷◌, length, refl, ap, sym, arith}
 use Rattle.lk_transport.proofs.Streaming.{receives_one, come_none}
-use Rattle.lk_transport.specs.Addresses.{Filter}
+use Rattle.lk_address_book.specs.Addresses.{Filter}
 use Rattle.lk_server.specs.Servers.{ServerValue}
 use Rattle.lk_server.proofs.Asking.{keeps_more}
 use Rattle.lk_server.proofs.Carrying.{on_err}

@@ -1,5 +1,5 @@
 use Rattle.std.proofs.Common.{◌≡◌, ◌+◌, ◌*◌, [], ◌∷◌, ◌++◌, length, refl, ap, ◌∙◌, length-append, arith}
-use Rattle.lk_transport.specs.Addresses.{Filter}
+use Rattle.lk_address_book.specs.Addresses.{Filter}
 use Rattle.lk_server.specs.Servers.{ServerValue}
 use Rattle.lk_server.proofs.Asking.{keeps_more, keeps_still, keeps_on}
 use Rattle.lk_server.proofs.Carrying.{on_err}

@@ -1,5 +1,5 @@
 use Rattle.std.proofs.Common.{rules, ap, ◌∙◌}
-use Rattle.lk_transport.specs.Addresses.{filter_of}
+use Rattle.lk_address_book.specs.Addresses.{filter_of}
 use Rattle.lk_server.specs.Servers.{ServerValue}
 use Rattle.lk_server.proofs.FilteredOut.{not_beside}
 use Rattle.lk_server.proofs.Asking.{keeps_given, keeps_beside}

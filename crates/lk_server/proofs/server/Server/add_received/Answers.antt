@@ -1,8 +1,8 @@
 use Rattle.std.proofs.Common.{rules, ◌≡◌, false}
 use Rattle.lk_probe.specs.Neighbours.{is_stranger}
 use Rattle.lk_auth.specs.Seals.{heard}
-use Rattle.lk_transport.specs.Addresses.{filter_of}
-use Rattle.lk_transport.specs.Posts.{is_filtered_out, is_beside_protocol, is_dropped}
+use Rattle.lk_address_book.specs.Addresses.{filter_of}
+use Rattle.lk_address_book.specs.Filters.{is_filtered_out, is_beside_protocol, is_dropped}
 use Rattle.lk_server.proofs.FilteredOut.{is_not_out}
 use Rattle.lk_server.proofs.Asking.{keeps_strange}
 use Rattle.lk_server.proofs.Carrying.{on_err}

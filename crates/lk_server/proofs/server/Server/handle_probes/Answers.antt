@@ -1,7 +1,7 @@
 use Rattle.std.proofs.Common.{◌≡◌, ◌∙◌, Option, ap, subst}
 use Rattle.lk_probe.specs.declared.reported.Reported.{Reported}
 use Rattle.lk_transport.specs.ReceiveBuffers.{BufferValue}
-use Rattle.lk_transport.specs.Inquiring.{LearnsKept}
+use Rattle.lk_address_book.specs.Inquiries.{LearnsKept}
 use Rattle.lk_transport.specs.declared.received_probe.ReceivedProbe.{ReceivedProbe}
 use Rattle.lk_server.proofs.Acting.{acted}
 use Rattle.lk_server.specs.ProbeHandling.{ListensIf, Welcomes}

@@ -18,22 +18,22 @@ returns-then-has_nothing_new-clause-acts g c =
     let t = c.pop_watch-watched.ensures in
     subst (λ (w : Option ReceivedWatch). HandlesWatches g.R.ServerReplica.table g.R.ServerReplica.Shows
     g.S.DatagramSocket.is_observable w c.args.self.now c.args.self.now) t.value
-    (inl (record { none = q.0; nothing = inr q.1; same = refl }))
+    (inl (record { none = q.0; nothing = inr (c.moment-moment.result, c.moment-moment.ensures, q.1); same = refl }))
 
-pub returns-then-speaks-clause-acts : goal.returns-then-speaks-clause-acts
-returns-then-speaks-clause-acts g c =
+pub returns-then-moment-clause-acts : goal.returns-then-moment-clause-acts
+returns-then-moment-clause-acts g c =
     let table = g.R.ServerReplica.table in
     let shows = g.R.ServerReplica.Shows in
     let observable = g.S.DatagramSocket.is_observable in
     let t = c.pop_watch-watched.ensures in
     let a = c.answer_watch.ensures in
     let w = c.tell_waiters.ensures in
-    let yes : c.speaks-speaks.result ≡ true = cc c.if-speaks.true in
+    let yes : c.moment-moment.result.speaks ≡ true = cc c.if-moment.true in
     subst (λ (o : Option ReceivedWatch). HandlesWatches table shows observable o c.args.self.now
     c.tell_waiters.new.self) t.value
-    (inr (served table shows observable _ c.look-seen.result c.speaks-speaks.result c.args.self.now
+    (inr (served table shows observable _ c.look-seen.result c.moment-moment.result c.args.self.now
     c.begin_watches.new.self c.answer_watch.new.self c.tell_waiters.new.self c.begin_watches.ensures
-    c.look-seen.ensures c.speaks-speaks.ensures a.answers a.still a.others (rw yes w.tells) w.still w.others))
+    c.look-seen.ensures c.moment-moment.ensures a.answers a.still a.others (rw yes w.tells) w.still w.others))
 
 pub returns-clause-acts : goal.returns-clause-acts
 returns-clause-acts g c =
@@ -43,8 +43,8 @@ returns-clause-acts g c =
     let t = c.pop_watch-watched.ensures in
     let a = c.answer_watch.ensures in
     let new = c.answer_watch.new.self in
-    let silent : c.speaks-speaks.result ≡ false = cc c.if-speaks.false in
+    let silent : c.moment-moment.result.speaks ≡ false = cc c.if-moment.false in
     subst (λ (o : Option ReceivedWatch). HandlesWatches table shows observable o c.args.self.now new) t.value
-    (inr (served table shows observable _ c.look-seen.result c.speaks-speaks.result c.args.self.now
-    c.begin_watches.new.self new new c.begin_watches.ensures c.look-seen.ensures c.speaks-speaks.ensures a.answers
+    (inr (served table shows observable _ c.look-seen.result c.moment-moment.result c.args.self.now
+    c.begin_watches.new.self new new c.begin_watches.ensures c.look-seen.ensures c.moment-moment.ensures a.answers
     a.still a.others (rw silent (record { letters = []; tells = (refl, refl); sends = refl })) (λ t. refl) refl))

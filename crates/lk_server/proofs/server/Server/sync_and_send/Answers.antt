@@ -24,6 +24,8 @@ returns-clause-same g c =
       pace = search rules;
       queue = search rules;
       aged = search rules;
+      spoke = search rules;
+      served = search rules;
     }
 
 pub returns-clause-still : goal.returns-clause-still

@@ -39,7 +39,7 @@ returns-clause-tells g c =
     let i = c.letters.invariant in
     let all : c.letters.counter ≡ 64 = omega arith in
     let left = letters_left (standing_by (g.R.ServerReplica.table c.args.self.now.replica) c.args.seen.now) i.0
-    c.args.self.now.queue c.letters.self.queue i.3.0 in
+    c.args.self.now.waiting.queue c.letters.self.waiting.queue i.3.0 in
     told_all (λ r. standing_by (g.R.ServerReplica.table r) c.args.seen.now) g.S.DatagramSocket.is_observable i.0
     c.args.self.now c.letters.self
     c.letters.self i.3 (inl (omega (arith, left, i.1, i.2, all))) refl

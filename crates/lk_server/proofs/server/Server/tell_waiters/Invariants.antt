@@ -7,6 +7,6 @@ use Rattle.lk_server.proofs.server.Server.tell_waiters.Given as goal
 
 abbrev pub invariant-letters : goal.invariant-letters
 invariant-letters g l =
-    (letters : List Letter) × (length letters ≡ l.counter) × (l.fn.self.queue.left ≤ 64)
+    (letters : List Letter) × (length letters ≡ l.counter) × (l.fn.self.waiting.queue.left ≤ 64)
     × HasTold (λ r. standing_by (g.R.ServerReplica.table r) l.seen) g.S.DatagramSocket.is_observable letters l.fn.self
     l.self

@@ -24,11 +24,11 @@ members-preserved g c =
     drop-cons ms c.members.member-index m c.members-test.true
     ∙ ap (λ (x : Member). x ∷ drop (suc c.members.member-index) ms) (sym c.member-item.is)
     ∙ ap (λ (n : ℕ). m ∷ drop n ms) (same c.members.member-index) in
-    let probes = subst (λ (n : ℕ). ProbesMember observable n m c.draw.result old.addresses new.addresses
-    (send_state_of old) (send_state_of new)) (ap (λ (s : SocketPostValue). s.node) i.3) p.probes in (
+    let probes = subst (λ (n : ℕ). ProbesMember observable n c.args.asks_state m c.draw.result old.addresses
+    new.addresses (send_state_of old) (send_state_of new)) (ap (λ (s : SocketPostValue). s.node) i.3) p.probes in (
       λ book state rest. i.0 book state
-          (subst (λ (l : List Member). ProbesMembers observable c.args.self.now.node l old.addresses book
-          (send_state_of old) state) (sym next)
+          (subst (λ (l : List Member). ProbesMembers observable c.args.self.now.node c.args.asks_state l
+          old.addresses book (send_state_of old) state) (sym next)
           (c.draw.result, new.addresses, send_state_of new, probes, rest)),
       (p.network.0 ∙ i.1.0, p.network.1 ∙ i.1.1, p.network.2 ∙ i.1.2),
       λ t. p.still t ∙ i.2 t,
@@ -45,5 +45,6 @@ returns-clause-probes g c =
     let observable = g.S.DatagramSocket.is_observable in
     let none = drop_all c.members.member-index c.args.members.now c.members-test.false in
     c.members.invariant.0 c.members.self.addresses (send_state_of c.members.self)
-    (subst (λ (l : List Member). ProbesMembers observable c.args.self.now.node l c.members.self.addresses
-    c.members.self.addresses (send_state_of c.members.self) (send_state_of c.members.self)) (sym none) (refl, refl))
+    (subst (λ (l : List Member). ProbesMembers observable c.args.self.now.node c.args.asks_state l
+    c.members.self.addresses c.members.self.addresses (send_state_of c.members.self) (send_state_of c.members.self))
+    (sym none) (refl, refl))

@@ -1,0 +1,2 @@
+mod AdminLaws
+mod OutsiderLaws

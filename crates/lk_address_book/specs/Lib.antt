@@ -1,0 +1,9 @@
+pub mod Admins
+pub mod Outsiders
+pub mod Hosts
+pub mod Addresses
+pub mod Filters
+pub mod Senders
+pub mod Probers
+pub mod Inquiries
+pub mod Arrivals

@@ -1,6 +1,0 @@
--- One tactic for each goal that a wrong body breaks.
-use Rattle.std.proofs.Common.{rules}
-use Rattle.lk_transport.proofs.addresses.Addresses.client.Goals as goal
-
-pub returns : goal.returns
-returns c = search rules

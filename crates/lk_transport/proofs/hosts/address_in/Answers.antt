@@ -1,9 +1,0 @@
-use Rattle.std.proofs.Common.{arith}
-use Rattle.std.proofs.lemmas.Grind.{common_steps}
-use Rattle.lk_transport.proofs.hosts.address_in.Goals as goal
-
-pub returns-then-eq : goal.returns-then-eq
-returns-then-eq c = grind (arith, common_steps)
-
-pub loop-other-preserved : goal.loop-other-preserved
-loop-other-preserved c = grind (arith, common_steps)

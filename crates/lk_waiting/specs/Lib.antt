@@ -1,0 +1,3 @@
+pub mod ChangedNames
+pub mod FullQueues
+pub mod Waits
