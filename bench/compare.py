@@ -3,11 +3,16 @@
 
 The same loads run at each system in turn, round by round: pairs of an acquire and a release by 1 to 64 clients, on the
 disk as it is and with 2 ms more for each sync, and the death of a leader under load. At last a long run at each shows
-how memory and files grow. FOLDER/compare.csv gets all figures, and FOLDER/compare.svg is drawn from them.
+how memory and files grow. FOLDER/compare.csv gets all figures, FOLDER/compare.svg is drawn from them, and the medians
+of the loads are printed, with the least and the greatest of the rounds.
+
+With --journal the folders stand on ext4 with a journal, on a loop device whose file is in memory, as only root can make
+it: what the slowest pairs then wait for is not the disk.
 
 The load is made by bench/load, which cargo builds. The peers are Debian's packages etcd-server, zookeeper and
 redis-server. What is not installed is left out with a line, and so is the slow disk where strace is missing."""
 import argparse
+import contextlib
 import csv
 import dataclasses
 import datetime
@@ -23,6 +28,7 @@ import tempfile
 import time
 from collections.abc import Callable
 
+import journal
 import plots
 from cluster import built
 from scripting import a_program, is_proved, need, parser
@@ -172,18 +178,21 @@ def options_of(args, name):
     none."""
     for ticks in args.ticks if name == "locks" else ["datagrams"]:
         word, options = ("", ()) if ticks == "datagrams" else (f", {ticks}", ("--ticks", ticks))
-        yield word, options
+        if not args.only_bundles or name != "locks":
+            yield word, options
         if args.bundle and name == "locks":
             yield f"{word}, bundles", (*options, "--bundle")
+        if args.sums and name == "locks":
+            yield f"{word}, sums", (*options, "--sums")
 
 
 def clusters_of(args):
-    """The clusters of locks, and with keys too: those tick by the clock, whatever the option says."""
+    """The clusters of locks, and with keys too: those tick by the clock, whatever the option says, so once each."""
     for alpha, (name, program) in ((alpha, it) for alpha in args.alpha for it in programs(args).items()):
         for index, (word, options) in enumerate(options_of(args, name)):
             is_long = alpha == max(args.alpha) and index == 0
             yield Variant(f"{name}, alpha {alpha}{word}", cluster_of(program, alpha, options), is_long)
-            if args.sealed and "--ticks" not in options:
+            if args.sealed and ("--ticks" not in options or "datagrams" not in args.ticks):
                 sealed = cluster_of(program, alpha, options, is_sealed=True)
                 yield Variant(f"{name}, alpha {alpha}{word}, sealed", sealed, is_long=False)
 
@@ -247,7 +256,8 @@ def notes(args, disks):
     yield f"{datetime.date.today()}, {processors()}, Linux {platform.release()}, load before the run {load:.1f}."
     yield "; ".join(versions(args)) + ". All nodes and clients on this machine."
     syncs = (f"{sync_ms(args, disk):.2f} ms ({plots.DISKS[disk]})" for disk in disks)
-    yield f"A sync takes {', '.join(syncs)} at the median."
+    where = "on ext4 with a journal, on a loop device in memory, " if args.journal else ""
+    yield f"A sync takes {where}{', '.join(syncs)} at the median."
 
 
 def minutes(args, variants, disks):
@@ -278,12 +288,14 @@ def add_cluster_options(made):
     """Adds the options that say which clusters of locks are measured, beside `--alpha`, and where."""
     made.add_argument("--sealed", action="store_true", help="the clusters of locks with keys too, beside those without")
     made.add_argument("--bundle", action="store_true", help="the clusters of locks with bundles too")
+    made.add_argument("--sums", action="store_true", help="the clusters of locks with sums too")
     made.add_argument(
         "--ticks",
         type=words_of(TICKS),
         default=TICKS[:1],
         help="of the clusters of locks, as datagrams,clock; datagrams if not given",
     )
+    made.add_argument("--only-bundles", action="store_true", help="with --bundle none without bundles")
     made.add_argument("--program", type=a_program, help="the program of locks; what ./locks runs if not given")
     made.add_argument("--before", type=a_program, help="an older program of locks, beside the other")
     made.add_argument("--dir", help="where the folders of the nodes are made")
@@ -301,6 +313,7 @@ def arguments():
     made.add_argument("--clients", type=numbers, default=[1, 2, 4, 8, 16, 32, 64], help="1,2,4,8,16,32,64 if not given")
     made.add_argument("--alpha", type=numbers, default=[8], help="of the clusters of locks, as 2,8,16; 8 if not given")
     add_cluster_options(made)
+    made.add_argument("--journal", action="store_true", help="the folders are on ext4 in memory, with a journal: root")
     made.add_argument("--rounds", type=int, default=3, help="3 if not given")
     made.add_argument("--seconds", type=float, default=3, help="how long each load lasts, 3 if not given")
     made.add_argument("--warm", type=float, default=10, help="how long each system is loaded before, 10 if not given")
@@ -320,9 +333,8 @@ def arguments():
     return made.parse_args()
 
 
-def main():
-    args = arguments()
-    need("cargo")
+def compare(args):
+    """The whole comparison, in the folder of the arguments."""
     variants, disks = list(variants_of(args)), disks_of(args)
     if not variants or not disks:
         sys.exit("compare.py: there is nothing to compare")
@@ -336,6 +348,16 @@ def main():
         Comparison(args, sheet).run(variants, disks)
     new.replace(args.out / "compare.csv")
     plots.draw(args.out)
+    print(*plots.table(args.out), sep="\n", flush=True)
+
+
+def main():
+    args = arguments()
+    need("cargo")
+    if args.journal and journal.missing():
+        sys.exit(f"compare.py: --journal: {journal.missing()}")
+    with journal.journaled() if args.journal else contextlib.nullcontext(args.dir) as args.dir:
+        compare(args)
 
 
 if __name__ == "__main__":

@@ -11,9 +11,10 @@ drawn; and one client asks all nodes ten times a second.
 Some majority hears each other both ways while none of the ways between its nodes is cut. The last lines say how long
 that client was without an answer at most: while one and the same majority heard each other; while at each moment some
 majority did; and in all. It fails where a fence was given twice, a lock had two holders or a hold was not valid, and
-where the first of these times is above 3 s; then the folder with the logs is kept. A slow disk makes it longer: the
-load and the longest sync of a file are printed beside it, and TMPDIR=/dev/shm keeps the folders in memory. The last
-line is `N passed, M failed`; the status is 0 where none failed.
+where the first of these times is above 3 s; then the folder with the logs is kept. A slow disk or a busy machine makes
+it longer: beside it the load, the longest sync of a file, how late a thread was woken that was due, how many threads
+ran or waited to, and the part of the processors that was stolen are printed. TMPDIR=/dev/shm keeps the folders in
+memory. The last line is `N passed, M failed`; the status is 0 where none failed.
 """
 
 import argparse
@@ -22,7 +23,9 @@ import datetime
 import heapq
 import itertools
 import os
+import pathlib
 import random
+import re
 import shutil
 import sys
 import tempfile
@@ -58,29 +61,47 @@ class Probing:
         self.reader.join()
 
 
-class Disk:
-    """Syncs a small file beside the folders of the nodes all the time, and keeps how long each sync took."""
+class Machine:
+    """Syncs a small file beside the folders of the nodes all the time, and keeps how long that took, how late it was
+    woken, and how busy the machine was."""
 
     def __init__(self, folder):
-        self.path, self.syncs, self.is_over = f"{folder}/synced", [], threading.Event()
+        self.path, self.looks, self.is_over = f"{folder}/synced", [], threading.Event()
         self.thread = threading.Thread(target=self.run, daemon=True)
         self.thread.start()
 
     def run(self):
         with open(self.path, "wb", buffering=0) as file:
-            while not self.is_over.wait(EVERY):
+            due = time.monotonic() + EVERY
+            while not self.is_over.wait(max(0.0, due - time.monotonic())):
                 begin = time.monotonic()
                 file.write(b"x")
                 os.fdatasync(file.fileno())
-                self.syncs.append((begin, time.monotonic() - begin))
+                end = time.monotonic()
+                self.looks.append((begin, end - begin, begin - due, *processors()))
+                due = end + EVERY
 
-    def longest(self, begin, end):
-        """The seconds of the longest sync that was begun or ended in that time."""
-        return max((took for moment, took in list(self.syncs) if moment < end and moment + took > begin), default=0.0)
+    def told(self, begin, end):
+        """How busy the machine was in that time, in words."""
+        looks = [it for it in list(self.looks) if it[0] < end and it[0] + it[1] > begin]
+        if not looks:
+            return "nothing was measured"
+        _, took, late, running, *_ = map(max, zip(*looks))
+        (*_, stolen, passed), (*_, stolen_then, passed_then) = looks[0], looks[-1]
+        stolen = (stolen_then - stolen) / max(1, passed_then - passed)
+        return (f"longest sync of a file {took:.2f} s; a thread that was due was woken {late:.2f} s late at most; "
+                f"at most {running} threads ran or waited to; {stolen:.0%} of the processors stolen")
 
     def end(self):
         self.is_over.set()
         self.thread.join()
+
+
+def processors():
+    """How many threads run or wait to, the ticks of all processors that were stolen since the start, and all ticks."""
+    text = pathlib.Path("/proc/stat").read_text()
+    ticks = [int(it) for it in text.split("\n", 1)[0].split()[1:9]]
+    return int(re.search(r"procs_running (\d+)", text)[1]), ticks[7], sum(ticks)
 
 
 class Ways:
@@ -160,13 +181,13 @@ class Silences:
         self.one = max((silence(spans([it]), answers) for it in ways.majorities()), key=lambda gap: gap[1] - gap[0])
         self.some, self.whole = silence(some, answers), silence([(begin, end)], answers)
 
-    def tell_long(self, ways, disk):
+    def tell_long(self, ways, machine):
         """Tells what was cut while a majority had no answer for the longest time, if that is too long."""
         begin, end = self.one
         if end - begin > LIMIT and self.one not in ways.reported:
             ways.reported.append(self.one)
-            sync = f"longest sync of a file then: {disk.longest(begin, end):.2f} s"
-            print(f"no answer from {clock(begin)} to {clock(end)}, a majority hearing each other; {sync}", flush=True)
+            print(f"no answer from {clock(begin)} to {clock(end)}, a majority hearing each other", flush=True)
+            print(f"  {machine.told(begin, end)}", flush=True)
             ways.tell(begin, end)
 
     def text(self):
@@ -199,7 +220,7 @@ def tell_story(cluster, world, score, options):
     work, probing, ways = Work(cluster, checks=True), Probing(cluster), Ways(world, cluster.nodes)
     go_on(work, score, "at first")
     time.sleep(QUIET)
-    begin, disk = time.monotonic(), Disk(cluster.folder)
+    begin, machine = time.monotonic(), Machine(cluster.folder)
     silences = lambda: Silences(ways, probing.answers, begin)
     load = lambda: f"load {os.getloadavg()[0]:.1f}"
     counts = lambda: f"{len(ways.changes) - 1} changes, {len(probing.answers)} answers, {len(work.holds)} holds"
@@ -207,7 +228,7 @@ def tell_story(cluster, world, score, options):
     def minute():
         found = silences()
         print(f"{time.monotonic() - begin:.0f} s: {counts()}; {found.text()}; {load()}", flush=True)
-        found.tell_long(ways, disk)
+        found.tell_long(ways, machine)
 
     draw(ways, random.Random(options.seed), options, minute)
     found = silences()
@@ -218,13 +239,14 @@ def tell_story(cluster, world, score, options):
     terms = sum(cluster.log(node).count(" begun") for node in cluster.nodes)
     print(f"{options.seconds:.0f} s, of which some majority heard each other for {found.heard:.0f} s: {counts()}, "
           f"{terms} terms; {load()}")
-    print(f"longest without an answer: {found.text()}; longest sync: {disk.longest(begin, time.monotonic()):.2f} s")
+    print(f"longest without an answer: {found.text()}")
+    print(f"the machine: {machine.told(begin, time.monotonic())}")
     wrong = faults(work.holds)
     score.check("no fence was given twice, no lock had two holders, each hold was valid", not wrong, wrong[:3] or "")
     took = found.one[1] - found.one[0]
     score.check(f"an answer within {LIMIT:.0f} s while a majority hears each other", took <= LIMIT, f"{took:.1f} s")
-    found.tell_long(ways, disk)
-    disk.end()
+    found.tell_long(ways, machine)
+    machine.end()
 
 
 def main():

@@ -1,5 +1,6 @@
 #!/usr/bin/env python3
-"""Draws the figures of bench/compare.py once more: FOLDER/compare.svg from FOLDER/compare.csv.
+"""Draws the figures of bench/compare.py once more, FOLDER/compare.svg from FOLDER/compare.csv, and prints the medians
+of the loads as tables, each with the least and the greatest of the rounds.
 
 A curve is the median of the rounds, and its band goes from the least to the greatest of them. In the strips each point
 is one start, or one death of a leader, and the line is their median."""
@@ -127,6 +128,27 @@ def picture(path):
     return svg.document(charts.sheet(), WIDE, y, parts)
 
 
+def spread(found):
+    """The median of figures, and if there are several the least and the greatest."""
+    least, greatest = short(min(found)), short(max(found))
+    return short(statistics.median(found)) + (f" ({least} to {greatest})" if len(found) > 1 else "")
+
+
+def table(folder):
+    """The lines of a table for each figure and disk: of each system the medians by clients, and their spread."""
+    figures = Figures(folder / "compare.csv")
+    for disk, name in DISKS.items():
+        for figure, title in LOADS.items():
+            series = figures.lines("load", figure, "clients", disk)
+            clients = sorted({it for line in series.values() for it in line})
+            if clients:
+                yield from ("", f"{title}, {name}:", "", f"| clients | {' | '.join(f'{it:.0f}' for it in clients)} |")
+                yield "|---|" + "---:|" * len(clients)
+            for look, line in series.items():
+                cells = (spread(line[it]) if it in line else "" for it in clients)
+                yield f"| {look.name} | {' | '.join(cells)} |"
+
+
 def draw(folder):
     """Draws the figures that a folder has."""
     (folder / "compare.svg").write_text(picture(folder / "compare.csv"), encoding="utf-8")
@@ -139,6 +161,7 @@ def main():
     if not (folder / "compare.csv").is_file():
         sys.exit(f"plots.py: no {folder / 'compare.csv'}; bench/compare.py makes it")
     draw(folder)
+    print(*table(folder), sep="\n")
 
 
 if __name__ == "__main__":

@@ -1,11 +1,12 @@
 #!/usr/bin/env python3
 """Counts the instructions of a step of a node, by the kind of datagram that it takes.
 
-Usage: bench/steps.py [--times N] [--node [--waiters W]] [PROGRAM ..]
+Usage: bench/steps.py [--times N] [--node [--waiters W] [--sums]] [PROGRAM ..]
 
 With --node it counts those of a pair of an acquire and a release at a node that runs, with its turns, its socket and
 its disk, and is a cluster by itself: the difference between 2 N pairs and N pairs. Meanwhile W clients wait for another
-name, which is held. Their watches are sent once, and live for some 80 pairs.
+name, which is held. Their watches are sent once, and live for some 80 pairs. With --sums the node has a store with
+sums.
 
 It needs valgrind, whose callgrind counts instructions, the same number for the same program and script, whatever else
 the machine does. A script of world mode brings three nodes to where a datagram of the kind was sent. Then it is
@@ -119,9 +120,10 @@ def wait_in_line(client, port, waiters):
             it.recv(LONGEST)
 
 
-def of_node(program, pairs, waiters):
+def of_node(program, pairs, waiters, options):
     """How many instructions a node takes from its start until a client has done so many pairs."""
-    with tempfile.TemporaryDirectory() as folder, Alone(folder, COUNTING, program=program, alpha=8) as node:
+    what = {"program": program, "alpha": 8, "options": options}
+    with tempfile.TemporaryDirectory() as folder, Alone(folder, COUNTING, **what) as node:
         with Client(node.cluster, 1, node.ports.values(), first=milliseconds(), patience=60) as client:
             wait_in_line(client, node.ports[1], waiters)
             for _ in range(pairs):
@@ -137,13 +139,15 @@ def main():
     parser.add_argument("--times", type=int, default=1000, help="how often each is delivered, 1000 if not given")
     parser.add_argument("--node", action="store_true", help="those of a pair, at a node that runs")
     parser.add_argument("--waiters", type=int, default=0, help="how many clients wait meanwhile, 0 if not given")
+    parser.add_argument("--sums", action="store_true", help="the node writes its store with sums")
     parser.add_argument("program", nargs="*", help="the programs; the wrapper builds one if none is given")
     args = parser.parse_args()
     if not shutil.which("valgrind"):
         parser.error("valgrind is not on the path; Debian: apt-get install valgrind")
     programs = args.program or [built()]
     if args.node:
-        counts = [[of_node(it, times * args.times, args.waiters) for times in (1, 2)] for it in programs]
+        options = ["--sums"] if args.sums else []
+        counts = [[of_node(it, times * args.times, args.waiters, options) for times in (1, 2)] for it in programs]
         each = [(twice - once) / args.times for once, twice in counts]
         print(f"A pair: {', '.join(f'{it:,.0f}' for it in each)} instructions")
         return

@@ -6,12 +6,13 @@ import subprocess
 from harness.cluster import free_ports
 
 
-PROBE = b"LP\1\x09"  # what a probe begins with
+PROBE = b"LP\1\x09"  # what a probe of form 1 begins with
+PROBES = (PROBE, b"LP\2\x09")
 
 
 def received(it):
     """The next datagram to a socket but for probes: a node asks once, and once more, who writes to it from there."""
-    while (data := it.recv(9000)).startswith(PROBE):
+    while (data := it.recv(9000)).startswith(PROBES):
         pass
     return data
 

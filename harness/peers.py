@@ -31,11 +31,13 @@ def report(
     leader=1,
     silence=1,
     promised=3,
+    promised_by=1,
     executed=10,
     pending=1,
     waiting=2,
     unread=5,
     unsent=6,
+    ticks=100,
     members=MEMBERS,
     client=0,
     cluster=5,
@@ -45,9 +47,9 @@ def report(
     """A report, field by field: the numbers are as in docs/WIRE.md. With a reach it has form 2."""
     form = 1 if reach is None else 2
     head = f"4c50{form:02x}0a {cluster:016x} {node:08x} {client:04x} {token:016x} {genesis} {build}"
-    leadership = f"{leads:02x} {leader:08x} {silence:016x} {promised:016x} {1:08x}"
+    leadership = f"{leads:02x} {leader:08x} {silence:016x} {promised:016x} {promised_by:08x}"
     progress = f"{executed:016x} {4:016x} {pending:02x}"
-    traffic = f"{waiting:04x} {unread:016x} {unsent:016x} {100:016x}"
+    traffic = f"{waiting:04x} {unread:016x} {unsent:016x} {ticks:016x}"
     tail = "" if reach is None else reach + state
     return bytes_of(head, leadership, progress, traffic, members).ljust(LENGTH, b"\0") + bytes_of(tail)
 

@@ -1,5 +1,7 @@
 """Nodes that have executed as much report one digest of their states; one that has executed other commands is named."""
+import collections
 import os
+import re
 import shutil
 import socket
 import struct
@@ -15,12 +17,17 @@ from locks_client import Client
 PROGRAM = os.environ.get("LOCKS_PROGRAM")
 SECONDS = 60  # only a hang takes as long
 
+APART = re.compile(
+    r"\[WARN  locks\] \S+ node \d has executed other commands than node (\d) up to position \d+: "
+    r"`locks status` says which to stop(?: \.\. and \d more)?"
+)
+
 
 @unittest.skipUnless(PROGRAM, "LOCKS_PROGRAM does not tell the program")
 class DigestsTest(unittest.TestCase):
-    def cluster_of(self, *nodes):
+    def cluster_of(self, *nodes, **how):
         """A cluster of three, of which these nodes are started."""
-        cluster = self.enterContext(Cluster(PROGRAM, self.enterContext(tempfile.TemporaryDirectory())))
+        cluster = self.enterContext(Cluster(PROGRAM, self.enterContext(tempfile.TemporaryDirectory()), **how))
         for node in set(cluster.ports) - set(nodes):
             cluster.kill(node)
         return cluster
@@ -77,8 +84,9 @@ class DigestsTest(unittest.TestCase):
         self.assertEqual(len(set(self.digests(cluster, client, 256).values())), 1)
         self.assertNotIn("other commands", self.status(cluster)[1])
 
-    def test_a_node_that_has_executed_other_commands_is_named(self):
-        cluster = self.cluster_of(1, 2)
+    def apart(self, **how):
+        """A cluster whose node 1 has executed other commands than the others, and the digests that show it."""
+        cluster = self.cluster_of(1, 2, **how)
         self.client(cluster, 7).acquire("db")
         for node in (1, 2):
             cluster.kill(node)
@@ -92,10 +100,32 @@ class DigestsTest(unittest.TestCase):
         digests = self.digests(cluster, client, 64)
         self.assertNotEqual(digests[1], digests[2])
         self.assertEqual(digests[2], digests[3])
+        return cluster
+
+    def events(self, cluster, node):
+        """Of which nodes a node has told that they have executed other commands, and how often."""
+        with open(cluster.log(node)) as told:
+            return collections.Counter(int(it[1]) for it in map(APART.fullmatch, told.read().splitlines()) if it)
+
+    def test_a_node_that_has_executed_other_commands_is_named(self):
+        cluster = self.apart()
         status, told = self.status(cluster)
         self.assertEqual(status, 1, told)
         # The others are named in the order in which they answer.
         self.assertRegex(told, "why: node 1 has executed other commands than nodes (2 3|3 2): stop it\n")
+
+    def test_nodes_tell_of_each_other_that_they_have_executed_other_commands(self):
+        cluster = self.apart(options=("--ticks", "clock", "--events"), logs=True)
+        end = time.monotonic() + SECONDS
+        while not (self.events(cluster, 2) and self.events(cluster, 3) and self.events(cluster, 1)):
+            self.assertLess(time.monotonic(), end, [self.events(cluster, node) for node in cluster.ports])
+            time.sleep(0.1)
+        # They ask each other each five seconds, and tell it once.
+        time.sleep(6)
+        self.assertEqual(self.events(cluster, 2), {1: 1})
+        self.assertEqual(self.events(cluster, 3), {1: 1})
+        # Node 1 tells of both, by one line if both reports came within a second.
+        self.assertLessEqual(sum(self.events(cluster, 1).values()), 2)
 
 
 if __name__ == "__main__":

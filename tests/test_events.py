@@ -6,6 +6,7 @@ import re
 import signal
 import subprocess
 import tempfile
+import threading
 import time
 import unittest
 
@@ -14,6 +15,9 @@ from harness.by_bytes import Node, bytes_of
 from harness.cluster import Cluster, free_ports
 
 PROGRAM = os.environ.get("LOCKS_PROGRAM")
+
+LONG = 60  # seconds that only a hang takes
+TWO_AND_MORE, FOUR_AND_MORE = r"([2-9]|\d\d+)", r"([4-9]|\d\d+)"  # seconds, as a busy machine is late
 
 LINE = re.compile(r"\[(INFO |WARN |ERROR) locks\] (\d{4}-\d\d-\d\dT\d\d:\d\d:\d\d\.\d{3}Z) node (\d+) (.*)")
 
@@ -58,7 +62,7 @@ class Told(Cluster):
         assert all(it[3] == str(node) for it in found), lines
         return [(it[1].strip(), datetime.datetime.fromisoformat(it[2].replace("Z", "+00:00")), it[4]) for it in found]
 
-    def waits(self, node, pattern, seconds=20.0):
+    def waits(self, node, pattern, seconds=LONG):
         """Waits until a node has told that, and gives the match."""
         end = time.monotonic() + seconds
         while time.monotonic() < end:
@@ -118,8 +122,8 @@ class EventsTest(unittest.TestCase):
             stack.callback(cluster.__exit__)
             cluster.start(1)
             cluster.waits(1, "began with an empty store")
-            cluster.waits(1, "has heard of no leader for 2 s")
-            cluster.waits(1, "has heard of no leader for 4 s")
+            for seconds in (TWO_AND_MORE, FOUR_AND_MORE):
+                cluster.waits(1, f"has heard of no leader for {seconds} s")
             self.assertFalse([text for _, _, text in cluster.events(1) if "leads in" in text])
             self.assertEqual({level for level, _, text in cluster.events(1) if "no leader" in text}, {"WARN"})
 
@@ -129,8 +133,8 @@ class EventsTest(unittest.TestCase):
             stack.callback(cluster.__exit__)
             self.add(4)
             cluster.start(4)
-            cluster.waits(4, "is not a member, and has had no leader for 2 s")
-            cluster.waits(4, "is not a member, and has had no leader for 4 s")
+            for seconds in (TWO_AND_MORE, FOUR_AND_MORE):
+                cluster.waits(4, f"is not a member, and has had no leader for {seconds} s")
             told = [(level, text) for level, _, text in cluster.events(4) if "leader" in text]
             self.assertEqual({level for level, _ in told}, {"INFO"})
             self.assertFalse([text for _, text in told if "has heard of no leader" in text])
@@ -149,7 +153,7 @@ class EventsTest(unittest.TestCase):
             cluster.waits(4, r"installed a snapshot of node [123], \d+ positions")
             self.assertEqual(self.asks("leave", "4", first=401), "left\n")
             cluster.waits(1, "node 4 left, members .*")
-            cluster.waits(4, "is not a member, and has had no leader for 2 s")
+            cluster.waits(4, f"is not a member, and has had no leader for {TWO_AND_MORE} s")
             cluster.kill(4)
             cluster.kill(1)
             cluster.start(1)
@@ -195,29 +199,43 @@ class LagTest(unittest.TestCase):
         self.node = self.enterContext(Node(PROGRAM, self.enterContext(tempfile.TemporaryDirectory())))
         self.node.words = ("--events",)
 
-    def leads(self, seconds, lead=LEAD):
-        """Node 1 leads for so many seconds, and answers nothing."""
-        end = time.monotonic() + seconds
-        while time.monotonic() < end:
-            self.node.send(self.node.bytes_of(lead))
+    def start(self):
+        """Starts the node, and reads what it tells."""
+        self.node.start()
+        self.lines, process = [], self.node.process
+        self.reader = threading.Thread(target=lambda: [self.lines.append(line) for line in process.stderr], daemon=True)
+        self.reader.start()
+
+    def waits(self, pattern, count=1, lead=None):
+        """Waits until the node has told that so many times. Meanwhile node 1 leads, if that is given, and answers
+        nothing."""
+        end = time.monotonic() + LONG
+        while len(re.findall(pattern, "".join(self.lines))) < count:
+            self.assertLess(time.monotonic(), end, self.lines)
+            if lead:
+                self.node.send(self.node.bytes_of(lead))
             time.sleep(0.05)
 
-    def test_a_node_is_behind_until_it_has_caught_up(self):
-        self.node.start()
-        self.leads(2.0)
-        self.node.send(self.node.bytes_of(DECIDED))
-        self.leads(2.0)
+    def told(self, pattern):
+        """All that the node has told of a kind, once it is killed."""
         self.node.process.kill()
-        told = re.findall(r"node 2 (is behind.*|has caught up.*)", self.node.process.stderr.read())
+        self.reader.join()
+        return re.findall(f"node 2 ({pattern})", "".join(self.lines))
+
+    def test_a_node_is_behind_until_it_has_caught_up(self):
+        self.start()
+        self.waits("is behind", lead=LEAD)
+        self.node.send(self.node.bytes_of(DECIDED))
+        self.waits("has caught up", lead=LEAD)
+        told = self.told("is behind.*|has caught up.*")
         self.assertEqual(told, ["is behind, asks node 1", "has caught up, 1 position"])
 
     def test_two_nodes_that_join_in_one_turn_are_told(self):
-        self.node.start()
-        self.leads(0.5)
+        self.start()
+        self.waits("follows node 1", lead=LEAD)
         self.node.send(self.node.bytes_of(JOINS))
-        self.leads(0.5)
-        self.node.process.kill()
-        told = re.findall(r"node 2 (node \d joined.*)", self.node.process.stderr.read())
+        self.waits("joined", lead=LEAD)
+        told = self.told(r"node \d joined.*")
         members = " ".join(f"{node}:{port}" for node, port in enumerate(self.node.ports, 1))
         self.assertEqual(told, [f"node 5 joined, members {members} 4:7004 5:7005 .. and 1 more"])
 
@@ -237,35 +255,33 @@ class LagTest(unittest.TestCase):
         self.assertEqual((it[1], it[3], it[4], last), ("ERROR", "1", "ends: fault 10", "fault 10"))
 
     def test_a_leader_is_followed_again_after_a_silence(self):
-        self.node.start()
-        self.leads(0.5)
-        time.sleep(3.0)
-        self.leads(0.5, LATER)
-        self.node.process.kill()
-        told = re.findall(r"node 2 (follows node 1|has heard of no leader)", self.node.process.stderr.read())
+        self.start()
+        self.waits("follows node 1", lead=LEAD)
+        self.waits("has heard of no leader")
+        self.waits("follows node 1", 2, lead=LATER)
+        told = self.told("follows node 1|has heard of no leader")
         self.assertEqual(told, ["follows node 1", "has heard of no leader", "follows node 1"])
 
     def test_datagrams_of_another_cluster_are_told_each_time_that_they_double(self):
-        self.node.start()
-        for _ in range(5):
+        self.start()
+        for many in (1, 2, 2, 3, 3):  # how often it has told then
             self.node.send(self.node.bytes_of(FOREIGN))
-            time.sleep(1.1)
-        self.node.process.kill()
-        told = re.findall(r"node 2 (heard \d+ datagrams? of another cluster)", self.node.process.stderr.read())
+            self.waits("heard .* of another cluster", many)
+        time.sleep(1.1)
+        told = self.told(r"heard \d+ datagrams? of another cluster")
         counts = ("1 datagram", "2 datagrams", "4 datagrams")
         self.assertEqual(told, [f"heard {count} of another cluster" for count in counts])
 
     def test_a_table_that_fills_up_is_told(self):
-        self.node.start()
-        self.leads(0.5)
+        self.start()
+        self.waits("follows node 1", lead=LEAD)
         for first in range(1, 461, 10):
             self.node.send(self.node.bytes_of(acquires(first, 10)))
-            self.leads(0.05)
-        self.leads(0.5)
+            self.waits(f"ran {first + 9}\\b")
+        time.sleep(0.5)
         self.node.send(self.node.bytes_of(acquires(461, 1)))
-        self.leads(0.5)
-        self.node.process.kill()
-        told = re.findall(r"WARN .* node 2 (fills up.*)", self.node.process.stderr.read())
+        self.waits("WARN .* fills up", lead=LEAD)
+        told = self.told("fills up.*")
         self.assertEqual(told, ["fills up: names 461 of 512"])
 
 

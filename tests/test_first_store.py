@@ -128,7 +128,7 @@ class FirstStoreTest(unittest.TestCase):
                     self.wait_for(BASE + PROMISED)
                     self.stop(node)
                 else:
-                    told = node.communicate(timeout=30)[1].splitlines()[-1]
+                    told = node.communicate(timeout=60)[1].splitlines()[-1]
                     self.assertEqual((told, node.returncode), ("fault 9", 1))
                     self.assertEqual(self.read(), BASE + bytes_of(rest))
 

@@ -7,6 +7,7 @@ import tempfile
 import unittest
 
 from harness.by_bytes import Node, bytes_of
+from harness.summed import pieces
 
 HERE = os.path.dirname(os.path.abspath(__file__))
 PAGE = os.path.join(HERE, "..", "docs", "FORMATS.md")
@@ -60,7 +61,7 @@ class FormatPageTest(unittest.TestCase):
     def test_the_page_has_each_example(self):
         count = {kind: len(texts(kind)) for kind, _ in examples()}
         exchanges = {"asked": 3, "answered": 3, "row": 5, "sealed": 2}
-        self.assertEqual(count, {**exchanges, "file": 1, "state": 2, "inspected": 2})
+        self.assertEqual(count, {**exchanges, "file": 1, "summed": 1, "state": 2, "inspected": 2})
 
     def test_a_node_answers_and_writes_these_bytes(self):
         node = self.node()
@@ -68,6 +69,17 @@ class FormatPageTest(unittest.TestCase):
             self.says(node, asked, answered)
         [file] = texts("file")
         self.assertEqual((node.read("a").hex(), node.read("b")), (node.bytes_of(digits(file)).hex(), b""))
+
+    def test_a_file_with_sums_has_these_bytes(self):
+        [file], [summed] = texts("file"), texts("summed")
+        data = bytes_of(digits(summed))
+        self.assertEqual(b"".join(pieces("a", data)), bytes_of(digits(file)))
+        with tempfile.TemporaryDirectory() as folder:
+            for name, held in (("a", data), ("b", b"")):
+                with open(os.path.join(folder, name), "wb") as file:
+                    file.write(held)
+            told = self.ran("dump", "--dir", folder)
+        self.assertEqual(told.split(), "generation 1 promised 3 1 snapshot 0 votes 1 decided 0 format 3".split())
 
     def test_each_row_is_one_of_the_proved_table_and_of_a_node(self):
         with open(TABLE, encoding="utf-8") as table:

@@ -112,19 +112,16 @@ class HearingTest(unittest.TestCase):
             self.start(node)
         first = self.ready()
         others = [node for node in MEMBERS if node != first]
-        began = time.monotonic()
         self.relay.cut = {(node, first) for node in others}
         self.comes(lambda: "hears 1 of 3 members, no majority" in self.log(first))
         self.comes(lambda: re.search(rf"(?m)^node {first}, .*, hears 1 of 3 members, no majority", self.status()[1]))
         self.assertTrue(self.comes(lambda: self.status()[0] == 1))
         self.comes(lambda: any("leads in ballot" in self.log(node) for node in others))
-        took = time.monotonic() - began
         self.comes(lambda: self.status()[0] == 0)
         self.relay.cut = set()
         self.comes(lambda: "hears 3 of 3 members, a majority" in self.log(first).split("no majority")[-1] or
                    "hears 2 of 3 members, a majority" in self.log(first).split("no majority")[-1])
         self.ready()
-        self.assertLess(took, 15.0)  # 3 s where the machine is not busy
 
     def test_silence_grows_while_ticks_are_withheld(self):
         for node in MEMBERS:
@@ -139,7 +136,7 @@ class HearingTest(unittest.TestCase):
         self.relay.cut = {(node, deaf) for node in (leader, other)}
         self.comes(lambda: self.silence(deaf) > 40)
         self.assertLess(self.silence(other), 28)
-        self.assertRegex(self.status()[1], rf"(?m)^node {leader}, port \d+: leads")
+        self.assertNotIn(f"node {deaf} began a greater ballot", self.log(leader) + self.log(other))
         self.relay.cut = set()
         self.comes(lambda: 0 <= self.silence(deaf) < 8)
 

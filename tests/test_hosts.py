@@ -53,6 +53,7 @@ class HostsTest(unittest.TestCase):
         self.cluster.write(3, RIGHT)
         self.cluster.start(2)
         self.cluster.start(3)
+        self.cluster.waits(2, "began with an empty store")  # it has read its hosts by then
 
     def asks(self, number):
         """What node 2 answers to an acquire of this number."""

@@ -65,7 +65,7 @@ class NodesTest(unittest.TestCase):
         first = self.start(self.ports[0])
         self.wait_until_up()
         second = self.start(self.ports[1])
-        self.assertIn("cannot open", second.communicate(timeout=30)[1].splitlines())
+        self.assertIn("cannot open", second.communicate(timeout=60)[1].splitlines())
         self.assertEqual(second.returncode, 1)
         dumped = subprocess.run([PROGRAM, "dump", "--dir", self.folder], stdout=subprocess.PIPE, text=True)
         self.assertEqual((dumped.returncode, dumped.stdout.split("\n")[0]), (0, "generation 1"))
@@ -88,7 +88,7 @@ class NodesTest(unittest.TestCase):
         with socket.socket(socket.AF_INET, socket.SOCK_DGRAM) as taken:
             taken.bind(("127.0.0.1", self.ports[0]))
             node = self.start(self.ports[0])
-            self.assertIn("cannot open", node.communicate(timeout=30)[1].splitlines())
+            self.assertIn("cannot open", node.communicate(timeout=60)[1].splitlines())
         self.assertEqual((node.returncode, os.listdir(self.folder)), (1, []))
 
     def test_a_node_at_another_port_says_so(self):

@@ -44,20 +44,21 @@ class ProbesTest(unittest.TestCase):
         self.cluster = self.enterContext(Cluster(PROGRAM, self.enterContext(tempfile.TemporaryDirectory()), alpha=2))
         self.socket = self.enterContext(socket.socket(socket.AF_INET, socket.SOCK_DGRAM))
 
-    def report(self, node, datagram, seconds=0.5):
-        """What a node answers, or nothing."""
-        self.socket.settimeout(seconds)
-        self.socket.sendto(datagram, ("127.0.0.1", self.cluster.ports[node]))
-        try:
-            return self.socket.recv(9000)
-        except TimeoutError:
-            return None
+    def report(self, node, datagram, seconds):
+        """What a node answers, or nothing. No late answer to an earlier probe comes to this socket."""
+        with socket.socket(socket.AF_INET, socket.SOCK_DGRAM) as it:
+            it.settimeout(seconds)
+            it.sendto(datagram, ("127.0.0.1", self.cluster.ports[node]))
+            try:
+                return it.recv(9000)
+            except TimeoutError:
+                return None
 
     def awaited(self, node, datagram):
         """What a node answers that may be starting."""
-        end = time.monotonic() + 30.0
+        end = time.monotonic() + 60.0
         while time.monotonic() < end:
-            if answer := self.report(node, datagram):
+            if answer := self.report(node, datagram, 2.0):
                 return answer
         self.fail(f"node {node} does not answer")
 
@@ -117,7 +118,7 @@ class ProbesTest(unittest.TestCase):
         )
         for datagram in others:
             self.assertIsNone(self.report(1, datagram, 0.2), datagram)
-        self.assertIsNotNone(self.report(1, probe()))
+        self.awaited(1, probe())
 
 
 @unittest.skipUnless(PROGRAM, "LOCKS_PROGRAM does not tell the program")

@@ -210,7 +210,7 @@ class LogTest(unittest.TestCase):
         lines = [node.stderr.readline().rstrip("\n") for _ in range(4)]
         late.cancel()
         node.kill()
-        self.assertEqual(node.communicate(timeout=30)[1], "", lines)
+        self.assertEqual(node.communicate(timeout=60)[1], "", lines)
         for line, message in zip(lines, ("counted 1", "ran 1", "counted 2", "ran 2")):
             self.assertRegex(line, rf"\A\[INFO [^\]]*\] {message}\Z")
 

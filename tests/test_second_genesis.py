@@ -164,7 +164,7 @@ class QuestionsTest(unittest.TestCase):
         self.start()
         self.led()
         self.node.send(report(1, OTHER, self.question))
-        told = self.node.process.communicate(timeout=30)[1].splitlines()
+        told = self.node.process.communicate(timeout=60)[1].splitlines()
         self.assertEqual((told[-1], self.node.process.returncode), (ended(2, self.genesis, 1, OTHER), 1))
 
     def test_what_does_not_answer_the_question_tells_nothing(self):

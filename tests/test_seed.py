@@ -19,7 +19,7 @@ class SeedTest(unittest.TestCase):
 
     def setUp(self):
         self.folder = self.enterContext(tempfile.TemporaryDirectory())
-        [self.port] = free_ports(1)
+        self.port, self.old_port, self.other_port = free_ports(3)
         self.new = self.path("new")
         os.mkdir(self.new)
 
@@ -40,10 +40,14 @@ class SeedTest(unittest.TestCase):
     def seed(self, *sources, **how):
         return self.ran(*self.words(*sources, **how))
 
-    def lost(self, name, asks, **how):
-        """The folder of a lost cluster's node, after `asks` was called with a client of it."""
+    def lost(self, name, asks, number=5, alpha=8, port=None):
+        """The folder of a lost cluster's node, after `asks` was called with a client of it. By these parts of their
+        genesis two folders are of one cluster."""
         place = self.path(name)
-        with Cluster(PROGRAM, place, nodes=1, **how) as cluster, cluster.client(Client, 9) as client:
+        cluster = Cluster(PROGRAM, place, nodes=1, cluster=number)
+        cluster.ports = {1: port or self.old_port}
+        cluster.genesis = f"{number},{alpha},1:{cluster.ports[1]}"
+        with cluster, cluster.client(Client, 9) as client:
             asks(client)
         return os.path.join(place, "1")
 
@@ -160,6 +164,15 @@ class SeedTest(unittest.TestCase):
         old = self.lost("old", self.two_names)
         why = f"{old}: a store of this cluster: the new one needs another number"
         self.refused(why, old, genesis=f"5,8,1:{self.port}")
+
+    def test_folders_of_two_clusters_are_refused(self):
+        one = self.lost("one", self.two_names)
+        again = self.lost("again", self.two_names)
+        for name, how in (("number", {"number": 4}), ("alpha", {"alpha": 7}), ("port", {"port": self.other_port})):
+            with self.subTest(name):
+                two = self.lost(name, self.two_names, **how)
+                self.refused(f"{two}: a store of another cluster than {one}", one, again, two)
+        self.assertEqual(self.seed(one, again), (0, "", []))
 
     def test_a_folder_with_a_file_is_refused(self):
         old = self.lost("old", self.two_names)

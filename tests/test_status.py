@@ -155,10 +155,18 @@ class StatusTest(unittest.TestCase):
         self.tells([node(1, leader=0), node(2, leader=0)], 1, "knows no leader for 1 tick", "why: nobody leads")
 
     def test_who_is_followed_and_does_not_lead_is_named(self):
-        answers = [node(1, leader=3), node(2, leader=3), node(3, leader=0, silence=0)]
+        answers = [node(1, leader=3), node(2, leader=3), node(3, leader=0, silence=0, promised_by=3)]
         why = "why: nobody leads: an election takes seconds; if it lasts, node 3 sends and hears nobody"
         self.tells(answers, 1, why)
         self.tells([*answers[:2], silent], 1, "if it lasts, node 3, which others follow, does not answer: stop it, and")
+
+    def test_who_has_just_begun_is_not_said_to_hear_nobody(self):
+        why = "if it lasts, look again: node 3, which others follow, does not lead yet"
+        for how in ({"silence": 0, "promised_by": 3, "ticks": 3}, {"silence": 2, "ticks": 2}, {"silence": 9}):
+            with self.subTest(how=how):
+                answers = [node(1, leader=3), node(2, leader=3), node(3, leader=0, **how)]
+                lines = self.tells(answers, 1, why)
+                self.assertNotIn("sends and hears nobody", "\n".join(lines))
 
     def test_who_hears_a_majority_and_is_not_elected_lacks_long_datagrams(self):
         """Reports of nodes whose probes pass and whose promises do not."""
@@ -287,8 +295,8 @@ class StatusTest(unittest.TestCase):
 
     def test_three_nodes_take_no_wait(self):
         began = time.monotonic()
-        self.tells([node(1, leads=1), node(2), node(3)], 0)
-        self.assertLess(time.monotonic() - began, 1.0)
+        self.asks([node(1, leads=1), node(2), node(3)], "--wait", "60000")
+        self.assertLess(time.monotonic() - began, 30.0)
 
     def test_json_is_one_object(self):
         status, lines = self.asks([node(1, leads=1, reach=heard(2, names=7)), silent, older(3)], "--json")

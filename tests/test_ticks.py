@@ -11,7 +11,8 @@ import locks_client
 from harness.cluster import Cluster
 
 PROGRAM = os.environ.get("LOCKS_PROGRAM")
-LENGTH = 2  # seconds
+LONG = 60  # seconds that only a hang takes
+PROBE = b"LP\1\x09" + (5).to_bytes(8, "big") + bytes(162)
 BEGUN = re.compile(r"term \d+\.\d+ begun")
 
 
@@ -31,17 +32,18 @@ class TicksTest(unittest.TestCase):
         """How many terms have begun at all nodes."""
         return sum(len(BEGUN.findall(pathlib.Path(cluster.log(node)).read_text())) for node in cluster.ports)
 
-    def send(self, cluster, leader, many, pause):
-        """Sends so many datagrams that do not read to each node but the leader, repeatedly, with a pause. How often?"""
-        ports = [port for node, port in cluster.ports.items() if node != leader]
-        end, rounds = time.monotonic() + LENGTH, 0
+    def periods(self, port):
+        """How many periods a node has counted since its start."""
+        with socket.socket(socket.AF_INET, socket.SOCK_DGRAM) as it:
+            it.settimeout(LONG)
+            it.sendto(PROBE, ("127.0.0.1", port))
+            return int.from_bytes(it.recv(9000)[123:131], "big")
+
+    def send(self, ports, many):
+        """Sends so many datagrams that do not read to each of these ports."""
         with socket.socket(socket.AF_INET, socket.SOCK_DGRAM) as stranger:
-            while time.monotonic() < end:
-                for port in ports * many:
-                    stranger.sendto(b"nothing", ("127.0.0.1", port))
-                rounds += 1
-                time.sleep(pause)
-        return rounds
+            for port in ports * many:
+                stranger.sendto(b"nothing", ("127.0.0.1", port))
 
     def test_a_cluster_elects_and_grants(self):
         cluster, leader = self.cluster()
@@ -51,16 +53,22 @@ class TicksTest(unittest.TestCase):
 
     def test_what_comes_fast_brings_no_ticks(self):
         cluster, leader = self.cluster()
-        before = self.terms(cluster)
-        self.assertGreater(self.send(cluster, leader, 64, 0.005), 64)
-        self.assertEqual(self.terms(cluster), before)
+        port = next(port for node, port in cluster.ports.items() if node != leader)
+        began, before = time.monotonic(), self.periods(port)
+        for _ in range(100):  # by datagrams each 64 bring a tick
+            self.send([port], 64)
+            time.sleep(0.005)
+        self.assertLess(self.periods(port) - before, 10 * (time.monotonic() - began) + 2)
 
     def test_what_comes_without_a_pause_prevents_no_ticks(self):
         cluster, leader = self.cluster()
-        before = self.terms(cluster)
+        ports = [port for node, port in cluster.ports.items() if node != leader]
+        before, end = self.terms(cluster), time.monotonic() + LONG
         cluster.kill(leader)
-        self.send(cluster, leader, 1, 0.05)
-        self.assertGreater(self.terms(cluster), before)
+        while self.terms(cluster) == before:
+            self.assertLess(time.monotonic(), end)
+            self.send(ports, 1)
+            time.sleep(0.05)
 
 
 if __name__ == "__main__":

@@ -18,7 +18,7 @@ import tempfile
 
 TOP = pathlib.Path(__file__).resolve().parent.parent
 CALLERS = TOP / "tools" / "callers"
-SECONDS = 600  # of one program; the schedules take two minutes
+SECONDS = 3600  # of one program; the schedules take two minutes, and longer on a busy machine
 
 
 def told(text, mark):

@@ -13,8 +13,8 @@ alone, asks only that the crate is refused, and passes over these lines.
 A line `named: TEXT` after a line `refused:` names the wrong body that this function shows, one that must be refused by
 itself. With --named the script takes each such function of the crates (of all where none is given), applies only the
 pairs that change it, and checks that the prover refuses it. A file with one line `refused:` is one wrong body as a
-whole, also where it changes what its function calls, and is left to the gate, which tries nothing else in it. The last
-line is `N passed, M failed`; --list prints the named bodies and tries none.
+whole, also where it changes what its function calls. One of must-fail is left to the gate, which tries nothing else in
+it. The last line is `N passed, M failed`; --list prints the named bodies and tries none.
 
 With --applies it only looks whether the text that each pair of each file replaces still stands once in its source, and
 tries nothing: seconds for all crates. The last line is `N passed, M failed`.
@@ -51,8 +51,8 @@ class Edit(NamedTuple):
 
 
 class Body(NamedTuple):
-    """A wrong body that has a name: its crate and edit file, the function, the name, the pairs that make it, and how
-    many others stand beside it."""
+    """A wrong body that has a name: its crate and edit file, the function, the name, the pairs that make it, how many
+    others stand beside it, and whether its file is one of must-fail."""
 
     crate: str
     title: str
@@ -60,6 +60,7 @@ class Body(NamedTuple):
     name: str
     changes: list
     others: int
+    is_in_gate: bool
 
 
 def below(name, lines):
@@ -153,10 +154,10 @@ def refused(name, crate):
 
 
 def edits(name):
-    """The titles of a crate's edit files, and what stands in each."""
+    """The titles of a crate's edit files, what stands in each, and whether it is one of must-fail."""
     for folder in ("must-fail", "plants"):
         for path in sorted(glob.glob(f"crates/{name}/{folder}/*.edit")):
-            yield os.path.basename(path)[:-5], parts(path)
+            yield os.path.basename(path)[:-5], parts(path), folder == "must-fail"
 
 
 def changed_function(crate, change):
@@ -181,7 +182,7 @@ def is_of(function, changed):
 
 def named_bodies(crate):
     """The wrong bodies of a crate that have a name."""
-    for title, edit in edits(crate):
+    for title, edit, is_in_gate in edits(crate):
         places = [(changed_function(f"crates/{crate}", change), change) for change in edit.changes]
         for function, name in edit.named.items():
             own = [change for changed, change in places if is_of(function, changed)]
@@ -189,7 +190,7 @@ def named_bodies(crate):
                 own = edit.changes
             if not own:
                 sys.exit(f"{title}: no pair changes {function}")
-            yield Body(crate, title, function, name, own, len(edit.changes) - len(own))
+            yield Body(crate, title, function, name, own, len(edit.changes) - len(own), is_in_gate)
 
 
 def is_refused(body, crate):
@@ -205,10 +206,10 @@ def is_refused(body, crate):
 
 
 def try_named(crates):
-    """Tries each named body that stands beside others in its file. The status."""
+    """Tries each named body that the gate does not try by itself. The status."""
     passed = failed = 0
     for crate in crates:
-        bodies = [body for body in named_bodies(crate) if body.others]
+        bodies = [body for body in named_bodies(crate) if body.others or not body.is_in_gate]
         if not bodies:
             continue
         with tempfile.TemporaryDirectory() as folder:
@@ -232,7 +233,7 @@ def try_files(name, picked):
     bad = False
     with tempfile.TemporaryDirectory() as folder:
         crate = copied(name, folder)
-        for title, edit in edits(name):
+        for title, edit, _ in edits(name):
             if picked and title not in picked:
                 continue
             kept = apply(crate, edit.changes)
@@ -260,7 +261,7 @@ def try_texts():
     """Looks whether each file applies. The status."""
     tally = Tally()
     for crate in sorted(glob.glob("crates/*")):
-        for title, edit in edits(os.path.basename(crate)):
+        for title, edit, _ in edits(os.path.basename(crate)):
             tally.row(f"{crate}, {title}", "; ".join(misfits(crate, edit.changes)))
     tally.end()
 

@@ -25,7 +25,7 @@ def is_as_written(program, script):
 
 def is_shown(program, script):
     """Whether the script, which starts the program itself, prints and ends as what stands beside it says."""
-    run = subprocess.run([sys.executable, script, program], stdout=subprocess.PIPE, timeout=60)
+    run = subprocess.run([sys.executable, script, program], stdout=subprocess.PIPE, timeout=600)
     return (run.stdout, run.returncode) == (script.with_suffix(".out").read_bytes(), 0)
 
 

@@ -27,7 +27,7 @@ OF_DISKS = re.compile(r"(?m)^disk .*\n")  # a group syncs once, so it may sync m
 def printed(program, lines):
     """What a script prints and leaves, and how it ends."""
     text = "".join(f"{line}\n" for line in lines)
-    run = subprocess.run([program, "sim", "--state"], input=text, capture_output=True, text=True, timeout=60)
+    run = subprocess.run([program, "sim", "--state"], input=text, capture_output=True, text=True, timeout=600)
     return run.stdout, run.stderr, run.returncode
 
 
@@ -90,7 +90,7 @@ def scripts(program, count):
         events = str(EVENTS[number % len(EVENTS)])
         nudges = ["--nudges"] * (number % 2)
         words = [program, "fuzz", "--start", str(number), "--events", events, "--script", *word, *nudges]
-        script = subprocess.run(words, capture_output=True, text=True, timeout=60, check=True).stdout
+        script = subprocess.run(words, capture_output=True, text=True, timeout=600, check=True).stdout
         yield f"schedule {number}", script.splitlines()
 
 

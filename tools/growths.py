@@ -42,7 +42,7 @@ class Refuser:
     def run(self, lines, at=0, words=("sim",)):
         """What comes of the lines, as status, output and standard error, and how many requests for memory they made."""
         environment = {**os.environ, "LD_PRELOAD": self.library, "REFUSE_AT": str(at)}
-        how = {"capture_output": True, "env": environment, "timeout": 60}
+        how = {"capture_output": True, "env": environment, "timeout": 600}
         run = subprocess.run([self.program, *words], input=b"".join(lines), **how)
         err, told, requests = run.stderr.rpartition(b"requests ")
         if not told or not int(requests):

@@ -50,7 +50,7 @@ class Cluster:
     def run(self, more, *words):
         """What the script prints with these lines more."""
         text = "".join(f"{line}\n" for line in (*self.lines, *more))
-        piped = {"input": text, "capture_output": True, "text": True, "timeout": 60}
+        piped = {"input": text, "capture_output": True, "text": True, "timeout": 600}
         printed = subprocess.run([self.program, "sim", *words], **piped).stdout
         if wrong := WRONG.search(printed):
             raise Unhealed(wrong[0])
@@ -131,7 +131,7 @@ class Cluster:
 def healed(program, number):
     """In how many rounds the cluster of a schedule heals, and without a minority, if there is one; or why not."""
     words = ["fuzz", "--start", str(number), "--events", str(EVENTS[number % len(EVENTS)]), "--groups", "--script"]
-    script = subprocess.run([program, *words], capture_output=True, text=True, timeout=60, check=True).stdout
+    script = subprocess.run([program, *words], capture_output=True, text=True, timeout=600, check=True).stdout
     cluster = Cluster(program, script.splitlines())
     try:
         cluster.restart()

@@ -15,7 +15,7 @@ import tempfile
 from scripting import TOP, Tally, parser
 
 FOLDERS = ("", "tools", "tools/systemd", "bench", "clients", "examples/one_writer", "examples/tour_11_waiters")
-SECONDS = 30
+SECONDS = 300  # only a hang takes as long
 
 
 def scripts():

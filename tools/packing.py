@@ -15,7 +15,7 @@ PAGES = tuple(f"docs/{it}.md" for it in DOCS)
 OF_PYTHON = ("python/locks_client/**/*", "python/backend/*.py", "python/pyproject.toml", "python/README.md")
 OF_RUST = ("rust/Cargo.*", "rust/build.rs", "rust/src/**/*", "rust/README.md")
 OF_GO = ("go/go.mod", "go/README.md", "go/**/*.go")
-UNIT = "tools/systemd/locks@.service"
+UNITS = ("locks@.service", "locks-scrub@.service", "locks-scrub@.timer")
 STATUS = """.SH EXIT STATUS
 .TP
 .B 0
@@ -97,7 +97,7 @@ def contents(program):
     files = {"locks": program.read_bytes(), "locks.1": manual(program).encode()}
     files["README.md"] = (TOP / "tools/PACKAGE.md").read_bytes()
     clients = [it for name in OF_PYTHON + OF_RUST + OF_GO for it in (TOP / "clients").glob(name)]
-    for it in [TOP / it for it in (*PAGES, UNIT)] + clients:
+    for it in [TOP / it for it in (*PAGES, *(f"tools/systemd/{it}" for it in UNITS))] + clients:
         if it.is_file() and it.suffix != ".pyc" and not it.name.endswith("_test.go"):
             files[str(it.relative_to(TOP))] = it.read_bytes()
     sums = "".join(f"{hashlib.sha256(files[name]).hexdigest()}  {name}\n" for name in sorted(files))

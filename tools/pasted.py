@@ -27,7 +27,7 @@ BLOCK = re.compile(r"(?m)^(?:<!-- (not pasted|numbers differ)\b.*-->\n)?```(sh|t
 COMMENT = re.compile(r" +# (.*)$")
 PORT = re.compile(r"(?:\d:|--port |join \d )(\d{4,5})\b")
 MARK = "\x1e"  # between what two commands print
-SECONDS = 180
+SECONDS = 1800  # only a hang takes as long
 WRAPPER = '#!/bin/sh\n[ "$*" = --path ] && echo "{program}" && exit\nexec "{program}" "$@"\n'
 
 

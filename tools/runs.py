@@ -77,7 +77,7 @@ class Row:
                     pathlib.Path(folder, file).write_bytes(text)
                     pathlib.Path(folder, file).chmod(0o600 if file in self.secret else 0o644)
             out = to if self.to else subprocess.PIPE
-            how = {"stdout": out, "stderr": subprocess.PIPE, "cwd": folder, "timeout": 60}
+            how = {"stdout": out, "stderr": subprocess.PIPE, "cwd": folder, "timeout": 600}
             run = subprocess.run([program, *words], input=given, **how)
         err = bool(run.stderr) if self.is_told else run.stderr == b"".join(self.err)
         met = err and run.returncode == self.status and (run.stdout or b"") == b"".join(self.out)

@@ -15,13 +15,14 @@ many as are missing are started. A new request has to be answered within 130 rou
 
 This is a test and no theorem. The last line is `N passed, M failed`, of schedules, and the status is 1 if one failed.
 The line in front of it has the slowest schedule, how many schedules left no first member, and in how many further
-members were started."""
+members were started; those before have the rounds by what happened: at the median and at most."""
 import collections
 import concurrent.futures
 import itertools
 import os
 import random
 import re
+import statistics
 import subprocess
 
 from heal import CLIENTS, LATER, SENT, TICKS_A_NUDGE, Cluster, Unhealed, minority
@@ -32,7 +33,7 @@ NODES = "1234567"
 ANSWERED = re.compile(r"(?m)^answered \d+ (\d+) ")
 FIRST_CHANGER = 100  # the clients from this one on ask for a join or a leave each; those below it for a lock each
 
-Result = collections.namedtuple("Result", "rounds number is_replaced is_later")
+Result = collections.namedtuple("Result", "rounds number is_replaced is_later kind")
 
 
 class Survivors(Cluster):
@@ -40,7 +41,7 @@ class Survivors(Cluster):
 
     def __init__(self, program, lines, draws):
         super().__init__(program, lines)
-        self.draws, self.is_replaced, self.is_later = draws, False, False
+        self.draws, self.is_replaced, self.is_later, self.kind = draws, False, False, "drawn by locks fuzz"
         self.first = {it.split(":")[0] for it in lines[0].split()[3:]}
         self.ticks = collections.Counter({node: draws.randrange(TICKS_A_NUDGE) for node in NODES})
         self.up = {node for node, is_up, *_ in self.left() if is_up}
@@ -176,6 +177,7 @@ class Drawn(Survivors):
     def replace(self):
         """Replaces all members, in one burst, or each one where the last change is answered."""
         changes, is_burst = self.replacement(), self.draws.random() < 0.6
+        self.kind = "all first members replaced " + ("in one burst" if is_burst else "one after another")
         while changes:
             for words in changes if is_burst else changes[:1]:
                 self.ask(words)
@@ -188,6 +190,7 @@ class Drawn(Survivors):
 
     def happen(self, is_replaced):
         """The whole schedule."""
+        self.kind = "changes of single members"
         self.go_on(self.draws.randint(5, 40))
         for number in range(self.draws.choice((0, 0, 20, 40))):
             self.ask(f"acquire b{number}")
@@ -200,7 +203,7 @@ class Drawn(Survivors):
 def fuzzed(program, number, draws):
     """A cluster after a schedule that the program draws."""
     words = ["--start", str(number), "--events", str(draws.randint(40, 400)), "--groups", "--nudges", "--script"]
-    script = subprocess.run([program, "fuzz", *words], capture_output=True, text=True, timeout=60, check=True).stdout
+    script = subprocess.run([program, "fuzz", *words], capture_output=True, text=True, timeout=600, check=True).stdout
     return Survivors(program, script.splitlines(), draws)
 
 
@@ -216,9 +219,18 @@ def survived(program, number):
     try:
         cluster = (drawn if number % 4 else fuzzed)(program, number, random.Random(number))
         cluster.leave_few()
-        return Result(cluster.rounds(CLIENTS[0], ROUNDS), number, cluster.is_replaced, cluster.is_later)
+        rounds = cluster.rounds(CLIENTS[0], ROUNDS)
+        return Result(rounds, number, cluster.is_replaced, cluster.is_later, cluster.kind)
     except Unhealed as why:
         return f"schedule {number}: {why}"
+
+
+def by_kind(results):
+    """A line for each kind of schedule."""
+    for kind in sorted({it.kind for it in results}):
+        rounds = [it.rounds for it in results if it.kind == kind]
+        median, most = statistics.median(rounds), max(rounds)
+        yield f"{kind}: {len(rounds)}, in {median:.0f} rounds at the median and {most} at most"
 
 
 def main():
@@ -232,7 +244,8 @@ def main():
     wrong = [it for it in found if isinstance(it, str)]
     right = [it for it in found if not isinstance(it, str)]
     print(*wrong, sep="\n", end="\n" * bool(wrong))
-    slowest = max(right, default=Result(0, 0, False, False))
+    print(*by_kind(right), sep="\n")
+    slowest = max(right, default=Result(0, 0, False, False, ""))
     print(
         f"{len(right)} answered, the slowest, {slowest.number}, in {slowest.rounds} rounds; "
         f"{sum(it.is_replaced for it in right)} without a first member, "

@@ -38,7 +38,7 @@ NEXT_RAN = "ran 1 257 256 2\nanswered 1 256 2 held 1 1\n"
 
 def printed(program, lines):
     script = "".join(f"{line}\n" for line in lines)
-    run = subprocess.run([program, "sim"], input=script, capture_output=True, text=True, timeout=60)
+    run = subprocess.run([program, "sim"], input=script, capture_output=True, text=True, timeout=600)
     return run.stdout + run.stderr
 
 
