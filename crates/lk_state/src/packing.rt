@@ -70,7 +70,7 @@ impl<M: Machine> Whole<M> {
     pub fn facts(&self)
         ensures fits { IsWhole M.IsText self.now }
         ensures some { 1 ≤ length (packed self.now) }
-        ensures short { length (packed self.now) ≤ 37406 }
+        ensures short { length (packed self.now) ≤ 42087 }
     {
         let _ = &self.roster;
     }
