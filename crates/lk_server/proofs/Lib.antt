@@ -10,4 +10,3 @@ mod Gatherings
 mod PeriodEnds
 mod Turning
 mod Waiting
-mod Digesting

@@ -6,5 +6,4 @@ pub mod Pauses
 pub mod Probes
 pub mod ProbeHandling
 pub mod WatchHandling
-pub mod StateDigests
 pub mod Premises

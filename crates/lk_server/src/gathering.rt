@@ -12,7 +12,6 @@ ghost use Rattle.lk_node.specs.Calls.{heard_by};
 ghost use Rattle.lk_server_replica.specs.Groups.{GathersMore, SaysNoMore};
 ghost use Rattle.lk_server.specs.Gatherings.{Finds, AddsAll, EndsWithin, AddsLoopback, EndsLoopback, AddsWaiting};
 ghost use Rattle.lk_server.specs.Gatherings.{AddsGroup, ChangesInTurn};
-ghost use Rattle.lk_server.specs.StateDigests.{KeepsDigestsWithin};
 ghost use Rattle.lk_server.specs.Gatherings.{EndsGroup, ChangesAtDatagram, ChangesAtLetter, ChangesInGroup};
 ghost use Rattle.lk_transport.specs.Kept.{KeepsOf};
 ghost use Rattle.lk_server.specs.Servers.{EndsPeriod, HasReceived, IsIdle, MayWithhold, TakesPeriodEnd};
@@ -124,9 +123,8 @@ impl<R: ServerReplica, S: DatagramSocket + Drop> Server<R, S> {
             (GathersMore R.Gathers (None ∷ []) group.old group.new self.old.replica self.new.replica) }
         ensures silent { OnErr result
             (SaysNoMore R.Says R.Gathers (None ∷ []) group.old self.old.replica self.new.replica) }
-        // However it ends, that is counted, and the digest of the state is taken then, if one is due.
+        // However it ends, that is counted.
         ensures ticks { self.new.ticks ≡ one_more_tick self.old.ticks }
-        ensures digests { R.KeepsDigest self.new.replica self.old.digest self.new.digest }
         ensures others { self.new
             ≡ record self.old {
               replica = self.new.replica;
@@ -151,7 +149,6 @@ impl<R: ServerReplica, S: DatagramSocket + Drop> Server<R, S> {
     ) -> Result<(), GroupFault>
         ensures adds { OnOk result (AddsAll R.Gathers (datagram.entry ∷ []) group.old group.new self.old self.new) }
         ensures ends { OnErr result (EndsWithin R.Says R.Gathers (datagram.entry ∷ []) group.old self.old self.new) }
-        ensures digests { OnOk result (KeepsDigestsWithin R.Takes R.KeepsDigest group.old group.new self.old self.new) }
         ensures others { ChangesAtDatagram self.old self.new }
         ensures broken { OnErr result (self.new.failed ≡ true) }
     {
@@ -170,7 +167,6 @@ impl<R: ServerReplica, S: DatagramSocket + Drop> Server<R, S> {
             × AddsAll R.Gathers (l.bytes ∷ []) group.old group.new self.old self.new) }
         ensures none { IfOk result
             (λ some. some ≡ false → (self.old.loopback ≡ []) × (self.new ≡ self.old) × (group.new ≡ group.old)) }
-        ensures digests { OnOk result (KeepsDigestsWithin R.Takes R.KeepsDigest group.old group.new self.old self.new) }
         ensures ends { OnErr result
             ((l : LetterValue) × (self.old.loopback ≡ l ∷ self.new.loopback)
             × EndsWithin R.Says R.Gathers (l.bytes ∷ []) group.old self.old self.new) }
@@ -189,7 +185,6 @@ impl<R: ServerReplica, S: DatagramSocket + Drop> Server<R, S> {
     // Adds further letters of the node to itself to the group, in order, at most 63.
     fn add_loopbacks<L: Log>(&mut self, group: &mut Group, log: &L) -> Result<(), GroupFault>
         ensures adds { OnOk result (AddsLoopback R.Gathers 63 group.old group.new self.old self.new) }
-        ensures digests { OnOk result (KeepsDigestsWithin R.Takes R.KeepsDigest group.old group.new self.old self.new) }
         ensures ends { OnErr result (EndsLoopback R.Says R.Gathers 63 group.old self.old self.new) }
         ensures others { ChangesAtLetter self.old self.new }
         ensures broken { OnErr result (self.new.failed ≡ true) }
@@ -225,7 +220,6 @@ impl<R: ServerReplica, S: DatagramSocket + Drop> Server<R, S> {
         ensures ends { OnErr result
             ((frames : List (Address × List ℕ))
             × EndsGroup R.Says R.Gathers S.is_observable frames group.old self.old self.new) }
-        ensures digests { OnOk result (KeepsDigestsWithin R.Takes R.KeepsDigest group.old group.new self.old self.new) }
         ensures others { ChangesInGroup self.old self.new }
         ensures broken { OnErr result (self.new.failed ≡ true) }
     {
@@ -272,7 +266,6 @@ impl<R: ServerReplica, S: DatagramSocket + Drop> Server<R, S> {
         ensures ends { OnErr result
             ((frames : List (Address × List ℕ))
             × EndsGroup R.Says R.Gathers S.is_observable frames group.old self.old self.new) }
-        ensures digests { OnOk result (KeepsDigestsWithin R.Takes R.KeepsDigest group.old group.new self.old self.new) }
         ensures others { ChangesInTurn self.old self.new }
         ensures broken { OnErr result (self.new.failed ≡ true) }
     {

@@ -10,7 +10,6 @@ ghost use Rattle.lk_transport.specs.Kept.{KeepsOf};
 ghost use Rattle.lk_server_replica.specs.Refusals.{IsOfGroups};
 ghost use Rattle.lk_server.specs.Servers.{DeliversLetters, DeliversNothing, HasHeardNobody, HasReceived, IsSameServer};
 ghost use Rattle.lk_server.specs.Servers.{KeepsCounts, LastTurn};
-ghost use Rattle.lk_server.specs.StateDigests.{TurnsDigestOrKeeps};
 ghost use Rattle.lk_server.specs.Servers.{Runs, IsConfiguredAs, HasSocket, TurnOrIdle, Turn, one_more_tick};
 
 use crate::group_fault::GroupFault;
@@ -303,10 +302,6 @@ pub fn node_turn<R: ServerReplica, S: DatagramSocket + Drop, C: Clock, L: Log>(
         ((frames : List (Address × List ℕ)) × HasReceived S.is_observable frames server.old server.new
         × TurnOrIdle R.Says S.is_observable frames server.old server.new
         × KeepsOf server.old.addresses.seals frames buffer.old buffer.new) }
-    // The digest that it reports is the one before, or that of the state which the replica had after one of the inputs
-    // of the group, at a multiple of 64 positions.
-    ensures digests { OnOk result
-        (TurnsDigestOrKeeps R.Says R.Gathers R.Takes R.KeepsDigest S.is_observable server.old server.new) }
     // After an error nothing of the group is sent.
     ensures ends { OnErr result
         ((frames : List (Address × List ℕ)) × HasReceived S.is_observable frames server.old server.new

@@ -9,7 +9,6 @@ ghost use Rattle.std.specs.declared.net.socket_addr.SocketAddr.{SocketAddr as Ad
 ghost use Rattle.lk_address_book.specs.Addresses.{filter_of, IsSameFilter};
 ghost use Rattle.lk_server.specs.Gatherings.{Finds, AddsHeard, EndsHeard, AddsFromSocket, EndsSocket, AddsWaiting};
 ghost use Rattle.lk_server.specs.Gatherings.{EndsGroup, ChangesAtFrame, ChangesAtSocket};
-ghost use Rattle.lk_server.specs.StateDigests.{KeepsDigestsWithin};
 ghost use Rattle.lk_transport.specs.Streams.{Receives, ComeWithin, first_of, listed};
 ghost use Rattle.lk_address_book.specs.Senders.{RecordsSender};
 ghost use Rattle.lk_address_book.specs.Filters.{is_filtered_out};
@@ -128,7 +127,6 @@ impl<R: ServerReplica, S: DatagramSocket + Drop> Server<R, S> {
             buffer.new) }
         ensures rest { IfOk result (λ found. (found ≡ TurnInput.Filtered → ⊥) → buffer.new ≡ buffer.old) }
         ensures spares { OnErr result (buffer.new ≡ buffer.old) }
-        ensures digests { OnOk result (KeepsDigestsWithin R.Takes R.KeepsDigest group.old group.new self.old self.new) }
         ensures others { ChangesAtFrame self.old self.new }
         ensures broken { OnErr result (self.new.failed ≡ true) }
     {
@@ -180,7 +178,6 @@ impl<R: ServerReplica, S: DatagramSocket + Drop> Server<R, S> {
         ensures ends { OnErr result
             ((frame : Address × List ℕ) × (is_filtered_out (filter_of self.old.addresses) frame ≡ false)
             × EndsSocket R.Says R.Gathers S.is_observable 1 (frame ∷ []) group.old self.old self.new) }
-        ensures digests { OnOk result (KeepsDigestsWithin R.Takes R.KeepsDigest group.old group.new self.old self.new) }
         ensures others { ChangesAtSocket self.old self.new }
         ensures broken { OnErr result (self.new.failed ≡ true) }
     {
@@ -210,7 +207,6 @@ impl<R: ServerReplica, S: DatagramSocket + Drop> Server<R, S> {
         ensures ends { OnErr result
             ((frame : Address × List ℕ)
             × EndsSocket R.Says R.Gathers S.is_observable 2 (frame ∷ []) group.old self.old self.new) }
-        ensures digests { OnOk result (KeepsDigestsWithin R.Takes R.KeepsDigest group.old group.new self.old self.new) }
         ensures others { ChangesAtSocket self.old self.new }
         ensures broken { OnErr result (self.new.failed ≡ true) }
     {
@@ -243,7 +239,6 @@ impl<R: ServerReplica, S: DatagramSocket + Drop> Server<R, S> {
             ((frames : List (Address × List ℕ)) × (length frames ≤ 63)
             × EndsSocket R.Says R.Gathers S.is_observable (2 * length frames + 2) frames group.old
             self.old self.new) }
-        ensures digests { OnOk result (KeepsDigestsWithin R.Takes R.KeepsDigest group.old group.new self.old self.new) }
         ensures others { ChangesAtSocket self.old self.new }
         ensures broken { OnErr result (self.new.failed ≡ true) }
     {
@@ -280,7 +275,6 @@ impl<R: ServerReplica, S: DatagramSocket + Drop> Server<R, S> {
         ensures ends { OnErr result
             ((frames : List (Address × List ℕ))
             × EndsGroup R.Says R.Gathers S.is_observable frames group.old self.old self.new) }
-        ensures digests { OnOk result (KeepsDigestsWithin R.Takes R.KeepsDigest group.old group.new self.old self.new) }
         ensures others { ChangesAtSocket self.old self.new }
         ensures broken { OnErr result (self.new.failed ≡ true) }
     {

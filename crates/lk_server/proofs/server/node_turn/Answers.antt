@@ -4,7 +4,6 @@ use Rattle.lk_transport.specs.Kept.{KeepsOf}
 use Rattle.lk_server.specs.Servers.{ServerValue, HasReceived, TurnOrIdle}
 use Rattle.lk_server.proofs.Carrying.{on_err}
 use Rattle.lk_server.proofs.Turning.{same_by, received_on, turn_of, last_of, last_within}
-use Rattle.lk_server.specs.StateDigests.{TurnsDigestOrKeeps}
 use Rattle.lk_server.proofs.server.node_turn.Goals as goal
 
 pub returns-then-not-branch-clause-turn : goal.returns-then-not-branch-clause-turn
@@ -64,22 +63,3 @@ returns-in_err-fill_group-clause-ends g c =
           (ap (λ (s : ServerValue _). s.sent) o) (ap (λ (s : ServerValue _). s.socket_failures) o)
           (same_by c.args.server.now c.fill_group.new.self o) c.in_err-fill_group.ensures.broken,
     )
-
-pub returns-then-not-branch-clause-digests : goal.returns-then-not-branch-clause-digests
-returns-then-not-branch-clause-digests g c =
-    let same = (c.in_ok-fill_group.ensures.idle (cc c.if-not-branch.true)).2.same in
-    inr (ap (λ (s : ServerValue _). s.replica) same, ap (λ (s : ServerValue _). s.digest) same)
-
-pub returns-clause-digests : goal.returns-clause-digests
-returns-clause-digests g c =
-    let r = g.R.ServerReplica in
-    subst (λ (s : ServerValue _). TurnsDigestOrKeeps r.Says r.Gathers r.Takes r.KeepsDigest
-    g.S.DatagramSocket.is_observable c.args.server.now s) (sym c.note_sync.ensures) (inl (record {
-      group = c.new_group-group.result;
-      begins = c.new_group-group.ensures;
-      now = c.fill_group.new.group;
-      mid = c.fill_group.new.self;
-      keeps = c.in_ok-fill_group.ensures.digests;
-      releases = c.in_ok-end_group.ensures.gives;
-      same = c.end_group.ensures.counts.digest;
-    }))

@@ -1,6 +1,4 @@
-use Rattle.lk_server.specs.StateDigests.{nothing}
-use Rattle.lk_server.proofs.Digesting.{digests_after}
-use Rattle.std.proofs.Common.{rules, ◌≡◌, refl}
+use Rattle.std.proofs.Common.{rules, ◌≡◌}
 use Rattle.lk_server.proofs.Carrying.{on_err}
 use Rattle.lk_server.proofs.Gatherings.{gathers_from, silent_from, takes_one, takes_tick, ends_one, ends_tick}
 use Rattle.lk_server.proofs.server.Server.add_datagram.Goals as goal
@@ -39,20 +37,3 @@ returns-in_err-add_tick-clause-ends g c =
     c.add_tick.new.self c.add_input.new.self.replica c.add_input.new.self.received c.add_input.new.self.pace
     (gathers_from r.Gathers _ _ _ _ _ _ replica c.in_ok-add_input.ensures.gathers) c.in_err-add_tick.ensures.silent
     (search rules) (search rules) (search rules) c.add_input.new.self.ticks (search rules) c.add_tick.ensures.ticks)
-
-pub returns-else-ticks_after-clause-digests : goal.returns-else-ticks_after-clause-digests
-returns-else-ticks_after-clause-digests g c =
-    let r = g.R.ServerReplica in
-    digests_after r.Takes r.KeepsDigest _ c.args.group.now c.args.group.now c.add_input.new.group
-    c.args.self.now c.args.self.now c.self.inside c.add_input.new.self nothing (search rules) (search rules)
-    c.in_ok-add_input.ensures.takes c.add_input.ensures.digests
-
-pub returns-in_ok-add_tick-clause-digests : goal.returns-in_ok-add_tick-clause-digests
-returns-in_ok-add_tick-clause-digests g c =
-    let r = g.R.ServerReplica in
-    let tick = c.in_ok-add_tick.ensures.takes in
-    digests_after r.Takes r.KeepsDigest tick.input c.args.group.now c.add_input.new.group c.add_tick.new.group
-    c.args.self.now c.add_input.new.self c.add_input.new.self c.add_tick.new.self
-    (digests_after r.Takes r.KeepsDigest _ c.args.group.now c.args.group.now c.add_input.new.group
-    c.args.self.now c.args.self.now c.self.inside c.add_input.new.self nothing (search rules) (search rules)
-    c.in_ok-add_input.ensures.takes c.add_input.ensures.digests) refl refl tick.takes c.add_tick.ensures.digests

@@ -1,4 +1,4 @@
-use Rattle.std.proofs.Common.{◌≡◌, ◌∙◌, refl, sym, ap}
+use Rattle.std.proofs.Common.{◌≡◌, ◌∙◌, sym, ap}
 use Rattle.lk_pacing.specs.declared.turn_input.TurnInput.TheVariants.{Filtered, Something}
 use Rattle.lk_address_book.specs.Addresses.{filter_of}
 use Rattle.lk_server.specs.Servers.{ServerValue}
@@ -9,7 +9,6 @@ use Rattle.lk_server.proofs.Gatherings.{socket_one, ends_socket, finds, still_no
 use Rattle.lk_server.proofs.server.Server.add_first_datagram.Goals as goal
 use Rattle.lk_transport.specs.ReceiveBuffers.{BufferValue}
 use Rattle.lk_transport.specs.Streams.{listed}
-use Rattle.lk_server.proofs.Digesting.{digests_as, on_ok_so}
 use Rattle.lk_transport.proofs.Streaming.{come_one}
 
 pub returns-clause-adds : goal.returns-clause-adds
@@ -68,12 +67,3 @@ returns-clause-ends g c =
           (l.comes telling)) l.others
           (ap (λ (s : ServerValue _). s.incoming) h.others) e.3,
     )) h.ends
-
-pub returns-clause-digests : goal.returns-clause-digests
-returns-clause-digests g c =
-    let r = g.R.ServerReplica in
-    let l = c.receive.ensures.others in
-    on_ok_so c.add_received.result (digests_as r.Takes r.KeepsDigest c.args.group.now c.add_received.new.group
-    c.args.self.now c.receive.new.self c.add_received.new.self c.add_received.new.self
-    (ap (λ (s : ServerValue _). s.replica) l) (ap (λ (s : ServerValue _). s.digest) l) refl refl)
-    c.add_received.ensures.digests

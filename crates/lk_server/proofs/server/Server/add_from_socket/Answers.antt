@@ -6,7 +6,6 @@ use Rattle.lk_server.proofs.Asking.{keeps_more}
 use Rattle.lk_server.proofs.Carrying.{on_err}
 use Rattle.lk_server.proofs.Gatherings.{socket_more, ends_further}
 use Rattle.lk_server.proofs.Turning.{socket_group, socket_ends}
-use Rattle.lk_server.proofs.Digesting.{digests_both}
 use Rattle.lk_server.proofs.server.Server.add_from_socket.Goals as goal
 
 pub returns-then-not-is_something-clause-adds : goal.returns-then-not-is_something-clause-adds
@@ -73,10 +72,3 @@ returns-in_err-add_further_datagrams-clause-ends g c =
           c.add_first_datagram.new.self c.add_further_datagrams.new.self
           (ap (λ (s : ServerValue _). s.cluster) one) (omega arith) first.2 e.2).ends,
     )
-
-pub returns-clause-digests : goal.returns-clause-digests
-returns-clause-digests g c =
-    let r = g.R.ServerReplica in
-    digests_both r.Takes r.KeepsDigest c.args.group.now c.add_first_datagram.new.group c.add_further_datagrams.new.group
-    c.args.self.now c.add_first_datagram.new.self c.add_further_datagrams.new.self c.in_ok-found.ensures.digests
-    c.in_ok-add_further_datagrams.ensures.digests

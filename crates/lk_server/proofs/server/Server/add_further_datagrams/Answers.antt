@@ -1,5 +1,3 @@
-use Rattle.lk_server.specs.StateDigests.{nothing}
-use Rattle.lk_server.proofs.Digesting.{digests_both}
 use Rattle.std.proofs.Common.{◌≡◌, ◌+◌, ◌*◌, [], ◌∷◌, ◌++◌, length, refl, ap, ◌∙◌, length-append, arith}
 use Rattle.lk_address_book.specs.Addresses.{Filter}
 use Rattle.lk_server.specs.Servers.{ServerValue}
@@ -16,7 +14,6 @@ datagrams-init g c = (
       c.args.self.now c.args.self.now refl refl,
   refl,
   keeps_still c.args.self.now.addresses.seals c.args.buffer.now c.args.buffer.now refl refl refl,
-  nothing,
 )
 
 pub datagrams-preserved : goal.datagrams-preserved
@@ -47,9 +44,6 @@ datagrams-preserved g c =
           (t.0 ∷ []) c.args.buffer.now c.datagrams.buffer c.add_next_datagram.new.buffer
           (ap (λ (c : Filter). c.seals) i.2.adds.network.1) i.4 t.2
           (λ unasked untold unwatched. c.has_kept.ensures.none (cc c.if-has_kept.false)),
-      digests_both g.R.ServerReplica.Takes g.R.ServerReplica.KeepsDigest c.args.group.now c.datagrams.group
-          c.add_next_datagram.new.group c.args.self.now c.datagrams.self new i.5
-          c.in_ok-add_next_datagram.ensures.digests,
     )
 
 pub returns-then-not-branch-clause-adds : goal.returns-then-not-branch-clause-adds
@@ -103,15 +97,3 @@ returns-in_err-add_next_datagram-clause-ends g c =
           (e.0 ∷ []) c.args.group.now c.datagrams.group c.args.self.now c.datagrams.self c.add_next_datagram.new.self
           (ap (λ (s : ServerValue _). s.cluster) i.3) (omega (arith, i.1, length-append i.0 (e.0 ∷ []))) i.2 e.1,
     )
-
-pub returns-then-not-branch-clause-digests : goal.returns-then-not-branch-clause-digests
-returns-then-not-branch-clause-digests g c =
-    let r = g.R.ServerReplica in
-    digests_both r.Takes r.KeepsDigest c.args.group.now c.datagrams.group c.add_next_datagram.new.group c.args.self.now
-    c.datagrams.self c.add_next_datagram.new.self c.datagrams.invariant.5 c.in_ok-add_next_datagram.ensures.digests
-
-pub returns-then-has_kept-clause-digests : goal.returns-then-has_kept-clause-digests
-returns-then-has_kept-clause-digests g c = c.datagrams.invariant.5
-
-pub returns-clause-digests : goal.returns-clause-digests
-returns-clause-digests g c = c.datagrams.invariant.5

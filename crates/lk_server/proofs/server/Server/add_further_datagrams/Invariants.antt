@@ -3,7 +3,6 @@
 use Rattle.std.proofs.Common.{◌≡◌, ◌*◌, ℕ, List, length}
 use Rattle.std.specs.declared.net.socket_addr.SocketAddr.{SocketAddr}
 use Rattle.lk_server.specs.Gatherings.{AddsFromSocket}
-use Rattle.lk_server.specs.StateDigests.{KeepsDigestsWithin}
 use Rattle.lk_transport.specs.Kept.{KeepsOf}
 use Rattle.lk_server.proofs.server.Server.add_further_datagrams.Given as goal
 
@@ -22,4 +21,3 @@ invariant-datagrams g l =
       incoming = l.self.incoming;
     })
     × KeepsOf l.fn.self.addresses.seals frames l.fn.buffer l.buffer
-    × KeepsDigestsWithin g.R.ServerReplica.Takes g.R.ServerReplica.KeepsDigest l.fn.group l.group l.fn.self l.self

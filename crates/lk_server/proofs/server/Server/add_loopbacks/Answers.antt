@@ -1,4 +1,3 @@
-use Rattle.lk_server.proofs.Digesting.{digests_both}
 use Rattle.std.proofs.Common.{◌≡◌, [], ◌∷◌, ◌++◌, ap, sym, ◌∙◌, append_assoc, length-append, arith}
 use Rattle.lk_server.specs.Servers.{ServerValue}
 use Rattle.lk_server.proofs.Carrying.{on_err}
@@ -24,8 +23,6 @@ letters-preserved g c =
             ticks = new.ticks;
             loopback = new.loopback;
           }) i.4,
-      digests_both g.R.ServerReplica.Takes g.R.ServerReplica.KeepsDigest c.args.group.now c.letters.group
-          c.add_loopback.new.group c.args.self.now c.letters.self new i.5 c.in_ok-add_loopback.ensures.digests,
     )
 
 pub returns-then-not-branch-clause-adds : goal.returns-then-not-branch-clause-adds
@@ -49,12 +46,3 @@ returns-in_err-add_loopback-clause-ends g c =
     on_err c.from_residual.result
     (own_breaks g.R.ServerReplica.Says g.R.ServerReplica.Gathers i.0 e.0 c.args.group.now c.letters.group
     c.args.self.now c.letters.self c.add_loopback.new.self i.1 (omega (arith, i.2, c.letters-test.true)) e.1 i.3 e.2)
-
-pub returns-then-not-branch-clause-digests : goal.returns-then-not-branch-clause-digests
-returns-then-not-branch-clause-digests g c =
-    let r = g.R.ServerReplica in
-    digests_both r.Takes r.KeepsDigest c.args.group.now c.letters.group c.add_loopback.new.group c.args.self.now
-    c.letters.self c.add_loopback.new.self c.letters.invariant.5 c.in_ok-add_loopback.ensures.digests
-
-pub returns-clause-digests : goal.returns-clause-digests
-returns-clause-digests g c = c.letters.invariant.5

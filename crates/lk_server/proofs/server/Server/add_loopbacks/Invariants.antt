@@ -3,7 +3,6 @@ use Rattle.std.proofs.Common.{◌≡◌, List, [], ◌++◌, length}
 use Rattle.lk_node_interface.specs.Letters.{LetterValue}
 use Rattle.lk_server.specs.Gatherings.{AddsAll}
 use Rattle.lk_server.specs.Servers.{datagrams_in}
-use Rattle.lk_server.specs.StateDigests.{KeepsDigestsWithin}
 use Rattle.lk_server.proofs.server.Server.add_loopbacks.Given as goal
 
 abbrev pub invariant-letters : goal.invariant-letters
@@ -18,4 +17,3 @@ invariant-letters g l =
       ticks = l.self.ticks;
       loopback = l.self.loopback;
     })
-    × KeepsDigestsWithin g.R.ServerReplica.Takes g.R.ServerReplica.KeepsDigest l.fn.group l.group l.fn.self l.self

@@ -1,4 +1,4 @@
-use Rattle.std.proofs.Common.{rules, refl, ap, ◌∙◌}
+use Rattle.std.proofs.Common.{rules, ap, ◌∙◌}
 use Rattle.lk_address_book.specs.Addresses.{filter_of}
 use Rattle.lk_server.specs.Servers.{ServerValue}
 use Rattle.lk_server.proofs.FilteredOut.{not_beside}
@@ -6,7 +6,6 @@ use Rattle.lk_server.proofs.Asking.{keeps_given, keeps_beside}
 use Rattle.lk_server.proofs.Carrying.{on_err}
 use Rattle.lk_server.proofs.Gatherings.{socket_one, socket_beside, ends_socket, none_came, still_not_out}
 use Rattle.lk_server.proofs.server.Server.add_next_datagram.Goals as goal
-use Rattle.lk_server.proofs.Digesting.{digests_as}
 use Rattle.lk_transport.specs.ReceiveBuffers.{BufferValue}
 
 pub returns-in-Something-clause-adds : goal.returns-in-Something-clause-adds
@@ -67,30 +66,3 @@ returns-in_err-add_received-clause-ends g c =
           c.add_received.new.self e.1 l.comes l.others
           (ap (λ (s : ServerValue _). s.incoming) c.add_received.ensures.others) e.3,
     )
-
-pub returns-in-Something-clause-digests : goal.returns-in-Something-clause-digests
-returns-in-Something-clause-digests g c =
-    let r = g.R.ServerReplica in
-    let l = c.receive_or_pause.ensures.others in
-    digests_as r.Takes r.KeepsDigest c.args.group.now c.add_received.new.group c.args.self.now
-    c.receive_or_pause.new.self c.add_received.new.self c.add_received.new.self
-    (ap (λ (s : ServerValue _). s.replica) l) (ap (λ (s : ServerValue _). s.digest) l) refl refl
-    c.in_ok-add_received.ensures.digests
-
-pub returns-in-Filtered-clause-digests : goal.returns-in-Filtered-clause-digests
-returns-in-Filtered-clause-digests g c =
-    let r = g.R.ServerReplica in
-    let l = c.receive_or_pause.ensures.others in
-    digests_as r.Takes r.KeepsDigest c.args.group.now c.add_received.new.group c.args.self.now
-    c.receive_or_pause.new.self c.add_received.new.self c.add_received.new.self
-    (ap (λ (s : ServerValue _). s.replica) l) (ap (λ (s : ServerValue _). s.digest) l) refl refl
-    c.in_ok-add_received.ensures.digests
-
-pub returns-in-Nothing-clause-digests : goal.returns-in-Nothing-clause-digests
-returns-in-Nothing-clause-digests g c =
-    let r = g.R.ServerReplica in
-    let l = c.receive_or_pause.ensures.others in
-    digests_as r.Takes r.KeepsDigest c.args.group.now c.add_received.new.group c.args.self.now
-    c.receive_or_pause.new.self c.add_received.new.self c.add_received.new.self
-    (ap (λ (s : ServerValue _). s.replica) l) (ap (λ (s : ServerValue _). s.digest) l) refl refl
-    c.in_ok-add_received.ensures.digests

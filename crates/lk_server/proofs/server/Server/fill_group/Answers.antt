@@ -1,4 +1,4 @@
-use Rattle.std.proofs.Common.{rules, ◌≡◌, ◌∙◌, ℕ, true, false, List, refl, ap, sym, subst}
+use Rattle.std.proofs.Common.{rules, ◌≡◌, ◌∙◌, ℕ, true, false, List, ap, sym, subst}
 use Rattle.std.specs.declared.net.socket_addr.SocketAddr.{SocketAddr}
 use Rattle.lk_server.specs.Gatherings.{AddsGroup, EndsGroup}
 use Rattle.lk_server.specs.Servers.{ServerValue, HasReceived, IsIdle}
@@ -6,8 +6,6 @@ use Rattle.lk_server.proofs.Carrying.{on_err, apart_by}
 use Rattle.lk_server.proofs.Turning.{untimely_takes, untimely_rests, withheld_takes, withheld_rests}
 use Rattle.lk_server.proofs.Turning.{tick_turn, tick_turn_ends}
 use Rattle.lk_server.proofs.server.Server.fill_group.Goals as goal
-use Rattle.lk_server.specs.StateDigests.{KeepsDigestsWithin}
-use Rattle.lk_server.proofs.Digesting.{digests_after, digests_as}
 use Rattle.lk_transport.specs.Kept.{KeepsOf}
 
 pub returns-then-not-is_due-clause-adds : goal.returns-then-not-is_due-clause-adds
@@ -111,29 +109,3 @@ returns-in_err-add_tick-clause-ends g c =
     (λ m. let both : false ≡ true = sym (cc c.if-withholds.false) ∙ c.withholds.ensures.1 m in cc both)
     c.add_tick.ensures.others c.add_tick.ensures.ticks c.in_ok-found.found a.adds a.none
     (λ same. c.is_due.ensures.given (pace ∙ same)) c.in_err-add_tick.ensures.silent))
-
-pub returns-then-not-is_due-clause-digests : goal.returns-then-not-is_due-clause-digests
-returns-then-not-is_due-clause-digests g c =
-    let r = g.R.ServerReplica in
-    subst (λ (s : ServerValue _). KeepsDigestsWithin r.Takes r.KeepsDigest c.args.group.now c.add_pending.new.group s
-    c.add_pending.new.self) c.set_timeout.ensures c.in_ok-found.ensures.digests
-
-pub returns-then-withholds-clause-digests : goal.returns-then-withholds-clause-digests
-returns-then-withholds-clause-digests g c =
-    let r = g.R.ServerReplica in
-    let w = c.withhold_tick.ensures in
-    let t = c.set_timeout.ensures in
-    digests_as r.Takes r.KeepsDigest c.args.group.now c.add_pending.new.group c.args.self.now c.set_timeout.new.self
-    c.add_pending.new.self c.withhold_tick.new.self (ap (λ (s : ServerValue _). s.replica) t)
-    (ap (λ (s : ServerValue _). s.digest) t) (ap (λ (s : ServerValue _). s.replica) w)
-    (ap (λ (s : ServerValue _). s.digest) w) c.in_ok-found.ensures.digests
-
-pub returns-clause-digests : goal.returns-clause-digests
-returns-clause-digests g c =
-    let r = g.R.ServerReplica in
-    let tick = c.in_ok-add_tick.ensures.takes in
-    digests_after r.Takes r.KeepsDigest tick.input c.args.group.now c.add_pending.new.group c.add_tick.new.group
-    c.args.self.now c.add_pending.new.self c.add_pending.new.self c.add_tick.new.self
-    (subst (λ (s : ServerValue _). KeepsDigestsWithin r.Takes r.KeepsDigest c.args.group.now c.add_pending.new.group s
-    c.add_pending.new.self) c.set_timeout.ensures c.in_ok-found.ensures.digests) refl refl tick.takes
-    c.add_tick.ensures.digests
