@@ -264,7 +264,7 @@ module _ (old : Cluster) (w : IsSound old) where
       })
 
 -- a server as another one, but for what it knows of other addresses, who waits for a name, what has come to its socket
--- and was sent by it, and which ticks it has withheld and counts as silence
+-- and was sent by it, and which ticks it has withheld
 abbrev at_rest : ServerValue ReplicaValue → ServerValue ReplicaValue → ServerValue ReplicaValue
 at_rest server after = record after {
   addresses = server.addresses;
@@ -272,7 +272,6 @@ at_rest server after = record after {
   sent = server.sent;
   socket_failures = server.socket_failures;
   withheld = server.withheld;
-  quiet = server.quiet;
   waiting = server.waiting;
 }
 

@@ -87,8 +87,7 @@ none_withheld old new ds withheld ticks =
 one_withheld : {R : Type 0} (old mid new : ServerValue R) (ds : List (List ℕ)) → mid.pace ≡ old.pace
     → mid.addresses.deaf ≡ old.addresses.deaf → mid.withheld ≡ old.withheld
     → mid.ticks ≡ all_ticks old.ticks (all_inputs old.pace old.received ds)
-    → new ≡ record mid { withheld = one_more_tick mid.withheld; quiet = new.quiet } → MayWithhold mid
-    → Withholding old new
+    → new ≡ record mid { withheld = one_more_tick mid.withheld } → MayWithhold mid → Withholding old new
 one_withheld {R} old mid new ds pace deaf withheld ticks same m =
     let still : mid.ticks ≡ old.ticks =
     ticks ∙ no_ticks old.pace old.received old.ticks ds (sym pace ∙ m.withholds.clock) in
@@ -140,7 +139,6 @@ pub same_by : {R : Type 0} (old new : ServerValue R)
       replica = new.replica;
       failed = new.failed;
       digest = new.digest;
-      quiet = new.quiet;
       received = new.received;
       ticks = new.ticks;
       withheld = new.withheld;
@@ -367,8 +365,7 @@ module _ {R : Type 0} (S : Sayings R) (G : Gatherings R) (observable : Type 0) w
 
   -- none is given: what waits is all
   given_none_more : (frames : List (SocketAddr × List ℕ)) (group now : GroupValue) (old mid new : ServerValue R)
-      → AddsWaiting G observable frames group now old mid
-      → new ≡ record mid { withheld = new.withheld; quiet = new.quiet }
+      → AddsWaiting G observable frames group now old mid → new ≡ record mid { withheld = new.withheld }
       → Withholding old new → AddsGroup G observable frames group now old new
   given_none_more frames group now old mid new t same w =
       let ds = datagrams_in (take 64 old.loopback) (all_filtered (filter_of old.addresses) frames) in
@@ -407,7 +404,6 @@ module _ {R : Type 0} (S : Sayings R) (G : Gatherings R) (observable : Type 0) w
         replica = new.replica;
         failed = new.failed;
         digest = new.digest;
-        quiet = new.quiet;
         ticks = new.ticks;
       }) where
     abbrev waited : List (List ℕ)
@@ -495,7 +491,6 @@ module _ {R : Type 0} (S : Sayings R) (G : Gatherings R) (observable : Type 0) w
         replica = new.replica;
         failed = new.failed;
         digest = new.digest;
-        quiet = new.quiet;
         ticks = new.ticks;
       }) where
     none_taken : all_filtered (filter_of old.addresses) frames ≡ []
@@ -610,12 +605,12 @@ module _ {R : Type 0} (S : Sayings R) (G : Gatherings R) (observable : Type 0) w
 
     -- one is, and is withheld
     pub withheld_takes : (group one : GroupValue) (old mid new : ServerValue R) → mid.withheld ≡ old.withheld
-        → new ≡ record mid { withheld = one_more_tick mid.withheld; quiet = new.quiet } → MayWithhold mid
+        → new ≡ record mid { withheld = one_more_tick mid.withheld } → MayWithhold mid
         → HasWaiting group one old mid → HasTaken group one old new
     withheld_takes group one old mid new withheld same m t = (
       t.0,
       given_none_more t.0 group one old mid new t.1
-          (subst (λ (n : ℕ). new ≡ record mid { withheld = n; quiet = new.quiet })
+          (subst (λ (n : ℕ). new ≡ record mid { withheld = n })
           (sym (ap (λ (s : ServerValue R). s.withheld) same)) same)
           (one_withheld old mid new
           (datagrams_in (take 64 old.loopback) (all_filtered (filter_of old.addresses) t.0)) t.1.adds.pace
@@ -625,7 +620,7 @@ module _ {R : Type 0} (S : Sayings R) (G : Gatherings R) (observable : Type 0) w
 
     -- the same where nothing of it was taken
     pub withheld_rests : (found : TurnInput) (group one : GroupValue) (old mid new : ServerValue R)
-        → new ≡ record mid { withheld = one_more_tick mid.withheld; quiet = new.quiet } → MayWithhold mid
+        → new ≡ record mid { withheld = one_more_tick mid.withheld } → MayWithhold mid
         → HasFound found group one old mid
         → (frames : List (SocketAddr × List ℕ)) × HasReceived observable frames old new
         × IsIdle observable frames old new × Keeps frames
@@ -642,13 +637,8 @@ module _ {R : Type 0} (S : Sayings R) (G : Gatherings R) (observable : Type 0) w
         withholds = one_withheld old mid new [] (ap (λ (s : ServerValue R). s.pace) n.2.same)
             (ap (λ (s : ServerValue R). s.addresses.deaf) n.2.same) (ap (λ (s : ServerValue R). s.withheld) n.2.same)
             (ap (λ (s : ServerValue R). s.ticks) n.2.same) same m;
-        same =
-            ap (λ (s : ServerValue R). record s {
-              incoming = old.incoming;
-              withheld = old.withheld;
-              quiet = old.quiet;
-            }) same
-            ∙ ap (λ (s : ServerValue R). record s { withheld = old.withheld; quiet = old.quiet }) n.2.same;
+        same = ap (λ (s : ServerValue R). record s { incoming = old.incoming; withheld = old.withheld }) same
+            ∙ ap (λ (s : ServerValue R). record s { withheld = old.withheld }) n.2.same;
       },
       n.4,
     )
@@ -669,7 +659,7 @@ module _ {R : Type 0} (S : Sayings R) (G : Gatherings R) (observable : Type 0) w
         comes = n.2.comes;
         withholds = none_withheld old mid [] (ap (λ (s : ServerValue R). s.withheld) n.2.same)
             (ap (λ (s : ServerValue R). s.ticks) n.2.same);
-        same = ap (λ (s : ServerValue R). record s { withheld = old.withheld; quiet = old.quiet }) n.2.same;
+        same = ap (λ (s : ServerValue R). record s { withheld = old.withheld }) n.2.same;
       },
       n.4,
     )
@@ -681,7 +671,6 @@ module _ {R : Type 0} (S : Sayings R) (G : Gatherings R) (observable : Type 0) w
           replica = new.replica;
           failed = new.failed;
           digest = new.digest;
-          quiet = new.quiet;
           ticks = new.ticks;
         })
         (timed : new.ticks ≡ one_more_tick mid.ticks) where

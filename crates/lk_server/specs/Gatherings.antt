@@ -3,8 +3,6 @@ use Rattle.std.specs.Prelude.{◌≡◌, ◌≢◌, ◌≤◌, ℕ, true, List, 
 use Rattle.std.specs.declared.net.socket_addr.SocketAddr.{SocketAddr}
 use Rattle.lk_replica.specs.Groups.{GroupValue}
 use Rattle.lk_server_replica.specs.Groups.{Sayings, Gatherings, GathersMore, SaysNoMore}
-use Rattle.lk_server_replica.specs.Silences.{quiet_after, quiet_withheld}
-use Rattle.lk_server_replica.specs.declared.replica_status.ReplicaStatus.{ReplicaStatus}
 use Rattle.lk_pacing.specs.declared.turn_input.TurnInput.{TurnInput}
 use Rattle.lk_pacing.specs.declared.turn_input.TurnInput.TheVariants.{Nothing, Filtered, Something}
 use Rattle.lk_address_book.specs.Addresses.{Filter, filter_of, IsSameFilter}
@@ -38,7 +36,6 @@ ChangesAtDatagram old new =
       replica = new.replica;
       failed = new.failed;
       digest = new.digest;
-      quiet = new.quiet;
       received = new.received;
       ticks = new.ticks;
     }
@@ -49,7 +46,6 @@ ChangesAtLetter old new =
       replica = new.replica;
       failed = new.failed;
       digest = new.digest;
-      quiet = new.quiet;
       received = new.received;
       ticks = new.ticks;
       loopback = new.loopback;
@@ -61,7 +57,6 @@ ChangesAtFrame old new =
       replica = new.replica;
       failed = new.failed;
       digest = new.digest;
-      quiet = new.quiet;
       received = new.received;
       ticks = new.ticks;
       addresses = new.addresses;
@@ -73,7 +68,6 @@ ChangesAtSocket old new =
       replica = new.replica;
       failed = new.failed;
       digest = new.digest;
-      quiet = new.quiet;
       received = new.received;
       ticks = new.ticks;
       addresses = new.addresses;
@@ -86,7 +80,6 @@ ChangesInGroup old new =
       replica = new.replica;
       failed = new.failed;
       digest = new.digest;
-      quiet = new.quiet;
       received = new.received;
       ticks = new.ticks;
       loopback = new.loopback;
@@ -100,7 +93,6 @@ ChangesInTurn old new =
       replica = new.replica;
       failed = new.failed;
       digest = new.digest;
-      quiet = new.quiet;
       received = new.received;
       ticks = new.ticks;
       withheld = new.withheld;
@@ -108,23 +100,6 @@ ChangesInTurn old new =
       addresses = new.addresses;
       incoming = new.incoming;
     }
-
--- ---- the periods without a leader that a server counts beside its replica
-
-module _ {R : Type 0} (HasStatus : R → ReplicaStatus → Type 0) where
-  -- at an input that this node sent, if one did, the count goes on, or begins anew if the replica's does
-  pub record HearsQuiet (sender : Option ℕ) (old new : ServerValue R) : Type 0 where
-    pub before : ReplicaStatus
-    pub was : HasStatus old.replica before
-    pub after : ReplicaStatus
-    pub is : HasStatus new.replica after
-    pub quiet : new.quiet ≡ quiet_after sender before after old.quiet
-
-  -- a tick was withheld: a period more counts, unless the replica has a term
-  pub record WithholdsQuiet (old new : ServerValue R) : Type 0 where
-    pub status : ReplicaStatus
-    pub is : HasStatus old.replica status
-    pub quiet : new.quiet ≡ quiet_withheld status old.quiet
 
 module _ {R : Type 0} (Gathers : Gatherings R) where
   -- these datagrams were taken into the group one after another, each counted, and where ticks go by datagrams a tick

@@ -42,8 +42,6 @@ pub record ServerValue (R : Type 0) : Type 0 where
   pub failed : Bool
   -- the digest that it took last of its replica's state
   pub digest : StateDigest
-  -- how many periods without a leader it counts beside those that its replica counts
-  pub quiet : ℕ
   -- what its socket has sent, and how many of its sends failed
   pub sent : List (SocketAddr × List ℕ)
   pub socket_failures : ℕ
@@ -61,15 +59,14 @@ pub record IsConfiguredAs {R : Type 0} (c n : ℕ) (p : Pace) (known : Network) 
   pub seals : s.addresses.seals ≡ known.seals
   pub admins : s.addresses.admins ≡ known.admins
 
--- nobody has written to it yet, not even itself, and nobody waits; it has counted no tick and no silence, taken no
--- digest and probed nobody, and is deaf if its ticks go by the clock
+-- nobody has written to it yet, not even itself, and nobody waits; it has counted no tick, taken no digest and probed
+-- nobody, and is deaf if its ticks go by the clock
 pub record HasHeardNobody {R : Type 0} (s : ServerValue R) : Type 0 where
   pub loopback : s.loopback ≡ []
   pub received : s.received ≡ 0
   pub ticks : s.ticks ≡ 0
   pub withheld : s.withheld ≡ 0
   pub digest : s.digest ≡ no_digest
-  pub quiet : s.quiet ≡ 0
   pub hearing : s.addresses.hearing ≡ nothing_sent
   pub deaf : s.addresses.deaf ≡ is_clock s.pace
   pub clients : (c : ℕ) → IsClient c → client_at s.addresses c ≡ None
@@ -248,13 +245,12 @@ pub record TakesLetters (count : ℕ) (loopback : List LetterValue) : Type 0 whe
   pub at_most : count ≤ 64
   pub some : count ≡ 0 → loopback ≡ []
 
--- it has counted no datagram, no tick, given or withheld, and no silence, and taken no digest
+-- it has counted no datagram and no tick, given or withheld, and taken no digest
 pub record KeepsCounts {R : Type 0} (old new : ServerValue R) : Type 0 where
   pub received : new.received ≡ old.received
   pub ticks : new.ticks ≡ old.ticks
   pub withheld : new.withheld ≡ old.withheld
   pub digest : new.digest ≡ old.digest
-  pub quiet : new.quiet ≡ old.quiet
 
 -- it is the server of the same node, its ticks go by the same, and the same wait as before
 pub record IsSameServer {R : Type 0} (old new : ServerValue R) : Type 0 where
@@ -301,8 +297,8 @@ pub record LastTurn {R : Type 0} (Says : R → List (Option (List ℕ)) → List
 
 -- An idle turn: no letter of the node to itself waited, one receive found these frames, one or none, which say nothing
 -- to the replica. It was given nothing, nothing was sent, and nothing is changed but what is to come, which is now what
--- follows that receive, and the counts of ticks that were withheld and of silence. By datagrams a turn in which no
--- frame comes is never idle: it is a tick
+-- follows that receive, and the count of ticks that were withheld. By datagrams a turn in which no frame comes is never
+-- idle: it is a tick
 pub record IsIdle {R : Type 0} (observable : Type 0) (frames : List (SocketAddr × List ℕ))
     (old new : ServerValue R) : Type 0 where
   pub loopback : old.loopback ≡ []
@@ -310,7 +306,7 @@ pub record IsIdle {R : Type 0} (observable : Type 0) (frames : List (SocketAddr 
   pub clock : frames ≡ [] → old.pace ≡ Clock
   pub comes : observable → ReceivesOne frames old.incoming new.incoming
   pub withholds : Withholding old new
-  pub same : record new { incoming = old.incoming; withheld = old.withheld; quiet = old.quiet } ≡ old
+  pub same : record new { incoming = old.incoming; withheld = old.withheld } ≡ old
 
 -- a turn in which these frames came: its replica was given what was taken of them, or what waited, or a tick; or the
 -- turn is idle

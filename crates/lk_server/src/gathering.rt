@@ -11,8 +11,7 @@ ghost use Rattle.lk_node_interface.specs.Letters.{LetterValue};
 ghost use Rattle.lk_node.specs.Calls.{heard_by};
 ghost use Rattle.lk_server_replica.specs.Groups.{GathersMore, SaysNoMore};
 ghost use Rattle.lk_server.specs.Gatherings.{Finds, AddsAll, EndsWithin, AddsLoopback, EndsLoopback, AddsWaiting};
-ghost use Rattle.lk_address_book.specs.Arrivals.{sender};
-ghost use Rattle.lk_server.specs.Gatherings.{AddsGroup, ChangesInTurn, HearsQuiet, WithholdsQuiet};
+ghost use Rattle.lk_server.specs.Gatherings.{AddsGroup, ChangesInTurn};
 ghost use Rattle.lk_server.specs.Gatherings.{EndsGroup, ChangesAtDatagram, ChangesAtLetter, ChangesInGroup};
 ghost use Rattle.lk_transport.specs.Kept.{KeepsOf};
 ghost use Rattle.lk_server.specs.Servers.{EndsPeriod, HasReceived, IsIdle, MayWithhold, TakesPeriodEnd};
@@ -76,15 +75,8 @@ impl<R: ServerReplica, S: DatagramSocket + Drop> Server<R, S> {
             (SaysNoMore R.Says R.Gathers (heard_by input.entry ∷ []) group.old self.old.replica self.new.replica) }
         // However it ends, the digest of the state is taken then, if one is due.
         ensures digests { R.KeepsDigest self.new.replica self.old.digest self.new.digest }
-        // And the count of silence goes on or begins anew.
-        ensures quiet { HearsQuiet R.HasStatus (sender came.now) self.old self.new }
         ensures others { self.new
-            ≡ record self.old {
-              replica = self.new.replica;
-              failed = self.new.failed;
-              digest = self.new.digest;
-              quiet = self.new.quiet;
-            } }
+            ≡ record self.old { replica = self.new.replica; failed = self.new.failed; digest = self.new.digest } }
         ensures broken { OnErr result (self.new.failed ≡ true) }
     {
         let before = self.replica.status();
@@ -138,7 +130,6 @@ impl<R: ServerReplica, S: DatagramSocket + Drop> Server<R, S> {
               replica = self.new.replica;
               failed = self.new.failed;
               digest = self.new.digest;
-              quiet = self.new.quiet;
               ticks = self.new.ticks;
             } }
         ensures broken { OnErr result (self.new.failed ≡ true) }
@@ -249,9 +240,7 @@ impl<R: ServerReplica, S: DatagramSocket + Drop> Server<R, S> {
 
     // Counts a tick that its replica is not given.
     fn withhold_tick(&mut self)
-        ensures counts { self.new
-            ≡ record self.old { withheld = one_more_tick self.old.withheld; quiet = self.new.quiet } }
-        ensures quiet { WithholdsQuiet R.HasStatus self.old self.new }
+        ensures { self.new ≡ record self.old { withheld = one_more_tick self.old.withheld } }
     {
         self.withheld = self.withheld.saturating_add(1);
         self.silence.count_withheld(&self.replica.status());

@@ -96,7 +96,6 @@ impl<R: ServerReplica, S: DatagramSocket + Drop> Model for Server<R, S> {
       withheld = s.withheld;
       failed = R.failed s.replica;
       digest = s.digest;
-      quiet = s.silence;
       sent = s.post.sent;
       socket_failures = s.post.socket_failures;
       incoming = s.post.incoming;
@@ -137,7 +136,7 @@ impl<R: ServerReplica, S: DatagramSocket + Drop> Server<R, S> {
             ticks: 0,
             withheld: 0,
             unsent: 0,
-            silence: Silence::none(),
+            silence: Silence::NONE,
             table: TableVersion::Unread,
             digest: StateDigest::none(),
             sync_pause: SyncPause::NONE,

@@ -63,8 +63,6 @@ impl ServerReplica for NotingReplica {
 
     ghost Takes = { λ _ _ _ _ _. ⊤ };
 
-    ghost HasStatus = { λ t s. s ≡ t.status };
-
     ghost Shows = { λ _ _. ⊤ };
 
     ghost IsRaised = { λ _ _. ⊤ };

@@ -34,7 +34,6 @@ datagrams-preserved g c =
             replica = new.replica;
             failed = new.failed;
             digest = new.digest;
-            quiet = new.quiet;
             received = new.received;
             ticks = new.ticks;
             addresses = new.addresses;

@@ -15,7 +15,6 @@ invariant-datagrams g l =
       replica = l.self.replica;
       failed = l.self.failed;
       digest = l.self.digest;
-      quiet = l.self.quiet;
       received = l.self.received;
       ticks = l.self.ticks;
       addresses = l.self.addresses;

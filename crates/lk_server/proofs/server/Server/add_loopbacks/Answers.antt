@@ -19,7 +19,6 @@ letters-preserved g c =
             replica = new.replica;
             failed = new.failed;
             digest = new.digest;
-            quiet = new.quiet;
             received = new.received;
             ticks = new.ticks;
             loopback = new.loopback;

@@ -13,7 +13,6 @@ invariant-letters g l =
       replica = l.self.replica;
       failed = l.self.failed;
       digest = l.self.digest;
-      quiet = l.self.quiet;
       received = l.self.received;
       ticks = l.self.ticks;
       loopback = l.self.loopback;

@@ -48,7 +48,7 @@ returns-then-withholds-clause-adds g c = λ is.
     (λ frames. KeepsOf c.set_timeout.new.self.addresses.seals frames c.args.buffer.now
     c.add_pending.new.buffer) c.args.group.now c.add_pending.new.group c.set_timeout.new.self c.add_pending.new.self
     c.withhold_tick.new.self (ap (λ (s : ServerValue _). s.withheld) c.add_pending.ensures.others)
-    c.withhold_tick.ensures.counts (c.withholds.ensures.0 (cc c.if-withholds.true))
+    c.withhold_tick.ensures (c.withholds.ensures.0 (cc c.if-withholds.true))
     (c.in_ok-found.ensures.adds (c.is_something-then-withholds.ensures.0 is)))
 
 pub returns-then-withholds-clause-idle : goal.returns-then-withholds-clause-idle
@@ -62,7 +62,7 @@ returns-then-withholds-clause-idle g c = λ isnt.
     (withheld_rests r.Says r.Gathers observable
     (λ frames. KeepsOf c.set_timeout.new.self.addresses.seals frames c.args.buffer.now
     c.add_pending.new.buffer) c.in_ok-found.found c.args.group.now c.add_pending.new.group
-    c.set_timeout.new.self c.add_pending.new.self c.withhold_tick.new.self c.withhold_tick.ensures.counts
+    c.set_timeout.new.self c.add_pending.new.self c.withhold_tick.new.self c.withhold_tick.ensures
     (c.withholds.ensures.0 (cc c.if-withholds.true)) (c.in_ok-found.ensures.none apart))
 
 pub returns-clause-adds : goal.returns-clause-adds
