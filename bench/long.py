@@ -1,5 +1,5 @@
 #!/usr/bin/env python3
-"""Runs a cluster for long, and looks whether a node's memory and its files stay as they are.
+"""Runs a cluster for a long time, and checks that a node's memory and its files stay small.
 
 Usage: bench/long.py [--pairs N] [--ticks WORD] [--dir FOLDER] [--program PATH]
 

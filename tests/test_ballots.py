@@ -1,4 +1,4 @@
-"""What a node promises above its snapshot, and what it proposes for the votes that it is told."""
+"""What a node promises above its snapshot, and what it proposes for the votes that promises report."""
 import os
 import tempfile
 import unittest

@@ -1,4 +1,4 @@
-"""The files of a node that stands alone, byte by byte, as it begins, is cut off and comes up."""
+"""The files of a single node, byte by byte, when it begins, is stopped, and restarts."""
 import os
 import socket
 import subprocess

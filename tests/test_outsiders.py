@@ -1,4 +1,4 @@
-"""Without keys nobody has a node send him more than he sent by a Want of a number that never joined."""
+"""Without keys a Want of a number that never joined brings nobody more bytes than it has."""
 import os
 import socket
 import tempfile

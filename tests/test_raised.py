@@ -1,4 +1,4 @@
-"""The raised table, by the bytes of each op, of what it is answered, and of the table in a snapshot."""
+"""The raised table: the bytes of each op, of its answers, and of the table in a snapshot."""
 import os
 import subprocess
 import tempfile

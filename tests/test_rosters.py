@@ -1,4 +1,4 @@
-"""What is answered to those who join and leave, and whom a node counts after."""
+"""The answers to joins and leaves, and which members a node counts afterwards."""
 import os
 import re
 import subprocess

@@ -1,4 +1,4 @@
-"""Nodes of two geneses: what a node asks of whom it hears, when it ends, and what it says."""
+"""Nodes of two geneses: what a node asks the nodes that it hears, when it ends, and what it says."""
 import os
 import socket
 import subprocess

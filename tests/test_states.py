@@ -1,4 +1,4 @@
-"""Which texts the store takes for a packed state, and which not."""
+"""Which texts the store takes for a packed state, and which it does not."""
 import os
 import subprocess
 import tempfile

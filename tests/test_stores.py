@@ -1,4 +1,4 @@
-"""What a node takes up of files of given bytes, and what it says and writes."""
+"""What a node reads from files of given bytes, and what it says and writes."""
 import os
 import subprocess
 import tempfile

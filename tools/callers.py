@@ -2,10 +2,10 @@
 """callers.py [NAME ..]: programs that call the public functions of the crates, built without a proof and run.
 
 Each file tools/callers/NAME.txt is the main file of such a program. Its first lines are comments: what it shows, `on:`
-the crates that it stands on, and either a line `prints:` for each line that it has to print, or `refused:` a text that
-the compiler has to tell as it refuses the program. Each is built by `rt try` in a copy of these crates, as many side by
-side as there are processors, and runs compiled alone: its interpreter is given one step. The last line is
-`N passed, M failed`, of the programs, and the status is 1 where one failed."""
+the crates that it uses, and either a line `prints:` for each line that it has to print, or `refused:` a text that the
+compiler has to print when it refuses the program. Each is built by `rt try` in a copy of these crates, as many side by
+side as there are processors, and runs compiled alone: its interpreter is given one step. The last line is `N passed, M
+failed`, of the programs, and the status is 1 where one failed."""
 import argparse
 import concurrent.futures
 import os

@@ -1,7 +1,7 @@
 #!/usr/bin/env python3
 """Draws the rooms of crates.txt and their crates as SVG on standard output, the first room at the bottom.
 
-In a room a line leads from a crate to each one on its left that it stands on. Between two rooms an arrow has how many
+In a room a line leads from a crate to each one on its left that it uses. Between two rooms an arrow has how many
 pairs of crates use each other by code, and how many only by definitions and proofs. What only definitions and proofs
 use is dashed. A line, or an arrow downwards, is left out where others lead there, by code if it is by code. An arrow
 upwards is red: it goes against the order of the rooms."""

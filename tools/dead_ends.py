@@ -1,5 +1,5 @@
 #!/usr/bin/env python3
-"""Lets clusters go on from states that ticks do not leave: does a nudge?
+"""Lets clusters go on from states that ticks do not leave, and checks that nudges leave them.
 
 Each script of runs/dead_ends/ leads to such a state. Afterwards nothing is lost, and nobody stops or starts. A round is
 a tick of each node that is up and then all deliveries, in order, until nothing is left; in each round a client asks

@@ -1,5 +1,5 @@
 #!/usr/bin/env python3
-"""Runs scripts again with their events as groups: does a node do the same with inputs that it takes in a group?
+"""Runs scripts again with their events as groups, and checks that nodes do the same with inputs taken in a group.
 
 The scripts are those of examples/ and the schedules that `locks fuzz --script` draws, without groups and with them, and
 with nudges where the number is odd. In each of them every delivery, tick and nudge becomes a group of one. The script

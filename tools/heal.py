@@ -1,5 +1,5 @@
 #!/usr/bin/env python3
-"""Lets clusters heal after random schedules: does a state come about from which no request is answered any more?
+"""Lets clusters heal after random schedules, and looks for states from which no request is answered any more.
 
 `locks fuzz --groups --script` draws schedules of three nodes: datagrams that are lost, late and repeated, stops, failed
 and cut writes, groups, joins and leaves. After each of them every node is restarted, each member that never started is

@@ -1,5 +1,5 @@
 #!/usr/bin/env python3
-"""Runs the program as each row of the files runs/*.txt says, and compares what comes of it.
+"""Runs the program as each row of the files runs/*.txt says, and compares the result.
 
 A file is rows with an empty line between them; a line `# ..` is a comment. The lines of a row:
 

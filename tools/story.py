@@ -1,5 +1,5 @@
 #!/usr/bin/env python3
-"""Finds out what a script of world mode comes to, event by event, by asking the program alone.
+"""Finds out what a script of world mode leads to, event by event, by asking only the program.
 
 A node that stops and restarts executes what its disks hold. A node whose next write fails (`fail NODE 1`) repeats a
 promise or a vote that it holds, and goes down by one that it lacks. A node that stands for election asks every member

@@ -1,5 +1,5 @@
 #!/usr/bin/env python3
-"""Lets what is left of a cluster go on: is a request still answered?
+"""Lets the nodes that are left of a cluster go on, and checks that a request is still answered.
 
 Every fourth schedule is drawn by `locks fuzz --groups --nudges`, the others here. Those have alpha 1 to 16 and seven
 nodes, of which one to three are the first members. Datagrams are lost, late and repeated. Nodes stop with all or none
