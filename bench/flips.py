@@ -5,8 +5,10 @@ Usage: bench/flips.py [--flips N] [--workers W] [--seed S] [PROGRAM]
 
 Three nodes with sums work for three clients, and are killed and started again in turn; each time the folder of the
 killed node is kept. Then one, two or eight random bits of one of the kept files are changed, N times (10,000 if not
-given), and the files are read. So are files without sums of the same entries, a tenth as often, by `locks dump`. The
-last lines say how many changes went unnoticed; the status is 1 if one did in a file with sums.
+given), and the files are read. So are files without sums of the same entries, a tenth as often, by `locks dump`. As
+often `locks inspect` reads a store whose older file was changed so: it has to end with fault 9, or to print what it
+prints of the store unchanged, and which sum differs. The last lines say how many changes went unnoticed; the status is
+1 if one did in a file with sums.
 """
 import argparse
 import concurrent.futures
@@ -18,7 +20,7 @@ import tempfile
 import threading
 
 from cluster import Cluster, built
-from harness.summed import pieces
+from harness.summed import OTHER, of_generation, pieces
 from locks_client import Client
 
 KILLS = 24
@@ -55,17 +57,16 @@ def stores(program):
     return found
 
 
-def status(program, command, folder, name, data):
-    """How the program ends on a folder whose one file has these bytes."""
+def run(program, command, folder, files):
+    """The program on a folder of these files: whether it ends with fault 9, its output and its standard error."""
     for each in "ab":
         with open(os.path.join(folder, each), "wb") as file:
-            file.write(data if each == name else b"")
-    quiet = {"stdin": subprocess.DEVNULL, "stdout": subprocess.DEVNULL, "stderr": subprocess.PIPE}
-    run = subprocess.run([program, command, "--dir", folder], **quiet)
-    noticed = run.returncode == 1 and run.stderr.endswith(b"fault 9\n")
-    if run.returncode and not noticed:
-        sys.exit(f"{command}: status {run.returncode}, {run.stderr!r}")
-    return noticed
+            file.write(files.get(each, b""))
+    it = subprocess.run([program, command, "--dir", folder], stdin=subprocess.DEVNULL, capture_output=True)
+    noticed = it.returncode == 1 and it.stderr.endswith(b"fault 9\n")
+    if it.returncode and not noticed:
+        sys.exit(f"{command}: status {it.returncode}, {it.stderr!r}")
+    return noticed, it.stdout, it.stderr
 
 
 def changed(choose, data):
@@ -76,17 +77,30 @@ def changed(choose, data):
     return bytes(flipped)
 
 
+def is_reported(program, folder, name, entries, choose):
+    """Whether `inspect` reports a change of the older one of two files with these entries, and whether it reads the
+    other one then."""
+    other = OTHER[name]
+    live, older = of_generation(2, name, entries), of_generation(1, other, entries)
+    sound = run(program, "inspect", folder, {name: live, other: older})
+    noticed, out, err = run(program, "inspect", folder, {name: live, other: changed(choose, older)})
+    opened = out == sound[1] and f"/{other}: wrong sum at byte ".encode() in err
+    return noticed or opened, opened
+
+
 def worker(program, files, flips, seed):
-    """The changes that went unnoticed: of files with sums, and of files without."""
-    choose, missed, unseen = random.Random(seed), 0, 0
+    """The changes that went unnoticed: of files with sums, of files without, of older files, and how many of those were
+    opened."""
+    choose, missed, unseen, older = random.Random(seed), 0, 0, []
     with tempfile.TemporaryDirectory(dir="/dev/shm" if os.path.isdir("/dev/shm") else None) as folder:
         for turn in range(flips):
             name, data = choose.choice(files)
-            missed += not status(program, "scrub", folder, name, changed(choose, data))
-            if turn % 10 == 0:
-                plain = b"".join(pieces(name, data))
-                unseen += bool(plain) and not status(program, "dump", folder, name, changed(choose, plain))
-    return missed, unseen
+            missed += not run(program, "scrub", folder, {name: changed(choose, data)})[0]
+            entries = pieces(name, data)
+            if turn % 10 == 0 and entries:
+                unseen += not run(program, "dump", folder, {name: changed(choose, b"".join(entries))})[0]
+                older.append(is_reported(program, folder, name, entries, choose))
+    return missed, unseen, len(older), sum(not it[0] for it in older), sum(it[1] for it in older)
 
 
 def main():
@@ -101,12 +115,13 @@ def main():
     count = args.flips // args.workers
     with concurrent.futures.ThreadPoolExecutor(args.workers) as pool:
         parts = [pool.submit(worker, program, files, count, args.seed + it) for it in range(args.workers)]
-    missed, unseen = (sum(counts) for counts in zip(*(part.result() for part in parts)))
+    missed, unseen, older, silent, opened = (sum(counts) for counts in zip(*(part.result() for part in parts)))
     sizes = sorted(len(data) for _, data in files)
     print(f"{len(files)} files of {sizes[0]} to {sizes[-1]} bytes")
     print(f"without sums: {unseen} of {count // 10 * args.workers} changes were not noticed")
     print(f"with sums: {missed} of {count * args.workers} changes were not noticed")
-    return 1 if missed else 0
+    print(f"in the older file: {silent} of {older} changes were not reported, {opened} stores opened")
+    return 1 if missed or silent else 0
 
 
 if __name__ == "__main__":

@@ -7,6 +7,7 @@ import tempfile
 import time
 
 from harness.cluster import TOP, Cluster
+from harness.summed import one_before
 from locks_client import Client, Held
 
 STOPPED = 99  # the status of a node that tools/stopping.c has stopped
@@ -33,6 +34,7 @@ class Alone(Cluster):
     def __init__(self, program, folder, library_path):
         super().__init__(program, folder, nodes=1, alpha=2, logs=True)
         self.library, self.last, self.number, self.kept = library_path, 0, 1, None
+        self.spoilt = None
 
     def prepare(self, options, requests):
         """Begins its store, and leaves it after so many requests."""
@@ -43,6 +45,24 @@ class Alone(Cluster):
                 client.release("db", self.last)
                 self.last = client.acquire("db")
         self.kept = self.files(), self.last
+
+    def spoil(self):
+        """Puts a damaged file beside the live one: of the generation before, with a wrong sum at its end."""
+        files, last = self.kept
+        [(name, live)] = [(name, data) for name, data in zip("ab", files) if data]
+        other, older = one_before(name, live)
+        self.spoilt = other, older[:-1] + bytes([older[-1] ^ 1])
+        self.kept = [self.spoilt[1] if name == other else data for name, data in zip("ab", files)], last
+
+    def is_spoilt_alone(self, text):
+        """Whether `scrub` wrote only that the spoilt file is damaged, and this has nothing but its first bytes."""
+        if self.spoilt is None:
+            return False
+        name, data = self.spoilt
+        live = "b" if name == "a" else "a"
+        with open(self.path(name), "rb") as file:
+            left = file.read()
+        return f"/{live}: sums right" in text and f"/{name}: wrong sum" in text and data.startswith(left)
 
     def asking(self, patience):
         """Client 7, whose numbers go on."""
@@ -114,7 +134,7 @@ class Alone(Cluster):
         if not self.works_until_it_stops():
             return False
         status, text = self.run("scrub")
-        if status:
+        if status and not self.is_spoilt_alone(text):
             raise Wrong(f"scrub: {text}")
         with self, self.asking(30.0) as client:
             held = client.ask("db")
@@ -128,12 +148,14 @@ class Alone(Cluster):
         return True
 
 
-def swept(program, before, after, requests, numbers, left):
+def swept(program, before, after, requests, numbers, left, spoilt):
     """One worker's part of a sweep."""
     count, wrong = 0, []
     with tempfile.TemporaryDirectory() as folder:
         node = Alone(program, folder, library(folder))
         node.prepare(before, requests)
+        if spoilt:
+            node.spoil()
         for at in numbers:
             for more in left:
                 try:
@@ -145,12 +167,13 @@ def swept(program, before, after, requests, numbers, left):
     return count, wrong
 
 
-def sweep(program, before, after, requests=248, numbers=range(1, 200), left=(0, 1, ALL), workers=4):
+def sweep(program, before, after, requests=248, numbers=range(1, 200), left=(0, 1, ALL), workers=4, spoilt=False):
     """Stops a node with the options `after` at each of these changes, on a store that one with the options `before` has
-    left, and keeps so many of the bytes that were not synced. How many stops there were, and what went wrong."""
+    left, and keeps so many of the bytes that were not synced. If it is to be spoilt, the store has a damaged older file
+    too. How many stops there were, and what went wrong."""
     with concurrent.futures.ThreadPoolExecutor(workers) as pool:
         parts = [
-            pool.submit(swept, program, before, after, requests, numbers[first::workers], left)
+            pool.submit(swept, program, before, after, requests, numbers[first::workers], left, spoilt)
             for first in range(workers)
         ]
     found = [part.result() for part in parts]

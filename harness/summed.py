@@ -2,6 +2,7 @@
 import hashlib
 
 MAGIC = {"a": b"locks 3a", "b": b"locks 3b"}
+OTHER = {"a": "b", "b": "a"}
 FACTOR = 16_381  # what a length is written times
 FIELD, SUM = 4, 4  # bytes of a length, and of a sum
 
@@ -55,3 +56,16 @@ def frames(name, data):
         found.append(data[at:end])
         at = end
     return found
+
+
+def of_generation(generation, name, entries):
+    """The file of that name with these pieces, but for the generation of its Base."""
+    base, *rest = entries
+    return written(name, [base[:5] + generation.to_bytes(8, "big") + base[13:], *rest])
+
+
+def one_before(name, data):
+    """The file of the generation before this one, as if it had the same entries. Its name and its bytes."""
+    entries = pieces(name, data)
+    generation = int.from_bytes(entries[0][5:13], "big")
+    return OTHER[name], of_generation(generation - 1, OTHER[name], entries)

@@ -22,6 +22,10 @@ class StopTest(unittest.TestCase):
         count, wrong = sweep(PROGRAM, SUMS, (), requests=253, numbers=NEAR, left=(3,))
         self.assertEqual((wrong, count), ([], len(NEAR)))
 
+    def test_a_stop_beside_a_damaged_older_file_loses_nothing(self):
+        count, wrong = sweep(PROGRAM, SUMS, (), requests=509, numbers=NEAR, left=(3,), spoilt=True)
+        self.assertEqual((wrong, count), ([], len(NEAR)))
+
 
 if __name__ == "__main__":
     unittest.main()

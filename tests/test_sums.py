@@ -8,7 +8,7 @@ import unittest
 
 from harness.by_bytes import Node
 from harness.cluster import Cluster, free_ports
-from harness.summed import MAGIC, frames, pieces, written
+from harness.summed import MAGIC, frames, one_before, pieces, written
 from locks_client import Client
 
 PROGRAM = os.environ.get("LOCKS_PROGRAM")
@@ -217,6 +217,76 @@ class BytesTest(Store):
 
 
 @unittest.skipUnless(PROGRAM, "LOCKS_PROGRAM does not tell the program")
+class OlderFileTest(Store):
+    """A live file and an older one, as a stop leaves them that comes before the older one is cut to nothing."""
+
+    def setUp(self):
+        super().setUp()
+        self.live = written("a", [bytes.fromhex(it) for it in (SECOND, PROMISED)])
+        self.older = written("b", [bytes.fromhex(it) for it in (BASE, PROMISED, VOTED, DECIDED)])
+        self.first = len(MAGIC["b"]) + len(frames("b", self.older)[0])
+
+    def warning(self, at):
+        """What is written of a wrong sum in the file `b`."""
+        text = "older than the other file and not needed; the next snapshot of the node replaces it"
+        return f"{self.folder}/b: wrong sum at byte {at}\nwarning: {self.folder}/b: {text}\n"
+
+    def test_a_changed_bit_of_the_older_file_is_reported_and_is_no_fault(self):
+        self.put(self.live, self.older)
+        sound = self.dump()
+        self.assertEqual((sound[0], sound[2]), (0, ""))
+        ends = [self.first]
+        for part in frames("b", self.older)[1:]:
+            ends.append(ends[-1] + len(part))
+        for bit in range(8 * self.first, 8 * len(self.older)):
+            self.put(self.live, flipped(self.older, bit))
+            at = max(end for end in ends if end <= bit // 8)
+            self.assertEqual(self.dump(), (0, sound[1], self.warning(at)), bit)
+
+    def test_a_changed_bit_of_a_first_frame_or_of_the_live_file_is_damage(self):
+        missed = [bit for bit in range(8 * self.first) if not self.is_noticed(self.live, flipped(self.older, bit))]
+        self.assertEqual(missed, [])
+        bits = range(8 * len(self.live))
+        missed = [bit for bit in bits if not self.is_noticed(flipped(self.live, bit), self.older)]
+        self.assertEqual(missed, [])
+
+    def test_the_older_file_has_to_be_known_as_such(self):
+        wrong, plain = flipped(self.older, 8 * self.first + 40), bytes.fromhex(SECOND + PROMISED)
+        same = written("a", [bytes.fromhex(it) for it in (BASE, PROMISED)])
+        for live in (same, plain, b"", flipped(self.live, 8 * len(self.live) - 1)):
+            self.assertTrue(self.is_noticed(live, wrong))
+        self.assertFalse(self.is_noticed(self.live[:-1], wrong), "what a stop leaves of the live file is no damage")
+        newer = written("b", [bytes.fromhex(it) for it in (SECOND, PROMISED, VOTED)])
+        self.assertTrue(self.is_noticed(same, flipped(newer, 8 * self.first + 40)), "the live file is damaged")
+
+    def test_inspect_and_scrub_report_the_older_file(self):
+        self.put(self.live, self.older)
+        sound = ran("inspect", "--dir", self.folder)
+        self.put(self.live, flipped(self.older, 8 * self.first + 40))
+        self.assertEqual(ran("inspect", "--dir", self.folder), (0, sound[1], self.warning(self.first)))
+        told = f"{self.folder}/b: wrong sum at byte {self.first}\nfault 9\n"
+        self.assertEqual(self.scrub(), (1, f"{self.folder}/a: sums right\n", told))
+
+    def test_a_start_goes_on_without_the_older_file(self):
+        with Node(PROGRAM, self.folder) as node:
+            live = written("a", [node.bytes_of(it) for it in (SECOND,)])
+            older = written("b", [node.bytes_of(it) for it in (BASE, PROMISED, VOTED)])
+            wrong = flipped(older, 8 * self.first + 40)
+            for words in ((), ("--sums",)):
+                node.words = words
+                node.write(live, wrong)
+                self.assertEqual(node.start(), f"port {node.ports[1]}")
+                node.asked(node.bytes_of(PREPARE))
+                node.kill()
+                after = written("a", [node.bytes_of(SECOND), node.bytes_of(PROMISED)])
+                self.assertEqual((node.read("a"), node.read("b")), (after, wrong))
+                for spoilt in (flipped(live, 8 * len(live) - 1), b""):
+                    node.write(spoilt, wrong)
+                    self.assertEqual((node.start(), node.kill()), ("fault 9", 1))
+                    self.assertEqual((node.read("a"), node.read("b")), (spoilt, wrong))
+
+
+@unittest.skipUnless(PROGRAM, "LOCKS_PROGRAM does not tell the program")
 class NodesTest(Store):
     """Nodes that write such files."""
 
@@ -279,6 +349,32 @@ class NodesTest(Store):
             cluster.kill(1)
             told = ran("inspect", "--dir", folder)[1].splitlines()
             self.assertEqual((told[0], told[-1]), ("format 3", f"held db 7 {last[-1]}"))
+
+    def test_the_next_snapshot_replaces_a_damaged_older_file(self):
+        with Cluster(PROGRAM, self.folder, nodes=1, alpha=2, options=("--sums",)) as cluster:
+            folder = os.path.join(self.folder, "1")
+            with cluster.client(Client, 7, patience=30.0) as client:
+                last = [client.acquire("db")]
+
+                def goes_on_to(generation):
+                    while not ran("dump", "--dir", folder)[1].startswith(f"generation {generation}\n"):
+                        for _ in range(10):
+                            client.release("db", last[-1])
+                            last.append(client.acquire("db"))
+
+                goes_on_to(2)
+                cluster.kill(1)
+                with open(os.path.join(folder, "b"), "rb") as file:
+                    name, older = one_before("b", file.read())
+                with open(os.path.join(folder, name), "wb") as file:
+                    file.write(flipped(older, 8 * len(older) - 1))
+                self.assertEqual(ran("scrub", "--dir", folder)[0], 1)
+                cluster.start(1)
+                goes_on_to(3)
+                self.assertEqual(ran("scrub", "--dir", folder)[0], 0)
+            self.assertEqual(last, sorted(set(last)))
+            cluster.kill(1)
+            self.assertTrue(ran("inspect", "--dir", folder)[1].endswith(f"held db 7 {last[-1]}\n"))
 
     def test_scrub_does_not_disturb_a_node(self):
         with Cluster(PROGRAM, self.folder, nodes=1, alpha=2, options=("--sums",)) as cluster:

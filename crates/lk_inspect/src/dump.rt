@@ -99,7 +99,8 @@ fn dump_folder<R: Files, W: Write, E: Write>(
     out: &mut W,
     err: &mut E,
 ) -> Result<bool, ProgramFault> {
-    let mut device = look_at_device(rt, alloc, folder, err)?;
+    let opened = look_at_device(rt, alloc, folder, err)?;
+    let mut device = opened.device;
     let sums = device.has_frames();
     match dump_device(alloc, &mut device, sums, out) {
         Ok(is_store) => Ok(is_store),

@@ -63,7 +63,8 @@ fn inspection_in<R: Files, E: Write>(
     folder: &str,
     err: &mut E,
 ) -> Result<(Option<Inspection>, bool), ProgramFault> {
-    let mut device = look_at_device(rt, alloc, folder, err)?;
+    let opened = look_at_device(rt, alloc, folder, err)?;
+    let mut device = opened.device;
     match inspect_device(alloc, &mut device) {
         Ok(found) => Ok((found, device.has_frames())),
         Err(fault) => Err(write_refusal(alloc, fault, &mut device, folder, err)),

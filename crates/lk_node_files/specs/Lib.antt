@@ -1,3 +1,4 @@
 pub mod Openings
 pub mod Ends
 pub mod Existing
+pub mod Older

@@ -6,7 +6,7 @@ ghost use Rattle.lk_node_files.specs.Openings.{IsClosed};
 use lk_disk::{FileDisk, LogDisk, Side, SystemDisk};
 use lk_memory_disk::MemoryDisk;
 use lk_program_fault::ProgramFault;
-use lk_summed_disk::OptionalSums;
+use lk_summed_disk::{HidingDisk, OptionalSums};
 use lk_transport::socket::{LocalSocket, local};
 use std::alloc::Global;
 use std::fmt::Display;
@@ -104,6 +104,12 @@ pub trait FailureCause {
 impl<F: OpenFile + Read + Write + Seek + Drop> FailureCause for SystemDisk<F> {
     fn cause(&self, side: Side) -> Option<io::Error> {
         FileDisk::cause(self, side)
+    }
+}
+
+impl<D: LogDisk + FailureCause + Drop> FailureCause for HidingDisk<D> {
+    fn cause(&self, side: Side) -> Option<io::Error> {
+        self.inner.cause(side)
     }
 }
 

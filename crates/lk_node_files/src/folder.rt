@@ -1,13 +1,13 @@
 //! Opens the files of a node's folder, creates them, and locks the folder so that only one process runs on it.
 
-ghost use Rattle.std.specs.Prelude.{◌≡◌, IfOk, IfErr, OnOk};
+ghost use Rattle.std.specs.Prelude.{◌≡◌, None, IfOk, IfErr, OnOk};
 ghost use Rattle.lk_node_files.specs.Openings.{IsClosed, IsUnopened};
 
 use crate::causes::{open_file, write_cause, write_open_error};
-use crate::opening::with_sums;
+use crate::opening::{OpenedFiles, with_sums};
 use lk_disk::{FileDisk, SystemDisk};
 use lk_program_fault::ProgramFault;
-use lk_summed_disk::OptionalSums;
+use lk_summed_disk::{HidingDisk, OptionalSums};
 use std::alloc::Global;
 use std::fs::{File, Files, OpenOptions, TryLockError};
 use std::io::{ErrorKind, Write};
@@ -163,20 +163,21 @@ impl FolderLock {
 }
 
 /// The files of a folder as a device, with sums or without.
-pub type FolderDevice<F> = OptionalSums<SystemDisk<F>>;
+pub type FolderDevice<F> = OptionalSums<HidingDisk<SystemDisk<F>>>;
 
 /// Opens the files of a folder as a device, to read and to write; it creates a missing file. It has sums if `sums` says
-/// so, or if a file has begun with them. On failure it writes the reason and returns the fault: `CannotOpen`;
-/// `NoMemory`; `Device`, if a file cannot be read; and `Damaged`, if a sum differs.
+/// so, or if a file has begun with them. A damaged file that is not needed is hidden, and a warning says so. On failure
+/// it writes the reason and returns the fault: `CannotOpen`; `NoMemory`; `Device`, if a file cannot be read; and
+/// `Damaged`, if a sum differs in a file that is needed.
 pub fn open_device<R: Files, E: Write>(
     rt: &R,
     alloc: Global,
     folder: &str,
     sums: bool,
     err: &mut E,
-) -> Result<FolderDevice<R::File>, ProgramFault>
+) -> Result<OpenedFiles<SystemDisk<R::File>>, ProgramFault>
     ensures fault { IfErr result IsUnopened }
-    ensures quiet { IfOk result (λ _. err.new ≡ err.old) }
+    ensures quiet { IfOk result (λ o. o.hidden ≡ None → err.new ≡ err.old) }
 {
     match FileDisk::open(rt, alloc, folder) {
         Ok(device) => with_sums(alloc, device, sums, folder, err),
@@ -190,9 +191,9 @@ pub fn look_at_device<R: Files, E: Write>(
     alloc: Global,
     folder: &str,
     err: &mut E,
-) -> Result<FolderDevice<R::File>, ProgramFault>
+) -> Result<OpenedFiles<SystemDisk<R::File>>, ProgramFault>
     ensures fault { IfErr result IsUnopened }
-    ensures quiet { IfOk result (λ _. err.new ≡ err.old) }
+    ensures quiet { IfOk result (λ o. o.hidden ≡ None → err.new ≡ err.old) }
 {
     let device = look_at_files(rt, alloc, folder, err)?;
     with_sums(alloc, device, false, folder, err)

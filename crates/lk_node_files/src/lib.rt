@@ -4,5 +4,7 @@
 pub mod causes;
 pub mod existing;
 pub mod folder;
+pub mod laws;
+pub mod older;
 pub mod opening;
 pub mod refusals;

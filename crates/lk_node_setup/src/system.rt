@@ -121,7 +121,8 @@ impl<'a, R: Files<File = File> + Net + Clock> Platform<FolderDisk, LocalSocket> 
             check_files(self.0, alloc, folder, err)?;
         }
         let lock = FolderLock::acquire(self.0, alloc, folder, err)?;
-        let mut device = open_device(self.0, alloc, folder, sums, err)?;
+        let opened = open_device(self.0, alloc, folder, sums, err)?;
+        let mut device = opened.device;
         if existing {
             check_store(alloc, &mut device, folder, err)?;
         }

@@ -62,7 +62,7 @@ pub record IsOwn (node : ℕ) (sent : List Datagram) (d : Datagram) : Type 0 whe
 -- what may reach it: ticks, requests of the seeding, and what it has sent itself
 abbrev pub MayReach : HeaderValue → List Wanted → List Datagram → Input → Type 0
 MayReach header wanted sent Tick = Unit {0}
-MayReach header wanted sent (Nudge withheld) = ⊥
+MayReach header wanted sent (Nudge reason) = ⊥
 MayReach header wanted sent (Heard bytes) =
     AreOfRequest header.cluster wanted bytes
     ⊎ ((d : Datagram) × IsOwn header.node sent d × (d.bytes ≡ bytes))

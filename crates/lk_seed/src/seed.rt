@@ -99,8 +99,8 @@ fn begin<R: Files<File = File>, E: Write>(
     let mut disks = seeded_disks(alloc, header, wanted, err)?;
     create_files(rt, alloc, folder, err)?;
     let _lock = FolderLock::acquire(rt, alloc, folder, err)?;
-    let mut device = open_device(rt, alloc, folder, false, err)?;
-    write_store(alloc, &mut disks, wanted, &mut device, folder, err)
+    let mut opened = open_device(rt, alloc, folder, false, err)?;
+    write_store(alloc, &mut disks, wanted, &mut opened.device, folder, err)
 }
 
 // Does what a plan says.

@@ -146,8 +146,16 @@ pub fn add_survivors<R: Files, E: Write>(
 ) -> Result<(), ProgramFault> {
     let mut lost = LostCluster::unknown(cluster);
     for folder in folders {
-        let mut device = look_at_device(rt, alloc, folder, err)?;
-        add_survivor(alloc, &mut device, folder, &mut lost, past, wanted, err)?;
+        let mut opened = look_at_device(rt, alloc, folder, err)?;
+        add_survivor(
+            alloc,
+            &mut opened.device,
+            folder,
+            &mut lost,
+            past,
+            wanted,
+            err,
+        )?;
     }
     Ok(())
 }

@@ -6,3 +6,5 @@ mod DiskLaws
 mod ChangeLaws
 mod WaitLaws
 mod OptionLaws
+mod HidingLaws
+mod LegibleLaws

@@ -1,7 +1,7 @@
 -- What a device with or without sums is, by its files.
 use Rattle.std.proofs.Common.{◌≡◌, ◌∙◌, ◌↔◌, ℕ, min, Bool, true, false, List, length, take}
 use Rattle.std.proofs.Common.{refl, sym, ap, subst, arith, take_all, inl, inr}
-use Rattle.std.proofs.lemmas.Bool.{cases_lt, true≢false, false_from_ne_true}
+use Rattle.std.proofs.lemmas.Bool.{cases_lt, true≢false, false≢true, false_from_ne_true}
 use Rattle.std.proofs.lemmas.List.{take_at}
 use Rattle.lk_disk.specs.Disk.{Disk, contents}
 use Rattle.lk_disk.specs.declared.device.Side.{Side}
@@ -9,7 +9,7 @@ use Rattle.lk_disk.specs.declared.device.Side.TheVariants.{A, B}
 use Rattle.lk_summed_disk.specs.Frames.{magic, HasSums}
 use Rattle.lk_summed_disk.specs.Beginnings.{HasBegun, IsFront}
 use Rattle.lk_summed_disk.specs.GatheredValue.{GatheredValue, gathered_at}
-use Rattle.lk_summed_disk.specs.Opened.{TurnsOn}
+use Rattle.lk_summed_disk.specs.Opened.{IsSoundOn, TurnsOn}
 use Rattle.lk_summed_disk.specs.Options.{IsWanted, OpensAs}
 use Rattle.lk_summed_disk.specs.Readers.{decoded}
 use Rattle.lk_summed_disk.specs.declared.optional_sums.OptionalSums.TheVariants.{Without, With}
@@ -71,6 +71,7 @@ pub opens_without : {D : Type 0} (disk : D → Side → Disk) (d : D) (asked wan
     → IsWanted asked (disk d) wanted → wanted ≡ false → OpensAs disk asked (disk d) (Without d)
 opens_without disk d asked wanted is off = record {
   shows = λ s. refl;
+  sound = λ on. absurd (false≢true on);
   by_option = λ on. absurd (true≢false (sym (is.by_option on) ∙ off));
   by_file = λ s has. absurd (true≢false (sym (is.by_file s (sums_begun s (contents (disk d s)) has)) ∙ off));
   off = λ not_asked none. refl;
@@ -80,10 +81,11 @@ opens_without disk d asked wanted is off = record {
 
 pub opens_with : {D : Type 0} (disk : D → Side → Disk) (v : GatheredValue) (asked wanted : Bool)
     (disks : Side → Disk) → IsWanted asked disks wanted → wanted ≡ true
-    → ((s : Side) → gathered_at v s ≡ decoded s (disks s)) → TurnsOn asked disks v.inner.sums
-    → OpensAs disk asked disks (With v)
-opens_with disk v asked wanted disks is on shows turns = record {
+    → ((s : Side) → gathered_at v s ≡ decoded s (disks s)) → ((s : Side) → IsSoundOn disks s)
+    → TurnsOn asked disks v.inner.sums → OpensAs disk asked disks (With v)
+opens_with disk v asked wanted disks is on shows sound turns = record {
   shows = shows;
+  sound = λ _. sound;
   by_option = turns.by_option;
   by_file = turns.by_file;
   off = turns.neither;

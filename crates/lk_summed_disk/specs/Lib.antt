@@ -10,3 +10,5 @@ pub mod Beginnings
 pub mod Waits
 pub mod GatheredValue
 pub mod Options
+pub mod Hiding
+pub mod Texts

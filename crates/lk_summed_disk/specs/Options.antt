@@ -4,6 +4,7 @@ use Rattle.lk_disk.specs.Disk.{Disk, contents}
 use Rattle.lk_disk.specs.declared.device.Side.{Side}
 use Rattle.lk_summed_disk.specs.Beginnings.{HasBegun}
 use Rattle.lk_summed_disk.specs.Frames.{HasSums}
+use Rattle.lk_summed_disk.specs.Opened.{IsSoundOn}
 use Rattle.lk_summed_disk.specs.Readers.{decoded}
 use Rattle.lk_summed_disk.specs.GatheredValue.{gathered_at}
 use Rattle.lk_summed_disk.specs.declared.optional_sums.OptionalSums.{OptionalSums}
@@ -34,12 +35,13 @@ pub record IsWanted (asked : Bool) (disks : Side → Disk) (wanted : Bool) : Typ
   pub by_file : (s : Side) → HasBegun s (contents (disks s)) → wanted ≡ true
   pub neither : asked ≡ false → ((s : Side) → HasBegun s (contents (disks s)) → ⊥) → wanted ≡ false
 
--- A device of these disks is opened so. With sums it shows the decoded disks, and an empty file begins with sums if
--- that was asked for or if a file has them; it is one with sums if that was asked for, or if a file has begun with
--- them.
+-- A device of these disks is opened so. With sums it shows the decoded disks, of which none is damaged, and an empty
+-- file begins with sums if that was asked for or if a file has them; it is one with sums if that was asked for, or if a
+-- file has begun with them.
 pub record OpensAs {D : Type 0} (disk : D → Side → Disk) (asked : Bool) (disks : Side → Disk)
     (o : OptionalSums D) : Type 0 where
   pub shows : (s : Side) → disk_in disk o s ≡ (if decodes o then decoded s (disks s) else disks s)
+  pub sound : decodes o ≡ true → (s : Side) → IsSoundOn disks s
   pub by_option : asked ≡ true → is_on o ≡ true
   pub by_file : (s : Side) → HasSums s (contents (disks s)) → is_on o ≡ true
   pub off : asked ≡ false → ((s : Side) → HasSums s (contents (disks s)) → ⊥) → is_on o ≡ false

@@ -1,0 +1,3 @@
+mod OlderLaws
+mod OpeningLaws
+mod LiveLaws
