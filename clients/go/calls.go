@@ -68,10 +68,26 @@ func (c *Client) Release(ctx context.Context, name string, fence uint64) error {
 	return err
 }
 
-// Join adds a node to the cluster, which listens at that port. It returns ErrUsed or ErrFull if it is not added.
+// Join adds a node to the cluster, which listens at that port. It returns ErrUsed or ErrFull if it is not added. Log is
+// called first if the number is above twice that of each other node of Hosts.
 func (c *Client) Join(ctx context.Context, node uint32, port uint16) error {
-	_, err := c.call(ctx, wire.Op{Word: wire.Join, Node: node, Port: port})
+	op := wire.Op{Word: wire.Join, Node: node, Port: port}
+	if op.Valid() == nil && c.isFar(node) {
+		c.tell(Event{Kind: EventFarJoin, Asked: op.String()})
+	}
+	_, err := c.call(ctx, op)
 	return err
+}
+
+// isFar reports whether a number is above twice that of each other node of the hosts, if there is one.
+func (c *Client) isFar(node uint32) bool {
+	greatest := uint32(0)
+	for host := range c.hosts {
+		if host != node && host > greatest {
+			greatest = host
+		}
+	}
+	return greatest > 0 && uint64(node) > 2*uint64(greatest)
 }
 
 // Leave removes a node from the cluster. It returns ErrNotMember or ErrLast if it is not removed.

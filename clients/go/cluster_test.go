@@ -123,6 +123,26 @@ func TestAShareOfARunThatIsGoneIsLeftAlone(t *testing.T) {
 	wantState(t, other, "db", State{Holders: 1, IsShared: true, Fence: 1})
 }
 
+func TestAJoinFarAboveTheHostsIsTold(t *testing.T) {
+	far := "join 7 7001: above twice the greatest other node of the hosts: no smaller number can join after it"
+	for _, row := range []struct {
+		hosts  []uint32
+		wanted string
+	}{{[]uint32{1, 3}, far}, {[]uint32{1, 3, 7}, far}, {[]uint32{1, 3, 4}, ""}, {nil, ""}, {[]uint32{7}, ""}} {
+		n, told := fakeNode(t, free, joined), ""
+		client := clientOf(t, func(config *Config) {
+			config.Hosts = map[uint32]netip.Addr{}
+			for _, host := range row.hosts {
+				config.Hosts[host] = loopback
+			}
+			config.Log = func(event Event) { told += event.String() }
+		}, n)
+		if err := client.Join(within(t), 7, 7001); err != nil || told != row.wanted {
+			t.Errorf("hosts %v: got %q, %v", row.hosts, told, err)
+		}
+	}
+}
+
 func TestMembersJoinAndLeave(t *testing.T) {
 	nodes := startCluster(t)
 	client, ctx, ports := nodes.client(1), within(t), freePorts(1)

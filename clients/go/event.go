@@ -23,6 +23,9 @@ const (
 	EventLost
 	// EventNotKept: at Close the state file did not take back the numbers that were not used: Err says why.
 	EventNotKept
+	// EventFarJoin: a join is sent whose node has a number above twice that of each other node of Hosts. No smaller
+	// number can join after it.
+	EventFarJoin
 )
 
 // An Event is what a client tells of itself while it works.
@@ -55,6 +58,9 @@ func (e Event) String() string {
 		return fmt.Sprintf("%s: no longer held at fence %d: it was broken", e.Name, e.Fence)
 	case EventNotKept:
 		return fmt.Sprintf("reserved numbers are skipped: %v", e.Err)
+	case EventFarJoin:
+		return fmt.Sprintf("%s: above twice the greatest other node of the hosts: no smaller number can join after it",
+			e.Asked)
 	}
 	return fmt.Sprintf("event %d", e.Kind)
 }

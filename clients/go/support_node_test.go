@@ -23,6 +23,7 @@ const (
 	ownBusy  = "02 0007 0000000000000003"
 	stale    = "08"
 	shared   = "0c 0000000000000003"
+	joined   = "20"
 )
 
 // silent is no reply.

@@ -21,12 +21,13 @@ from .plans import Grant, Made, Mark, Plan, Request
 from .results import Free, Held, HeldShared, result
 from .waiter import Waiter
 from .waits import seconds_of
-from .wire import Answer, Op, name_bytes, table_op
+from .wire import Answer, Op, joined_by, name_bytes, table_op
 
 ANSWER_TIME = 0.5  # seconds that a request is given at least: none is begun later before the end of a wait
 CHECK_TIME = 1.0  # seconds that a request of a watch is given: the caller's own requests wait for it
 WAY_TIME = 1.0  # seconds after a release in which this client lets those that wait for the name go first
 BEGIN = table_op("ask", "begin")  # what a run begins with
+FAR = "node %d is above twice the greatest other node of the hosts: no smaller number can join after it"
 
 log = logging.getLogger("locks_client")
 
@@ -298,11 +299,18 @@ class Calls(Core):
     def request(self, op: Op, made: Made = result, end: float | None = None) -> Plan[Any]:
         """Begins a request, under a new number. What is made of its answer."""
         self.refuse_open()
+        if self.is_far(joined_by(op)):
+            log.warning(FAR, joined_by(op))
         spare = 0 if op.word == "release" else SPARE
         self.opening = None if self.has_begun else Request(self.numbers.take(spare), BEGIN, result)
         self.is_sent = False
         self.last = self.open = Request(self.numbers.take(spare), op, made)  # in this order, for an interrupt between
         return (yield from self.again(end))
+
+    def is_far(self, node: int) -> bool:
+        """Whether a number is above twice that of each other node of the hosts. Not where there is none."""
+        others = [it for it in self.hosts if it != node]
+        return bool(others) and node > 2 * max(others)
 
     def again(self, end: float | None = None) -> Plan[Any]:
         """Asks for the answer of the open request, until that time of the clock. What is made of it."""

@@ -174,7 +174,10 @@ class Client(Base):
         return bool(self.result_of(raise_op()))
 
     def join(self, node: int, port: int) -> None:
-        """Makes a node a member; Used or Full if it is not made one."""
+        """Makes a node a member; Used or Full if it is not made one.
+
+        The log warns of a number above twice the greatest other one of the hosts: no smaller number can join after it.
+        """
         self.result_of(join_op(node, port))
 
     def leave(self, node: int) -> None:

@@ -122,6 +122,11 @@ def join_op(node: int, port: int) -> Op:
     return Op("join", JOIN + struct.pack(">IH", ranged(node, 1, MAX_NODE, "node"), ranged(port, 1, MAX_PORT, "port")))
 
 
+def joined_by(op: Op) -> int:
+    """The node that an op makes a member; 0 if it makes none."""
+    return int.from_bytes(op.data[len(JOIN) : len(JOIN) + 4], "big") if op.word == "join" else 0
+
+
 def leave_op(node: int) -> Op:
     """The op that ends a node's membership."""
     return Op("leave", LEAVE + struct.pack(">I", ranged(node, 1, MAX_NODE, "node")))

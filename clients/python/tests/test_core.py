@@ -5,12 +5,16 @@ import unittest
 from unittest import mock
 
 from fake_node import ACQUIRE, BUSY, FREE, GRANTED, RELEASE, RELEASED, elsewhere, numbered, plain, waiting
-from locks_client import Busy, NoAnswer, StateError
+from locks_client import Busy, NoAnswer, StateError, calls
 from locks_client.calls import Calls
 from locks_client.plans import Datagram, Listen, Send, Sleep
 from locks_client.numbers import BLOCK, SPARE, Numbers
 from locks_client.seals import REPLY
 from locks_client.waits import POLLS, Polls, waits
+from locks_client.wire import join_op
+
+
+JOINED = "4c4b010a 0000000000000005 00000001 0007 0000000000000001 20"
 
 
 class Clock:
@@ -90,6 +94,24 @@ class CoreTest(unittest.TestCase):
     def test_an_elsewhere_is_followed_at_once(self):
         self.carry_out(self.core.poll("acquire", "db", 0.0), elsewhere(7003), GRANTED)
         self.assertEqual([it[:2] for it in self.done], [(0.0, 7001), (0.0, 7003)])
+
+    def test_a_join_far_above_the_hosts_is_sent_with_a_warning(self):
+        warning = "node 7 is above twice the greatest other node of the hosts: no smaller number can join after it"
+        known = {1: "127.0.0.1", 3: "127.0.0.1"}
+        for node, hosts, texts in (
+            (7, known, [warning]),
+            (7, {**known, 7: "127.0.0.1"}, [warning]),
+            (6, known, []),
+            (7, {**known, 4: "127.0.0.1"}, []),
+            (7, {}, []),
+            (7, {7: "127.0.0.1"}, []),
+        ):
+            self.core.hosts, self.done = hosts, []
+            number = self.core.last.number + 1 if self.core.last else 1
+            with self.subTest(node=node, hosts=hosts), mock.patch.object(calls.log, "warning") as warn:
+                self.carry_out(self.core.request(join_op(node, 7001)), numbered(JOINED, number))
+                self.assertEqual([it.args[0] % it.args[1:] for it in warn.call_args_list], texts)
+                self.assertEqual(len(self.done), 1)
 
     def test_an_elsewhere_is_followed_where_the_hosts_say_or_to_the_address_of_its_teller(self):
         for hosts, address in (({2: "10.0.0.2"}, "10.0.0.2"), ({3: "10.0.0.3"}, "10.0.0.1")):

@@ -64,6 +64,7 @@ impl Event<'_> {
             Event::Unanswered { .. } => "unanswered",
             Event::GivenUp { .. } => "given_up",
             Event::Unreachable { .. } => "unreachable",
+            Event::FarJoin { .. } => "far_join",
             Event::Waiting { .. } => "waiting",
             Event::NotReleased { .. } => "not_released",
             Event::Unwatched { .. } => "unwatched",
@@ -103,6 +104,7 @@ impl Event<'_> {
                 name: Some(name),
             } => fields!("number": number, "lock": name),
             Event::Unreachable { op, since } => fields!("op": op, "seconds": since.as_secs()),
+            Event::FarJoin { node } => fields!("node": node),
             _ => Fields::new(),
         }
     }

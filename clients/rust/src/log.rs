@@ -68,6 +68,12 @@ pub enum Event<'a> {
         /// For how long.
         since: Duration,
     },
+    /// A join is sent whose node has a number above twice that of each other host of
+    /// [`Client::set_hosts`](crate::Client::set_hosts): no smaller number can join after it.
+    FarJoin {
+        /// The number of the node.
+        node: u32,
+    },
     /// A lock is held. It is asked for again after a pause, or when a node says that it is free.
     Waiting {
         /// The lock's name.
@@ -133,6 +139,11 @@ impl fmt::Display for Event<'_> {
                 f,
                 "no node has answered `{op}` for {} s; check that nodes run at the given addresses",
                 since.as_secs()
+            ),
+            Event::FarJoin { node } => write!(
+                f,
+                "node {node} is above twice the greatest other node of the hosts: no smaller number \
+                 can join after it"
             ),
             other => other.fmt_lock(f),
         }

@@ -5,7 +5,9 @@ use crate::{Client, Error, Op};
 impl Client {
     /// Makes a node a member; [`Error::Used`] or [`Error::Full`] where it is not made one.
     ///
-    /// Start the node at once: it counts for majorities soon after this.
+    /// Start the node at once: it counts for majorities soon after this. A number above twice that of
+    /// each other host of [`Client::set_hosts`] is logged ([`Event::FarJoin`](crate::Event::FarJoin)):
+    /// no smaller number can join after it.
     ///
     #[doc = asks_a_node!()]
     /// # mod support { include!(concat!(env!("CARGO_MANIFEST_DIR"), "/tests/support/cluster.rs")); }

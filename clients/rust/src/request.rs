@@ -92,7 +92,30 @@ impl Session {
             false => Part::Opening,
         };
         self.begin_at(part, op.used_for(), op)?;
+        self.warn_of_join();
         self.resume(now, patience)
+    }
+
+    /// Logs an open join whose node is far above the hosts.
+    fn warn_of_join(&mut self) {
+        let Some(Open {
+            op: Op::Join(node, _),
+            ..
+        }) = self.open
+        else {
+            return;
+        };
+        if self.is_far(node) {
+            self.log.tell(&Event::FarJoin { node });
+        }
+    }
+
+    /// Whether a number is above twice that of each other host. Not where there is none.
+    fn is_far(&self, node: u32) -> bool {
+        let others = self.hosts.keys().filter(|host| **host != node);
+        others
+            .max()
+            .is_some_and(|greatest| node > greatest.saturating_mul(2))
     }
 
     /// Begins an Ask that may use the numbers reserved for freeing locks.

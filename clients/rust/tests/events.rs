@@ -63,6 +63,12 @@ fn a_request_that_is_given_up_matters_if_it_was_for_a_lock() {
 }
 
 #[test]
+fn an_event_of_a_join_is_a_line() {
+    let far = Event::FarJoin { node: 7 };
+    assert_eq!(line(&far), "WARN locks_client::request far_join node=7");
+}
+
+#[test]
 fn events_of_locks_are_lines() {
     let (name, fence, cause) = ("db", 3, &Error::NothingAsked);
     let waiting = Event::Waiting {

@@ -4,7 +4,7 @@
 #[allow(dead_code)]
 mod support;
 
-use locks_client::{Client, ClientId, ClusterId, Error, Event, Numbers};
+use locks_client::{Client, ClientId, ClusterId, Error, Event, Level, Numbers};
 use std::net::{IpAddr, SocketAddr, UdpSocket};
 use std::sync::{Arc, Mutex};
 use std::thread;
@@ -274,6 +274,36 @@ fn hosts_beyond_loopback_are_asked_from_a_socket_that_reaches_them() {
     source_of(&mut client, far, answer(2, FREE));
     let own = client.own_address().unwrap().ip();
     assert_eq!(own, IpAddr::from([0, 0, 0, 0]));
+}
+
+/// What is logged of a join of node 7 by a client with these hosts, which has to be sent.
+fn logged_of_a_join(hosts: &[u32]) -> Vec<String> {
+    let node = Node::new(vec![vec![answer(2, "20")]]);
+    let mut client = client(&[node.port]);
+    let local = IpAddr::from([127, 0, 0, 1]);
+    client
+        .set_hosts(hosts.iter().map(|host| (*host, local)))
+        .unwrap();
+    let told = Arc::new(Mutex::new(Vec::new()));
+    let kept = told.clone();
+    client.set_log(move |event| {
+        if event.level() == Level::Warn {
+            kept.lock().unwrap().push(event.to_string());
+        }
+    });
+    client.join(7, 7001).unwrap();
+    let told = told.lock().unwrap();
+    told.clone()
+}
+
+#[test]
+fn a_join_far_above_the_hosts_is_logged() {
+    let far = "node 7 is above twice the greatest other node of the hosts: no smaller number can join after it";
+    assert_eq!(logged_of_a_join(&[1, 3]), [far]);
+    assert_eq!(logged_of_a_join(&[1, 3, 7]), [far]);
+    for hosts in [&[1, 3, 4][..], &[], &[7]] {
+        assert!(logged_of_a_join(hosts).is_empty());
+    }
 }
 
 /// The text of the error of a request that is answered so.
