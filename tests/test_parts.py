@@ -118,7 +118,8 @@ class PartsTest(unittest.TestCase):
         while not os.path.exists(os.path.join(self.nodes.folder, "2", "b")):
             time.sleep(0.02)
         self.relay_until_installed()
-        self.assertEqual(sorted(set(self.offsets)), [0, 8_192, 16_384, 24_576])
+        self.assertEqual(self.offsets[0], 0)
+        self.assertEqual([offset for offset in self.offsets if offset % PIECE], [])
         pieces = [self.text[at:at + PIECE] for at in range(0, len(self.text), PIECE)]
         spelled = [
             number(POSITION, 8) + number(28_105, 4) + number(place * PIECE, 4) + number(len(piece), 2) + piece

@@ -110,8 +110,8 @@ def is_unsynced(program, lines, node):
 
 
 def carried(words):
-    """What an event gives a node at once: the numbers of datagrams, `t` for a tick, and `nudge` or `nudge withheld`."""
-    together = re.findall("nudge withheld|[^ ]+", " ".join(words[2:]))
+    """What an event gives a node at once: the numbers of datagrams, `t` for a tick, and the words of nudges."""
+    together = re.findall("nudge (?:withheld|fed)|[^ ]+", " ".join(words[2:]))
     return {"deliver": words[1:], "group": together}.get(words[0], [])
 
 

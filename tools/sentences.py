@@ -32,6 +32,7 @@ EVENTS = (
      "come."),
     (r"nudge (\d+) withheld", "Node {0}, whose ticks are withheld, is nudged: it asks the others for what they know "
      "better, or tells them how far it has come."),
+    (r"nudge (\d+) fed", "Node {0}, which was fed, is nudged: it asks the leader that it knows for more."),
     (r"client (\d+) (\d+) (\d+) (.*)", "Client {1} asks node {0}: {3}. It is this client’s request {2}."),
     (r"inject (\d+) (.*)", "Node {0} is handed bytes that nobody has sent: {1}."),
     (r"stop (\d+) (\d+) (\d+)", "Node {0} stops. Its disks keep up to {1} and {2} of their unsynced bytes."),
@@ -96,7 +97,8 @@ def arrives(line, sent):
 def taken(line, sent):
     """What a line says that gives a node several things at once."""
     node, words = line.split()[1], carried(line.split())
-    known = {"t": "a tick", "nudge": "a nudge", "nudge withheld": "a nudge that says that its ticks are withheld"}
+    known = {"t": "a tick", "nudge": "a nudge", "nudge withheld": "a nudge that says that its ticks are withheld",
+             "nudge fed": "a nudge that says that it was fed"}
     known |= {str(number): f"{it.kind} {number} from {party(it.sender, f'n{node}')}" for number, it in sent.items()}
     each = [known.get(word, f"datagram {word}") for word in words]
     return f"Node {node} takes these as one group, and syncs at most once: {listed(each)}."

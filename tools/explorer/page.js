@@ -312,7 +312,7 @@ function lineOf(word, to) {
 function drawEvent(stage, line) {
   const [verb, to, ...words] = line.split(" ");
   if (verb === "deliver" && data.sent[to]) return stage.datagram(data.sent[to], "arrow");
-  const together = verb === "group" ? words.join(" ").match(/nudge withheld|[^ ]+/g) : [];
+  const together = verb === "group" ? words.join(" ").match(/nudge (?:withheld|fed)|[^ ]+/g) : [];
   if (together.length) return together.forEach((it) => drawEvent(stage, lineOf(it, to)));
   const isOfNode = !["client", "genesis", "deliver"].includes(verb) && stage.x[`n${to}`] != null;
   if (isOfNode) stage.event(stage.x[`n${to}`], [verb, ...words].join(" ").slice(0, 24));

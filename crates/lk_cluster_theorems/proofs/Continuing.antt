@@ -26,7 +26,7 @@ use Rattle.lk_cluster_theorems.specs.Clusters.{Cluster, Network, Says, steps_of,
 use Rattle.lk_cluster_theorems.specs.Clusters.{disks_in, Starts, DoesTurn}
 use Rattle.lk_cluster_theorems.specs.Clusters.{Idles, EndsByTurn, Happens, HappenAll, IsReachable}
 use Rattle.lk_cluster_theorems.specs.Continuing.{node_of, HasNode, Continues, AddsNothing}
-use Rattle.lk_cluster_theorems.proofs.Keeping.{IsSound, Unforged, turn_takes, ended_may, with_replica}
+use Rattle.lk_cluster_theorems.proofs.Keeping.{IsSound, Unforged, turn_takes, ended_may, nudged_may, with_replica}
 use Rattle.lk_cluster_theorems.proofs.Keeping.{beside_changes, reachable_sound}
 use Rattle.lk_cluster_theorems.proofs.Saying.{turn_so}
 use Rattle.lk_cluster_theorems.proofs.Tracing.{Traced, trace_group}
@@ -306,8 +306,9 @@ module _ (May : Network) (Metered observable : Type 0) where
         → Traced old.genesis n turn.given (steps_of Metered turn.hands_on.says.comes)
     turn_trace old w index n server after at came may turn =
         let node = node_of n (Up server) in
-        let may_all = turn_takes May Metered observable unforged old old w n 64 server came turn.given turn.may
-        (w.loopback index node at server refl) may in
+        let may_all = nudged_may old.genesis old.sent turn.timed turn.given turn.nudged
+        (turn_takes May Metered observable unforged old old w n 64 server came turn.timed turn.may
+        (w.loopback index node at server refl) may) in
         trace_group old.genesis n old.seats index node at after Metered turn.given server.replica turn.hands_on.letters
         after.replica old.sent old.trace may_all
         (with_replica old w index node at server after refl) turn.hands_on.says
@@ -318,9 +319,10 @@ module _ (May : Network) (Metered observable : Type 0) where
         → Traced old.genesis n turn.given (steps_of Metered turn.hands_on.says.comes)
     last_trace old w index n server after at came may turn =
         let node = node_of n (Up server) in
-        let may_all = ended_may old.genesis old.sent turn.given turn.first.whole turn.first.front
+        let may_timed = ended_may old.genesis old.sent turn.timed turn.first.whole turn.first.front
         (turn_takes May Metered observable unforged old old w n turn.count server came turn.first.whole turn.first.may
         (w.loopback index node at server refl) may) in
+        let may_all = nudged_may old.genesis old.sent turn.timed turn.given turn.nudged may_timed in
         trace_group old.genesis n old.seats index node at after Metered turn.given server.replica turn.hands_on.letters
         after.replica old.sent old.trace may_all
         (with_replica old w index node at server after refl) turn.hands_on.says

@@ -47,7 +47,7 @@ use Rattle.lk_cluster_theorems.proofs.Mapped.{on_device}
 -- bytes that may be heard as what was given
 pub input_fits : (h : History) (i : Input) → MayHear h (heard_by i) → InputFits h i
 input_fits h Tick hears = tt
-input_fits h (Nudge withheld) hears = tt
+input_fits h (Nudge reason) hears = tt
 input_fits h (Heard bytes) hears = hears
 
 -- each of these may come

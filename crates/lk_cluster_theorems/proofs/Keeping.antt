@@ -27,7 +27,8 @@ use Rattle.lk_transport.specs.declared.received_watch.ReceivedWatch.{ReceivedWat
 use Rattle.lk_server_replica.specs.Showing.{IsShown}
 use Rattle.lk_probe.specs.declared.reported.Reported.{Reported}
 use Rattle.lk_transport.specs.declared.received_probe.ReceivedProbe.{ReceivedProbe}
-use Rattle.lk_server.specs.Servers.{ServerValue, DeliversLetters, Given, IsIdle, one_more, inputs, all_inputs}
+use Rattle.lk_server.specs.Servers.{ServerValue, DeliversLetters, Given, IsIdle, MayEndNudged, one_more, inputs}
+use Rattle.lk_server.specs.Servers.{all_inputs}
 use Rattle.lk_server.specs.Servers.{datagrams_in}
 use Rattle.lk_server.specs.Servers.{IsPrefix, send_state_at}
 use Rattle.lk_pacing.specs.declared.pace.Pace.{Pace}
@@ -212,6 +213,13 @@ module _ (genesis : Genesis) (sent : List Datagram) where
       turn_may pace received (datagrams_in (take count loopback) came) given is
       (datagrams_may (take count loopback) came (λ l c. mine l (in_front count loopback l c)) may)
 
+  -- and so may a nudge
+  pub nudged_may : (timed given : List (Option (List ℕ))) → MayEndNudged timed given → AllMay genesis sent timed
+      → AllMay genesis sent given
+  nudged_may timed given (inl same) may = subst (λ (g : List (Option (List ℕ))). AllMay genesis sent g) (sym same) may
+  nudged_may timed given (inr nudged) may = subst (λ (g : List (Option (List ℕ))). AllMay genesis sent g) (sym nudged)
+      (append_may timed (None ∷ []) may (tt, tt))
+
   pub ended_may : (given whole : List (Option (List ℕ))) → IsPrefix given whole → AllMay genesis sent whole
       → AllMay genesis sent given
   ended_may given whole front may =
@@ -264,7 +272,7 @@ module _ (old : Cluster) (w : IsSound old) where
       })
 
 -- a server as another one, but for what it knows of other addresses, who waits for a name, what has come to its socket
--- and was sent by it, and which ticks it has withheld
+-- and was sent by it, and which ticks it has withheld and counts as silence
 abbrev at_rest : ServerValue ReplicaValue → ServerValue ReplicaValue → ServerValue ReplicaValue
 at_rest server after = record after {
   addresses = server.addresses;
@@ -272,6 +280,7 @@ at_rest server after = record after {
   sent = server.sent;
   socket_failures = server.socket_failures;
   withheld = server.withheld;
+  quiet = server.quiet;
   waiting = server.waiting;
 }
 
@@ -466,7 +475,8 @@ module _ (May : Network) (Metered observable : Type 0) (unforged : Unforged May)
         let left = group_leaves old.genesis n old.seats a.replaces.index a.node a.replaces.at a.after Metered
         a.turn.given
         a.server.replica letters a.after.replica a.turn.hands_on.says a.trace old.sent old.trace
-        (turn_takes n 64 a.server a.came a.turn.given a.turn.may kept a.may)
+        (nudged_may old.genesis old.sent a.turn.timed a.turn.given a.turn.nudged
+        (turn_takes n 64 a.server a.came a.turn.timed a.turn.may kept a.may))
         (with_replica old w a.replaces.index a.node a.replaces.at a.server a.after a.was) a.traces in
         record {
           holds = moved (set old.seats a.replaces.index a.next) a.trace (batch_of n letters) a.replaces.seats a.adds
@@ -522,8 +532,9 @@ module _ (May : Network) (Metered observable : Type 0) (unforged : Unforged May)
         let n : ℕ = a.node.number in
         let kept = w.loopback a.replaces.index a.node a.replaces.at a.server a.was in
         let batch : List Datagram = batch_of n a.turn.hands_on.letters in
-        let may = ended_may old.genesis old.sent a.turn.given a.turn.first.whole a.turn.first.front
+        let timed = ended_may old.genesis old.sent a.turn.timed a.turn.first.whole a.turn.first.front
         (turn_takes n a.turn.count a.server a.came a.turn.first.whole a.turn.first.may kept a.may) in
+        let may = nudged_may old.genesis old.sent a.turn.timed a.turn.given a.turn.nudged timed in
         let device : Memory = device_of a.after.replica.store in
         let seat : Node = record { number = n; life = Down device } in
         let next : Node = record { number = n; life = Down a.left } in

@@ -25,8 +25,10 @@ module _ {R : Type 0} (S T : R → List (Option (List ℕ)) → List LetterValue
       → Turn S observable came old new → Turn T observable came old new
   turn_so observable came old new t = record {
     letters_first = t.letters_first;
-    given = t.given;
+    timed = t.timed;
     may = t.may;
+    given = t.given;
+    nudged = t.nudged;
     hands_on = hands_so observable t.given _ old new t.hands_on;
     counted = t.counted;
     ticks = t.ticks;
@@ -48,8 +50,11 @@ module _ {R : Type 0} (S T : R → List (Option (List ℕ)) → List LetterValue
     letters_first = t.letters_first;
     count = t.count;
     letters = t.letters;
-    given = t.given;
+    timed = t.timed;
     first = t.first;
+    given = t.given;
+    nudged = t.nudged;
+    after_all = t.after_all;
     hands_on = hands_so observable t.given _ old new t.hands_on;
     silent = t.silent;
     ticks = t.ticks;

@@ -44,15 +44,18 @@ module _ (Metered observable Honest : Type 0) (came : List (SocketAddr × List �
         replica = record now { failed = true };
         loopback = drop x.count server.loopback;
         addresses = x.addresses;
-        ticks = all_ticks server.ticks given;
+        ticks = all_ticks server.ticks x.timed;
         failed = true;
       } in
       let last : LastTurn (SaysIfHonest Metered Honest) observable came server after = record {
         letters_first = x.letters_first;
         count = x.count;
         letters = x.letters;
-        given = given;
+        timed = x.timed;
         first = x.first;
+        given = given;
+        nudged = x.nudged;
+        after_all = x.after_all;
         hands_on = record {
           letters = [];
           says = λ honest. cut_short Metered server.replica now given x.group (x.gathers honest);

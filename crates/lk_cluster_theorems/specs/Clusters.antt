@@ -143,8 +143,8 @@ pub record Starts (old new : Cluster) : Type 0 where
 -- a node that is up takes an idle turn, or handles probes and watches, notes who has joined and may read its hosts
 -- again: its replica is given nothing, and nothing is given to be sent as a datagram of the node. Only where nodes
 -- live, who has joined, what it knows of the nodes at other addresses, who waits for a name, what is to come to its
--- socket, what that has sent, how many of its sends have failed, and how many ticks were withheld may be another.
--- `observable` says that the sockets tell that
+-- socket, what that has sent, how many of its sends have failed, how many ticks were withheld and how many of these
+-- count as silence may be another. `observable` says that the sockets tell that
 pub record Idles (observable : Type 0) (old new : Cluster) : Type 0 where
   pub node : Node
   pub next : Node

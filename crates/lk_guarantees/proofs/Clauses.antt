@@ -157,7 +157,7 @@ pub compacts : (e : Event) (w : Scene ReplicaValue)
 compacts (event.Start n) w k = tt
 compacts (event.Restart n) w k = tt
 compacts (event.Tick n) w k = tt
-compacts (event.Nudge n withheld) w k = tt
+compacts (event.Nudge n reason) w k = tt
 compacts (event.Compact n) w k = λ e. compacted w n (k e)
 compacts (event.Client n r) w k = tt
 compacts (event.Deliver i) w k = tt

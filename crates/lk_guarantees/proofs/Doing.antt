@@ -180,7 +180,7 @@ module _ (b : Behaviour ReplicaValue) where
   brings_only old new (event.Restart n) may k =
       (n, refl, turned old.seats new.seats n k.seat k.next k.replaces k.number)
   brings_only old new (event.Tick n) may k = (n, refl, turned old.seats new.seats n k.seat k.next k.replaces k.number)
-  brings_only old new (event.Nudge n withheld) may k =
+  brings_only old new (event.Nudge n reason) may k =
       (n, refl, turned old.seats new.seats n k.seat k.next k.replaces k.number)
   brings_only old new (event.Compact n) may k =
       (n, refl, turned old.seats new.seats n k.seat k.next k.replaces k.number)
@@ -206,7 +206,7 @@ module _ (b : Behaviour ReplicaValue) where
   brings_sends old new (event.Start n) k = tt
   brings_sends old new (event.Restart n) k = tt
   brings_sends old new (event.Tick n) k = tt
-  brings_sends old new (event.Nudge n withheld) k = tt
+  brings_sends old new (event.Nudge n reason) k = tt
   brings_sends old new (event.Compact n) k = tt
   brings_sends old new (event.Client n r) k = (k.datagram, k.from, k.to, k.spelled, k.adds.sent, k.adds.trace, k.seats)
   brings_sends old new (event.Deliver i) k = tt
@@ -252,7 +252,7 @@ module _ (b : Behaviour ReplicaValue) where
   brings_adds old new (event.Start n) k = comes_add old new k.seat empty k.comes
   brings_adds old new (event.Restart n) k = comes_add old new k.next k.device k.comes
   brings_adds old new (event.Tick n) k = given_adds old new n input.Tick [] k
-  brings_adds old new (event.Nudge n withheld) k = given_adds old new n (input.Nudge withheld) [] k
+  brings_adds old new (event.Nudge n reason) k = given_adds old new n (input.Nudge reason) [] k
   brings_adds old new (event.Compact n) k = record { notes = []; batch = []; adds = compacted_adds b old new n k }
   brings_adds old new (event.Client n r) k =
       record { notes = note.Asked r ∷ []; batch = k.datagram ∷ []; adds = k.adds }
@@ -278,7 +278,7 @@ module _ (b : Behaviour ReplicaValue) where
   brings_asks old new (event.Start n) k = ([], refl, comes_ask b old new k.seat empty k.comes)
   brings_asks old new (event.Restart n) k = ([], refl, comes_ask b old new k.next k.device k.comes)
   brings_asks old new (event.Tick n) k = ([], refl, given_asks b old new n input.Tick [] k)
-  brings_asks old new (event.Nudge n withheld) k = ([], refl, given_asks b old new n (input.Nudge withheld) [] k)
+  brings_asks old new (event.Nudge n reason) k = ([], refl, given_asks b old new n (input.Nudge reason) [] k)
   brings_asks old new (event.Compact n) k = ([], refl, adds_just old new [] [] (compacted_adds b old new n k))
   brings_asks old new (event.Client n r) k =
       (r ∷ [], refl, adds_just old new (note.Asked r ∷ []) (k.datagram ∷ []) k.adds)
@@ -308,7 +308,7 @@ module _ (b : Behaviour ReplicaValue) where
   wants_add old new (event.Start n) k = same_adds old new k
   wants_add old new (event.Restart n) k = k.adds
   wants_add old new (event.Tick n) k = k.adds
-  wants_add old new (event.Nudge n withheld) k = k.adds
+  wants_add old new (event.Nudge n reason) k = k.adds
   wants_add old new (event.Compact n) k = k.adds
   wants_add old new (event.Client n r) k = same_adds old new k
   wants_add old new (event.Deliver i) k = elim k [ inl same ↦ same_adds old new same | inr h ↦ h.4.adds ]
@@ -346,8 +346,8 @@ module _ (b : Behaviour ReplicaValue) where
   wants_falls old new (event.Restart n) k =
       inr (n, refl, halted_falls (LeftByRevival b (header_of old.genesis n)) old new n k)
   wants_falls old new (event.Tick n) k = inr (n, refl, halted_falls (LeftBy b input.Tick) old new n k)
-  wants_falls old new (event.Nudge n withheld) k =
-      inr (n, refl, halted_falls (LeftBy b (input.Nudge withheld)) old new n k)
+  wants_falls old new (event.Nudge n reason) k =
+      inr (n, refl, halted_falls (LeftBy b (input.Nudge reason)) old new n k)
   wants_falls old new (event.Compact n) k = inr (n, refl, halted_falls (LeftByCompacting b) old new n k)
   wants_falls old new (event.Client n r) k = inl (same_seats old new k)
   wants_falls old new (event.Deliver i) k = elim k [
@@ -423,7 +423,7 @@ module _ (b : Behaviour ReplicaValue) (memory_is : (r : ReplicaValue) → b.memo
   stops old new (event.Start n) k = tt
   stops old new (event.Restart n) k = tt
   stops old new (event.Tick n) k = tt
-  stops old new (event.Nudge n withheld) k = tt
+  stops old new (event.Nudge n reason) k = tt
   stops old new (event.Compact n) k = tt
   stops old new (event.Client n r) k = tt
   stops old new (event.Deliver i) k = tt
@@ -440,7 +440,7 @@ module _ (b : Behaviour ReplicaValue) (memory_is : (r : ReplicaValue) → b.memo
   silent old new (event.Start n) k = tt
   silent old new (event.Restart n) k = tt
   silent old new (event.Tick n) k = tt
-  silent old new (event.Nudge n withheld) k = tt
+  silent old new (event.Nudge n reason) k = tt
   silent old new (event.Compact n) k = adds_nothing old new (compacted_adds b old new n k)
   silent old new (event.Client n r) k = tt
   silent old new (event.Deliver i) k = tt

@@ -115,7 +115,7 @@ module _ (old new : Scene ReplicaValue) where
           (sits k.seat k.next n _ k.replaces k.number f.down)
     ]
     falls (event.Tick n) k = given_down (event.Tick n) n input.Tick [] refl k
-    falls (event.Nudge n withheld) k = given_down (event.Nudge n withheld) n (input.Nudge withheld) [] refl k
+    falls (event.Nudge n reason) k = given_down (event.Nudge n reason) n (input.Nudge reason) [] refl k
     falls (event.Compact n) k = elim k.comes_to [
       | inl r ↦ none_ended (event.Compact n) r.ended
       | inr f ↦ fell _ (event.Compact n) n k.next [] f (k.replaces.number ∙ k.number) refl
@@ -149,7 +149,7 @@ module _ (b : Behaviour ReplicaValue) where
   wants_end old new (event.Start n) k = same_end old new k
   wants_end old new (event.Restart n) k = k.ended
   wants_end old new (event.Tick n) k = k.ended
-  wants_end old new (event.Nudge n withheld) k = k.ended
+  wants_end old new (event.Nudge n reason) k = k.ended
   wants_end old new (event.Compact n) k = k.ended
   wants_end old new (event.Client n q) k = same_end old new k
   wants_end old new (event.Deliver i) k = elim k [ inl same ↦ same_end old new same | inr h ↦ h.4.ended ]

@@ -1,5 +1,5 @@
 -- Why an event is refused, and what one leaves up, in the words of the guarantee.
-use Rattle.std.proofs.Common.{◌≡◌, ℕ, Bool, zero, suc, ◌+◌, List, [], ◌∷◌, map, slice_get, Option, Some}
+use Rattle.std.proofs.Common.{◌≡◌, ℕ, zero, suc, ◌+◌, List, [], ◌∷◌, map, slice_get, Option, Some}
 use Rattle.std.proofs.Common.{None, Contains, refl, ap, sym, ◌∙◌, subst, inl, inr, arith}
 use Rattle.std.specs.Global.{Global}
 use Rattle.std.specs.Prelude.{Vec}
@@ -14,6 +14,7 @@ use Rattle.lk_agreement_laws.proofs.Histories.{contains_more}
 use Rattle.lk_node_interface.specs.declared.input.Input.{Input}
 use Rattle.lk_node_interface.specs.declared.input.Input.TheVariants as input
 use Rattle.lk_node_interface.specs.declared.note.Note.{Note}
+use Rattle.lk_node_interface.specs.declared.nudge_reason.NudgeReason.{NudgeReason}
 use Rattle.lk_node.specs.Histories.{Datagram, RequestValue}
 use Rattle.lk_replica.specs.Behaviours.{Behaviour}
 use Rattle.lk_replica.specs.ReplicaValue.{ReplicaValue}
@@ -85,9 +86,9 @@ are_for sent n (group_input.Tick ∷ group_inputs) each = (
   are_for sent n group_inputs (λ k c. each k (contains_more group_input.Tick group_inputs
       (group_input.Deliver k) c)),
 )
-are_for sent n (group_input.Nudge withheld ∷ group_inputs) each = (
+are_for sent n (group_input.Nudge reason ∷ group_inputs) each = (
   tt,
-  are_for sent n group_inputs (λ k c. each k (contains_more (group_input.Nudge withheld) group_inputs
+  are_for sent n group_inputs (λ k c. each k (contains_more (group_input.Nudge reason) group_inputs
       (group_input.Deliver k) c)),
 )
 are_for sent n (group_input.Deliver j ∷ group_inputs) each =
@@ -136,15 +137,15 @@ module _ (old : Scene ReplicaValue) where
   no_tick n WorldFull k = k.1
   no_tick n WorldMemory k = absurd k
 
-  no_nudge : (n : ℕ) (withheld : Bool) (r : Refused) → NoStep old.seats old.sent n r
-      → HasCause old (event.Nudge n withheld) r
-  no_nudge n withheld NoSuchNode k = (n, refl, none_started old.seats n k)
-  no_nudge n withheld NotUp k = (n, refl, down old.seats n k)
-  no_nudge n withheld AlreadyUp k = absurd k
-  no_nudge n withheld NoSuchDatagram k = absurd k
-  no_nudge n withheld Forged k = absurd k
-  no_nudge n withheld WorldFull k = k.1
-  no_nudge n withheld WorldMemory k = absurd k
+  no_nudge : (n : ℕ) (reason : NudgeReason) (r : Refused) → NoStep old.seats old.sent n r
+      → HasCause old (event.Nudge n reason) r
+  no_nudge n reason NoSuchNode k = (n, refl, none_started old.seats n k)
+  no_nudge n reason NotUp k = (n, refl, down old.seats n k)
+  no_nudge n reason AlreadyUp k = absurd k
+  no_nudge n reason NoSuchDatagram k = absurd k
+  no_nudge n reason Forged k = absurd k
+  no_nudge n reason WorldFull k = k.1
+  no_nudge n reason WorldMemory k = absurd k
 
   no_compact : (n : ℕ) (r : Refused) → NoneUp old.seats n r → HasCause old (event.Compact n) r
   no_compact n NoSuchNode k = (n, refl, none_started old.seats n k)
@@ -241,7 +242,7 @@ module _ (old : Scene ReplicaValue) where
   may_not (event.Start n) r k = no_start n r k
   may_not (event.Restart n) r k = no_restart n r k
   may_not (event.Tick n) r k = no_tick n r k
-  may_not (event.Nudge n withheld) r k = no_nudge n withheld r k
+  may_not (event.Nudge n reason) r k = no_nudge n reason r k
   may_not (event.Compact n) r k = no_compact n r k
   may_not (event.Client n q) r k = no_client_event n q r k
   may_not (event.Deliver i) r k = no_delivery i (datagram_at old.sent i) r refl k
@@ -256,7 +257,7 @@ module _ (old : Scene ReplicaValue) where
     wanting (event.Start n) k = tt
     wanting (event.Restart n) k = tt
     wanting (event.Tick n) k = tt
-    wanting (event.Nudge n withheld) k = tt
+    wanting (event.Nudge n reason) k = tt
     wanting (event.Compact n) k = tt
     wanting (event.Client n q) k = tt
     wanting (event.Deliver i) k = tt
@@ -324,7 +325,7 @@ module _ (old : Scene ReplicaValue) where
       | inr f ↦ absurd (not_ended _ f.ended none)
     ]
     leaves_up (event.Tick n) k = λ none. (n, refl, given_up n input.Tick [] k none)
-    leaves_up (event.Nudge n withheld) k = λ none. (n, refl, given_up n (input.Nudge withheld) [] k none)
+    leaves_up (event.Nudge n reason) k = λ none. (n, refl, given_up n (input.Nudge reason) [] k none)
     leaves_up (event.Compact n) k = λ none. elim k.comes_to [
       | inl r ↦ (n, refl, sits k.seat k.next n r.replica k.replaces k.number r.up)
       | inr f ↦ absurd (not_ended _ f.ended none)

@@ -152,7 +152,7 @@ module _ (b : Behaviour ReplicaValue)
   restarts_as_told old new (event.Start n) k = is_new b contract old new n k
   restarts_as_told old new (event.Restart n) k = is_back b contract old new n k
   restarts_as_told old new (event.Tick n) k = tt
-  restarts_as_told old new (event.Nudge n withheld) k = tt
+  restarts_as_told old new (event.Nudge n reason) k = tt
   restarts_as_told old new (event.Compact n) k = tt
   restarts_as_told old new (event.Client n q) k = tt
   restarts_as_told old new (event.Deliver i) k = tt

@@ -78,7 +78,7 @@ brought sent n (group_input.Tick ∷ group_inputs) are = (
   refl,
   brought sent n group_inputs are.1,
 )
-brought sent n (group_input.Nudge withheld ∷ group_inputs) are = (
+brought sent n (group_input.Nudge reason ∷ group_inputs) are = (
   map
       (given_by sent) group_inputs,
   refl,
@@ -315,7 +315,7 @@ module _ (b : Behaviour ReplicaValue) (memory_is : (r : ReplicaValue) → b.memo
     takes_as_told old new (event.Start n) may k = tt
     takes_as_told old new (event.Restart n) may k = tt
     takes_as_told old new (event.Tick n) may k = taken old new n input.Tick [] k
-    takes_as_told old new (event.Nudge n withheld) may k = taken old new n (input.Nudge withheld) [] k
+    takes_as_told old new (event.Nudge n reason) may k = taken old new n (input.Nudge reason) [] k
     takes_as_told old new (event.Compact n) may k = tt
     takes_as_told old new (event.Client n q) may k = tt
     takes_as_told old new (event.Deliver i) may k =

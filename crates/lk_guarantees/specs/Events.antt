@@ -82,7 +82,7 @@ abbrev pub IsFor : List Datagram → Event → ℕ → Type 0
 IsFor sent (event.Start n) number = number ≡ n
 IsFor sent (event.Restart n) number = number ≡ n
 IsFor sent (event.Tick n) number = number ≡ n
-IsFor sent (event.Nudge n withheld) number = number ≡ n
+IsFor sent (event.Nudge n reason) number = number ≡ n
 IsFor sent (event.Compact n) number = number ≡ n
 IsFor sent (event.Client n r) number = number ≡ n
 IsFor sent (event.Deliver k) number =
@@ -373,8 +373,8 @@ abbrev pub AreGiven : List Datagram → List GroupInput → List Input → Type 
 AreGiven sent [] given = given ≡ []
 AreGiven sent (group_input.Tick ∷ group_inputs) given =
     (rest : List Input) × (given ≡ Tick ∷ rest) × AreGiven sent group_inputs rest
-AreGiven sent (group_input.Nudge withheld ∷ group_inputs) given =
-    (rest : List Input) × (given ≡ Nudge withheld ∷ rest) × AreGiven sent group_inputs rest
+AreGiven sent (group_input.Nudge reason ∷ group_inputs) given =
+    (rest : List Input) × (given ≡ Nudge reason ∷ rest) × AreGiven sent group_inputs rest
 AreGiven sent (group_input.Deliver k ∷ group_inputs) given =
     (j : ℕ) × (d : Datagram) × (k ≡ j + 1) × (slice_get sent j ≡ Some d)
     × ((rest : List Input) × (given ≡ Heard d.bytes ∷ rest) × AreGiven sent group_inputs rest)
@@ -382,7 +382,7 @@ AreGiven sent (group_input.Deliver k ∷ group_inputs) given =
 -- the node took the input as the contract of a replica says
 abbrev pub TakesAsStated : Scene ReplicaValue → Event → Scene ReplicaValue → Type 0
 TakesAsStated old (event.Tick n) new = IsTaken old n (Takes Tick) [] new
-TakesAsStated old (event.Nudge n withheld) new = IsTaken old n (Takes (Nudge withheld)) [] new
+TakesAsStated old (event.Nudge n reason) new = IsTaken old n (Takes (Nudge reason)) [] new
 TakesAsStated old (event.Inject n bytes) new =
     (asked : List Asking) × AreAskedIn bytes.items asked × IsTaken old n (Takes (Heard bytes.items)) asked new
 TakesAsStated old (event.Deliver k) new =

@@ -1,7 +1,7 @@
 -- A step writes few entries.
 use Rattle.std.proofs.lemmas.Bool.Decides.{nat_tests}
-use Rattle.std.proofs.Common.{Bool, true, ◌≡◌, ℕ, ◌+◌, ◌≤◌, List, [], ◌∷◌, length, Option, Some, None, refl, ap, ◌∙◌}
-use Rattle.std.proofs.Common.{subst, inl, inr, arith, length-append}
+use Rattle.std.proofs.Common.{Bool, true, false, ◌≡◌, ℕ, ◌+◌, ◌≤◌, List, [], ◌∷◌, length, Option, Some, None, refl, ap}
+use Rattle.std.proofs.Common.{◌∙◌, subst, inl, inr, arith, length-append}
 use Rattle.lk_types.specs.declared.entry.Entry.{Entry}
 use Rattle.lk_types.specs.declared.vote.Vote.{Vote}
 use Rattle.lk_messages.specs.Grammar.{IsContent, IsNodeMessage}
@@ -18,6 +18,8 @@ use Rattle.lk_agreement_laws.specs.Ballots.{BallotValue}
 use Rattle.lk_node_interface.specs.Outboxes.{OutboxValue, nothing, with_rebase, with_entry, with_optional}
 use Rattle.lk_node_interface.specs.declared.input.Input.{Input}
 use Rattle.lk_node_interface.specs.declared.input.Input.TheVariants as input
+use Rattle.lk_node_interface.specs.declared.nudge_reason.NudgeReason.{NudgeReason}
+use Rattle.lk_node_interface.specs.declared.nudge_reason.NudgeReason.TheVariants as reasons
 use Rattle.lk_node.specs.CatchingUp.{Feeds}
 use Rattle.lk_node.specs.Executing.{with_session_reply, EndsWaitIfAny, waiting_number}
 use Rattle.lk_node.specs.Executing.{without_term_if_outside, Runs, goes_on, stays}
@@ -27,7 +29,7 @@ use Rattle.lk_node.specs.DecidedPairs.{LearnsPairs, none_yet, one_more}
 use Rattle.lk_node.specs.Leading.{ProposesAll}
 use Rattle.lk_node.specs.Reminding.{OffersFirst, OffersAhead, OffersAgain, Ticks, none_offered, one_offered}
 use Rattle.lk_node.specs.NodeValue.{NodeValue}
-use Rattle.lk_node.specs.Nudging.{refreshed, AsksOthers, Nudges}
+use Rattle.lk_node.specs.Nudging.{refreshed, AsksOthers, SeeksAfresh, AsksLeader, Nudges}
 use Rattle.lk_node.specs.Steps.{Steps, HandlesNode, Handles}
 use Rattle.lk_node.specs.Asking.{HandlesRequest, PointsTo, QueuesOrRedirects, RepliesAs, leader_in}
 use Rattle.lk_node.specs.Histories.{RequestValue}
@@ -234,15 +236,32 @@ asked_same : (node : NodeValue) (out : OutboxValue) → AsksOthers node out → 
 asked_same node out (inl asks) = ap (λ (o : OutboxValue). o.entries) asks.1.2.1
 asked_same node out (inr last) = ap (λ (o : OutboxValue). o.entries) last.1
 
-pub nudged_same : (withheld : Bool) (old new : NodeValue) (out : OutboxValue) → Nudges withheld old new out
+afresh_same : (withheld : Bool) (old new : NodeValue) (out : OutboxValue) → SeeksAfresh withheld old new out
     → out.entries ≡ []
-nudged_same withheld old new out (inl asks) =
+afresh_same withheld old new out (inl asks) =
     let k = asks.2 in
     proposed_same k.proposes.0 (refreshed old) new k.asked out k.proposes.1 ∙ asked_same (refreshed old) k.asked k.asks
-nudged_same withheld old new out (inr tells) = elim tells.2 [
+afresh_same withheld old new out (inr tells) = elim tells.2 [
   | inl silent ↦ ap (λ (o : OutboxValue). o.entries) silent.1.2.1
   | inr hears ↦ ap (λ (o : OutboxValue). o.entries) hears.1
 ]
+
+leader_same : (known : Option ℕ) (node : NodeValue) (out : OutboxValue) → AsksLeader known node out
+    → out.entries ≡ []
+leader_same None node out k = ap (λ (o : OutboxValue). o.entries) k
+leader_same (Some leader) node out (inl asks) = elim asks.1 [
+  | inl s ↦ ap (λ (o : OutboxValue). o.entries) s.1.1
+  | inr s ↦ ap (λ (o : OutboxValue). o.entries) s.1
+]
+leader_same (Some leader) node out (inr own) = ap (λ (o : OutboxValue). o.entries) own.1
+
+pub nudged_same : (reason : NudgeReason) (old new : NodeValue) (out : OutboxValue) → Nudges reason old new out
+    → out.entries ≡ []
+nudged_same reasons.Period old new out k = afresh_same false old new out k
+nudged_same reasons.TicksWithheld old new out k = afresh_same true old new out k
+nudged_same reasons.Fed old new out (inl proposes) =
+    proposed_same proposes.2.0 old new nothing out proposes.2.1
+nudged_same reasons.Fed old new out (inr asks) = leader_same old.known old out asks.2
 
 -- ---- a step
 
@@ -250,7 +269,7 @@ nudged_same withheld old new out (inr tells) = elim tells.2 [
 pub few_entries : (m : Meaning) (IsText : List ℕ → Type 0) (old : NodeValue) (i : Input) (new : NodeValue)
     (out : OutboxValue) → Steps m IsText old i new out → length out.entries ≤ 16
 few_entries m IsText old input.Tick new out t = ticked_few old new out t
-few_entries m IsText old (input.Nudge withheld) new out t = none_written out (nudged_same withheld old new out t)
+few_entries m IsText old (input.Nudge reason) new out t = none_written out (nudged_same reason old new out t)
 few_entries m IsText old (input.Datagram bytes) new out t =
     let heard : length t.first.entries ≤ 16 = elim t.handles [
       | inl h ↦ by_content h.0.content h.1.0.1 h.3

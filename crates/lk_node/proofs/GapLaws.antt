@@ -141,7 +141,7 @@ feeds_goes_on m Heard node other first offset out (inr (inl parts)) =
     feeds_parts_goes_on m Heard node other offset out parts.1
 feeds_goes_on m Heard node other first offset out (inr (inr none)) = idles m Heard node out none.1
 
-asks_goes_on : (m : Meaning) (Heard : History → Type 0) (node : NodeValue) (other : ℕ) (out : OutboxValue)
+pub asks_goes_on : (m : Meaning) (Heard : History → Type 0) (node : NodeValue) (other : ℕ) (out : OutboxValue)
     → AsksOn node other out → ActsSafely m Heard node node nothing out
 asks_goes_on m Heard node other out (inl more) =
     alone_goes_on m Heard node (to_node node other) (kinds.Want (wanted node.learner)) out more.1 tt

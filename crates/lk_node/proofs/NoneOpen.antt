@@ -1,5 +1,6 @@
 -- A step leaves nothing open to propose: it proposes all that is, and a term that it begins has no promise yet.
-use Rattle.std.proofs.Common.{◌≡◌, ℕ, Bool, inl, inr, List, [], ◌∷◌, Some, None, refl, ap, sym, subst, ◌∙◌, arith}
+use Rattle.std.proofs.Common.{◌≡◌, ℕ, Bool, true, false, inl, inr, List, [], ◌∷◌, Some, None, refl, ap}
+use Rattle.std.proofs.Common.{sym, subst, ◌∙◌, arith}
 use Rattle.lk_types.specs.declared.member.Member.{Member}
 use Rattle.lk_types.specs.declared.vote.Vote.{Vote}
 use Rattle.lk_members.specs.Majorities.{IsMajority}
@@ -7,12 +8,14 @@ use Rattle.lk_members.proofs.Memberships.{majorities_meet}
 use Rattle.lk_leader.specs.Proposing.{promisers}
 use Rattle.lk_leader.specs.Terms.{TermValue, begun}
 use Rattle.lk_state.specs.Meanings.{Meaning}
-use Rattle.lk_node_interface.specs.Outboxes.{OutboxValue}
+use Rattle.lk_node_interface.specs.Outboxes.{OutboxValue, nothing}
 use Rattle.lk_node_interface.specs.declared.input.Input.{Input}
 use Rattle.lk_node_interface.specs.declared.input.Input.TheVariants as input
+use Rattle.lk_node_interface.specs.declared.nudge_reason.NudgeReason.{NudgeReason}
+use Rattle.lk_node_interface.specs.declared.nudge_reason.NudgeReason.TheVariants as reasons
 use Rattle.lk_node.specs.Leading.{having_proposed, NothingToPropose, ProposesAll}
 use Rattle.lk_node.specs.NodeValue.{NodeValue}
-use Rattle.lk_node.specs.Nudging.{refreshed, Nudges}
+use Rattle.lk_node.specs.Nudging.{refreshed, SeeksAfresh, Nudges}
 use Rattle.lk_node.specs.Reminding.{Ticks}
 use Rattle.lk_node.specs.Steps.{Steps}
 use Rattle.lk_node.specs.Waiting.{ticked, BeginsWhereDue}
@@ -56,14 +59,21 @@ tick_open old new out (inl reminds) =
     last_open reminds.2.proposes.0 old new reminds.2.offered reminds.2.proposed reminds.2.proposes.1
 tick_open old new out (inr waits) = due_open (ticked old) new out waits.0 waits.1
 
-nudge_open : (withheld : Bool) (old new : NodeValue) (out : OutboxValue) → Nudges withheld old new out
+afresh_open : (withheld : Bool) (old new : NodeValue) (out : OutboxValue) → SeeksAfresh withheld old new out
     → NothingToPropose new
-nudge_open withheld old new out (inl asks) =
+afresh_open withheld old new out (inl asks) =
     last_open asks.2.proposes.0 (refreshed old) new asks.2.asked out asks.2.proposes.1
-nudge_open withheld old new out (inr tells) = subst NothingToPropose (sym tells.1) (idle_open (refreshed old) tells.0)
+afresh_open withheld old new out (inr tells) = subst NothingToPropose (sym tells.1) (idle_open (refreshed old) tells.0)
+
+nudge_open : (reason : NudgeReason) (old new : NodeValue) (out : OutboxValue) → Nudges reason old new out
+    → NothingToPropose new
+nudge_open reasons.Period old new out k = afresh_open false old new out k
+nudge_open reasons.TicksWithheld old new out k = afresh_open true old new out k
+nudge_open reasons.Fed old new out (inl proposes) = last_open proposes.2.0 old new nothing out proposes.2.1
+nudge_open reasons.Fed old new out (inr asks) = subst NothingToPropose (sym asks.1) (idle_open old asks.0)
 
 pub step_open : (m : Meaning) (IsText : List ℕ → Type 0) (old : NodeValue) (i : Input) (new : NodeValue)
     (out : OutboxValue) → Steps m IsText old i new out → NothingToPropose new
 step_open m IsText old input.Tick new out k = tick_open old new out k
-step_open m IsText old (input.Nudge withheld) new out k = nudge_open withheld old new out k
+step_open m IsText old (input.Nudge reason) new out k = nudge_open reason old new out k
 step_open m IsText old (input.Datagram bytes) new out k = last_open k.proposes.0 k.mid new k.first out k.proposes.1

@@ -22,9 +22,11 @@ use Rattle.lk_leader.specs.Terms.{TermValue}
 use Rattle.lk_learner.specs.Installing.{with_gathered, hearing, Installs}
 use Rattle.lk_learner.specs.Learners.{Command, LearnerValue, IsNext, gathered_bytes}
 use Rattle.lk_node_interface.specs.Grants.{is_granted}
-use Rattle.lk_node_interface.specs.Outboxes.{OutboxValue}
+use Rattle.lk_node_interface.specs.Outboxes.{OutboxValue, nothing}
 use Rattle.lk_node_interface.specs.declared.input.Input.{Input}
 use Rattle.lk_node_interface.specs.declared.input.Input.TheVariants as input
+use Rattle.lk_node_interface.specs.declared.nudge_reason.NudgeReason.{NudgeReason}
+use Rattle.lk_node_interface.specs.declared.nudge_reason.NudgeReason.TheVariants as reasons
 use Rattle.lk_node.specs.Responding.{with_acceptor, replied, Responds}
 use Rattle.lk_node.specs.Asking.{leader_in, PointsTo, QueuesOrRedirects, RepliesAs}
 use Rattle.lk_node.specs.CatchingUp.{following, HandlesLead}
@@ -34,7 +36,7 @@ use Rattle.lk_node.specs.Executing.{NothingToRun}
 use Rattle.lk_node.specs.Installing.{HandlesPart}
 use Rattle.lk_node.specs.Leading.{HandlesPromise, having_proposed, ProposesAll}
 use Rattle.lk_node.specs.NodeValue.{NodeValue}
-use Rattle.lk_node.specs.Nudging.{remembering, without_gathered, refreshed, Nudges}
+use Rattle.lk_node.specs.Nudging.{remembering, without_gathered, refreshed, SeeksAfresh, Nudges}
 use Rattle.lk_node.specs.Reminding.{Ticks}
 use Rattle.lk_node.specs.Steps.{HandlesNode, Handles, HandlesBytes, Steps}
 use Rattle.lk_node.specs.Waiting.{ticked, BeginsWhereDue}
@@ -190,19 +192,27 @@ refreshed_settles node = by_test (eqb (gathered_bytes node.learner.gathered) nod
     by_test true = λ none. none
     by_test false = λ none. none
 
-nudge_settles : (withheld : Bool) (old new : NodeValue) (out : OutboxValue) → Nudges withheld old new out
+afresh_settles : (withheld : Bool) (old new : NodeValue) (out : OutboxValue) → SeeksAfresh withheld old new out
     → LeavesNothing old new
-nudge_settles withheld old new out (inl asks) none =
+afresh_settles withheld old new out (inl asks) none =
     let proposes = asks.2.proposes in
     stays (refreshed old) new (proposed_learner proposes.0 (refreshed old) new asks.2.asked out proposes.1)
     (refreshed_settles old none)
-nudge_settles withheld old new out (inr tells) none =
+afresh_settles withheld old new out (inr tells) none =
     stays_as (refreshed old) (refreshed old) new refl tells.1 (refreshed_settles old none)
+
+nudge_settles : (reason : NudgeReason) (old new : NodeValue) (out : OutboxValue) → Nudges reason old new out
+    → LeavesNothing old new
+nudge_settles reasons.Period old new out k none = afresh_settles false old new out k none
+nudge_settles reasons.TicksWithheld old new out k none = afresh_settles true old new out k none
+nudge_settles reasons.Fed old new out (inl proposes) none =
+    stays old new (proposed_learner proposes.2.0 old new nothing out proposes.2.1) none
+nudge_settles reasons.Fed old new out (inr asks) none = stays_as old old new refl asks.1 none
 
 pub step_leaves_nothing : (m : Meaning) (IsText : List ℕ → Type 0) (old : NodeValue) (i : Input) (new : NodeValue)
     (out : OutboxValue) → Steps m IsText old i new out → NothingToRun old → NothingToRun new
 step_leaves_nothing m IsText old input.Tick new out k none = tick_settles old new out k none
-step_leaves_nothing m IsText old (input.Nudge withheld) new out k none = nudge_settles withheld old new out k none
+step_leaves_nothing m IsText old (input.Nudge reason) new out k none = nudge_settles reason old new out k none
 step_leaves_nothing m IsText old (input.Datagram bytes) new out k none =
     stays k.mid new (proposed_learner k.proposes.0 k.mid new k.first out k.proposes.1)
     (bytes_settle m IsText bytes old k.mid k.first k.handles none)

@@ -38,6 +38,8 @@ use Rattle.lk_node_interface.specs.KeptReplies.{session_by}
 use Rattle.lk_node_interface.specs.Outboxes.{OutboxValue, nothing, with_optional, with_rebase}
 use Rattle.lk_node_interface.specs.declared.input.Input.{Input}
 use Rattle.lk_node_interface.specs.declared.input.Input.TheVariants as input
+use Rattle.lk_node_interface.specs.declared.nudge_reason.NudgeReason.{NudgeReason}
+use Rattle.lk_node_interface.specs.declared.nudge_reason.NudgeReason.TheVariants as reasons
 use Rattle.lk_node.specs.Responding.{with_acceptor, replied, Responds}
 use Rattle.lk_node.specs.Asking.{leader_in, PointsTo, QueuesOrRedirects, RepliesAs}
 use Rattle.lk_node.specs.Beginning.{next_ballot}
@@ -51,7 +53,7 @@ use Rattle.lk_node.specs.Installing.{EndsFirstWaits, none_ended, one_ended, Hand
 use Rattle.lk_node.specs.Leading.{HandlesPromise, having_proposed, ProposesAll}
 use Rattle.lk_node.specs.Learning.{Learns, with_learner}
 use Rattle.lk_node.specs.NodeValue.{NodeValue}
-use Rattle.lk_node.specs.Nudging.{remembering, without_gathered, refreshed, Nudges}
+use Rattle.lk_node.specs.Nudging.{remembering, without_gathered, refreshed, SeeksAfresh, Nudges}
 use Rattle.lk_node.specs.Reaching.{IsDecidedAt, DecidesTo, EntryLiesNear, EntriesLieNear, RestoresNode}
 use Rattle.lk_node.specs.Reaching.{StillRestoresNode}
 use Rattle.lk_node.specs.Reminding.{Ticks}
@@ -485,15 +487,24 @@ refreshed_rests node = by_test (eqb (gathered_bytes node.learner.gathered) node.
     by_test true = refl
     by_test false = refl
 
-nudge_told : (withheld : Bool) (old new : NodeValue) (out : OutboxValue) → Nudges withheld old new out
+afresh_rests : (withheld : Bool) (old new : NodeValue) (out : OutboxValue) → SeeksAfresh withheld old new out
+    → Rests old new
+afresh_rests withheld old new out (inl asks) =
+    let proposes = asks.2.proposes in
+    proposed_rests proposes.0 (refreshed old) new asks.2.asked out proposes.1 ∙ refreshed_rests old
+afresh_rests withheld old new out (inr tells) = as_this (refreshed old) new tells.1 ∙ refreshed_rests old
+
+nudge_rests : (reason : NudgeReason) (old new : NodeValue) (out : OutboxValue) → Nudges reason old new out
+    → Rests old new
+nudge_rests reasons.Period old new out k = afresh_rests false old new out k
+nudge_rests reasons.TicksWithheld old new out k = afresh_rests true old new out k
+nudge_rests reasons.Fed old new out (inl proposes) = proposed_rests proposes.2.0 old new nothing out proposes.2.1
+nudge_rests reasons.Fed old new out (inr asks) = as_this old new asks.1
+
+nudge_told : (reason : NudgeReason) (old new : NodeValue) (out : OutboxValue) → Nudges reason old new out
     → StillRestoresNode old new out.entries
-nudge_told withheld old new out k = none_told old new out.entries (nudged_same withheld old new out k) (by_term k)
-  where
-    by_term : Nudges withheld old new out → Rests old new
-    by_term (inl asks) =
-        let proposes = asks.2.proposes in
-        proposed_rests proposes.0 (refreshed old) new asks.2.asked out proposes.1 ∙ refreshed_rests old
-    by_term (inr tells) = as_this (refreshed old) new tells.1 ∙ refreshed_rests old
+nudge_told reason old new out k =
+    none_told old new out.entries (nudged_same reason old new out k) (nudge_rests reason old new out k)
 
 -- ---- a step
 
@@ -501,7 +512,7 @@ nudge_told withheld old new out k = none_told old new out.entries (nudged_same w
 pub step_told : (m : Meaning) (IsText : List ℕ → Type 0) (old : NodeValue) (i : Input) (new : NodeValue)
     (out : OutboxValue) → Steps m IsText old i new out → out.rebase ≡ false → StillRestoresNode old new out.entries
 step_told m IsText old input.Tick new out t puts = tick_told old new out t
-step_told m IsText old (input.Nudge withheld) new out k puts = nudge_told withheld old new out k
+step_told m IsText old (input.Nudge reason) new out k puts = nudge_told reason old new out k
 step_told m IsText old (input.Datagram bytes) new out k puts = λ ahead s t.
     let first : k.first.rebase ≡ false = sym (proposed_rebase k.proposes.0 k.mid new k.first out k.proposes.1) ∙ puts in
     told_as ahead s k.first.entries out.entries k.mid new

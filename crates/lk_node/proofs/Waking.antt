@@ -22,9 +22,11 @@ use Rattle.lk_leader.specs.Terms.{TermValue}
 use Rattle.lk_learner.specs.Learners.{Command, Pair, gathered_bytes}
 use Rattle.lk_node_interface.specs.Grants.{is_granted}
 use Rattle.lk_node_interface.specs.KeptReplies.{session_by}
-use Rattle.lk_node_interface.specs.Outboxes.{OutboxValue}
+use Rattle.lk_node_interface.specs.Outboxes.{OutboxValue, nothing}
 use Rattle.lk_node_interface.specs.declared.input.Input.{Input}
 use Rattle.lk_node_interface.specs.declared.input.Input.TheVariants as input
+use Rattle.lk_node_interface.specs.declared.nudge_reason.NudgeReason.{NudgeReason}
+use Rattle.lk_node_interface.specs.declared.nudge_reason.NudgeReason.TheVariants as reasons
 use Rattle.lk_node.specs.Responding.{with_acceptor, replied, Responds}
 use Rattle.lk_node.specs.Asking.{leader_in, PointsTo, QueuesOrRedirects, RepliesAs}
 use Rattle.lk_node.specs.CatchingUp.{HandlesLead}
@@ -35,7 +37,7 @@ use Rattle.lk_node.specs.Installing.{EndsFirstWaits, none_ended, one_ended, Hand
 use Rattle.lk_node.specs.Leading.{HandlesPromise, having_proposed, ProposesAll}
 use Rattle.lk_node.specs.Learning.{Learns}
 use Rattle.lk_node.specs.NodeValue.{NodeValue}
-use Rattle.lk_node.specs.Nudging.{remembering, without_gathered, refreshed, Nudges}
+use Rattle.lk_node.specs.Nudging.{remembering, without_gathered, refreshed, SeeksAfresh, Nudges}
 use Rattle.lk_node.specs.Reminding.{Ticks}
 use Rattle.lk_node.specs.Steps.{HandlesNode, Handles, HandlesBytes, Steps}
 use Rattle.lk_node.specs.Waiting.{ticked, BeginsWhereDue}
@@ -216,17 +218,24 @@ refreshed_wakes node = by_test (eqb (gathered_bytes node.learner.gathered) node.
     by_test true = refl
     by_test false = refl
 
-nudge_wakes : (withheld : Bool) (old new : NodeValue) (out : OutboxValue) → Nudges withheld old new out
+afresh_wakes : (withheld : Bool) (old new : NodeValue) (out : OutboxValue) → SeeksAfresh withheld old new out
     → Wakes old new
-nudge_wakes withheld old new out (inl asks) =
+afresh_wakes withheld old new out (inl asks) =
     let proposes = asks.2.proposes in
     proposed_wakes proposes.0 (refreshed old) new asks.2.asked out proposes.1 ∙ refreshed_wakes old
-nudge_wakes withheld old new out (inr tells) = as_this (refreshed old) new tells.1 ∙ refreshed_wakes old
+afresh_wakes withheld old new out (inr tells) = as_this (refreshed old) new tells.1 ∙ refreshed_wakes old
+
+nudge_wakes : (reason : NudgeReason) (old new : NodeValue) (out : OutboxValue) → Nudges reason old new out
+    → Wakes old new
+nudge_wakes reasons.Period old new out k = afresh_wakes false old new out k
+nudge_wakes reasons.TicksWithheld old new out k = afresh_wakes true old new out k
+nudge_wakes reasons.Fed old new out (inl proposes) = proposed_wakes proposes.2.0 old new nothing out proposes.2.1
+nudge_wakes reasons.Fed old new out (inr asks) = as_this old new asks.1
 
 pub step_wakes : (m : Meaning) (IsText : List ℕ → Type 0) (old : NodeValue) (i : Input) (new : NodeValue)
     (out : OutboxValue) → Steps m IsText old i new out → new.halted ≡ old.halted
 step_wakes m IsText old input.Tick new out k = tick_wakes old new out k
-step_wakes m IsText old (input.Nudge withheld) new out k = nudge_wakes withheld old new out k
+step_wakes m IsText old (input.Nudge reason) new out k = nudge_wakes reason old new out k
 step_wakes m IsText old (input.Datagram bytes) new out k =
     proposed_wakes k.proposes.0 k.mid new k.first out k.proposes.1
     ∙ bytes_wake m IsText bytes old k.mid k.first k.handles

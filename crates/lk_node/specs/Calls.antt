@@ -19,13 +19,13 @@ use Rattle.lk_node.specs.Leavings.{DisksFit}
 -- the bytes of an input, none at a tick or a nudge
 abbrev pub heard_by : Input → Option (List ℕ)
 heard_by Tick = None
-heard_by (Nudge withheld) = None
+heard_by (Nudge reason) = None
 heard_by (Heard bytes) = Some bytes
 
 -- a permitted input
 abbrev pub InputFits : History → Input → Type 0
 InputFits h Tick = Unit {0}
-InputFits h (Nudge withheld) = Unit {0}
+InputFits h (Nudge reason) = Unit {0}
 InputFits h (Heard bytes) = IsHeard h bytes
 
 -- the datagram is the node's, and spells a message that it may send in its present state, and that a chosen list bears

@@ -76,5 +76,5 @@ pub record HandlesDatagram (m : Meaning) (IsText : List ℕ → Type 0) (old : N
 -- what a step is
 abbrev pub Steps : Meaning → (List ℕ → Type 0) → NodeValue → Input → NodeValue → OutboxValue → Type 0
 Steps m IsText old input.Tick new out = Ticks old new out
-Steps m IsText old (input.Nudge withheld) new out = Nudges withheld old new out
+Steps m IsText old (input.Nudge reason) new out = Nudges reason old new out
 Steps m IsText old (input.Datagram bytes) new out = HandlesDatagram m IsText old bytes new out

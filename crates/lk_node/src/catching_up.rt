@@ -53,7 +53,7 @@ impl<M: Machine> Node<M> {
     }
 
     // Sends the other node a Want for what follows the executed positions; nothing after the last one, 2^48.
-    fn send_want(&self, other: NodeNo) -> Result<Outbox, NoMemory>
+    pub(crate) fn send_want(&self, other: NodeNo) -> Result<Outbox, NoMemory>
         ensures { IfOk result (λ o. AsksOn self.now other o) }
     {
         let Some(want) = self.learner.want() else {

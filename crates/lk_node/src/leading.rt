@@ -114,6 +114,16 @@ impl<M: Machine> Node<M> {
         Ok(())
     }
 
+    // Proposes whatever it can, and sends nothing else.
+    pub(crate) fn only_propose(&mut self) -> Result<Outbox, NoMemory>
+        ensures exact { IfOk result (λ o. ProposesOpen self.old self.new nothing o) }
+        ensures safe { IfOk result (λ o. ActsSafely M.meaning (λ h. Unit {0}) self.old self.new nothing o) }
+    {
+        let mut out = Outbox::new(self.alloc);
+        self.propose(&mut out)?;
+        Ok(out)
+    }
+
     // Ends the term, forgets the waiting requests, and counts ticks from 0.
     pub(crate) fn leave_term(&mut self)
         ensures { self.new ≡ without_term self.old }

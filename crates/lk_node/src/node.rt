@@ -34,7 +34,7 @@ pub struct Node<M: Machine> {
     pub(crate) rounds: SeenRound,
     // The node that it takes for the leader: that of the last notice that it followed.
     pub(crate) known: Option<NodeNo>,
-    // How many bytes of a snapshot were gathered at the last nudge.
+    // How many bytes of a snapshot were gathered at the last nudge that was not `Fed`.
     pub(crate) gathered_before: u32,
     // Nothing is left to propose: whatever may change that resets it.
     pub(crate) nothing_to_propose: bool,

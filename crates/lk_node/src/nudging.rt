@@ -1,12 +1,13 @@
-// How a node handles a nudge: it asks the others for what they know better, or tells them how far it has come.
+// How a node handles a nudge: it asks others for what they know better, or tells them how far it has come.
 ghost use Rattle.std.specs.Prelude.{◌≡◌, Some, IfOk, OnOk};
 ghost use Rattle.lk_node_interface.specs.Outboxes.{nothing};
 ghost use Rattle.lk_node.specs.Nudging.{least_ballot, refreshed, AsksOthers, TellsProgress, AsksInTerm, TellsIfSilent};
-ghost use Rattle.lk_node.specs.Nudging.{without_gathered, remembering, Seeks, Nudges};
+ghost use Rattle.lk_node.specs.Nudging.{without_gathered, remembering, Seeks, SeeksAfresh, AsksLeader, AsksFurther};
+ghost use Rattle.lk_node.specs.Nudging.{Nudges};
 ghost use Rattle.lk_node.specs.SafeSteps.{ActsSafely};
 
 use crate::node::Node;
-use lk_node_interface::Outbox;
+use lk_node_interface::{NudgeReason, Outbox};
 use lk_state::Machine;
 use lk_types::{Ballot, NoMemory, RealBallot};
 use lk_wire::{Nack, NodeMessage};
@@ -112,13 +113,52 @@ impl<M: Machine> Node<M> {
         }
     }
 
-    // Handles a nudge, which says whether ticks are withheld.
+    // Throws away what it gathers if that has not grown, and asks in a term, or tells without one.
     #[tactic(auto, using(crate::proofs::Nudges::refreshed_goes_on))]
-    pub(crate) fn nudge(&mut self, are_ticks_withheld: bool) -> Result<Outbox, NoMemory>
-        ensures exact { IfOk result (λ o. Nudges are_ticks_withheld self.old self.new o) }
+    fn seek_afresh(&mut self, are_ticks_withheld: bool) -> Result<Outbox, NoMemory>
+        ensures exact { IfOk result (λ o. SeeksAfresh are_ticks_withheld self.old self.new o) }
         ensures safe { IfOk result (λ o. ActsSafely M.meaning (λ h. Unit {0}) self.old self.new nothing o) }
     {
         self.refresh();
         self.seek(are_ticks_withheld)
+    }
+
+    // Sends the known leader a Want for what follows the executed positions. Sends nothing if it knows none, or is it
+    // itself.
+    #[tactic(auto, using(crate::proofs::SafeSteps::rests_here))]
+    fn ask_leader(&self) -> Result<Outbox, NoMemory>
+        ensures exact { IfOk result (λ o. AsksLeader self.now.known self.now o) }
+        ensures safe { IfOk result (λ o. ActsSafely M.meaning (λ h. Unit {0}) self.now self.now nothing o) }
+    {
+        let Some(leader) = self.known else {
+            return Ok(Outbox::new(self.alloc));
+        };
+        if leader == self.header.node() {
+            return Ok(Outbox::new(self.alloc));
+        }
+        self.send_want(leader)
+    }
+
+    // Handles a nudge that it gets because it was fed: asks the known leader for more, unless it has a term.
+    fn ask_further(&mut self) -> Result<Outbox, NoMemory>
+        ensures exact { IfOk result (λ o. AsksFurther self.old self.new o) }
+        ensures safe { IfOk result (λ o. ActsSafely M.meaning (λ h. Unit {0}) self.old self.new nothing o) }
+    {
+        match self.leader.ballot() {
+            Some(_) => self.only_propose(),
+            None => self.ask_leader(),
+        }
+    }
+
+    // Handles a nudge for this reason.
+    pub(crate) fn nudge(&mut self, reason: NudgeReason) -> Result<Outbox, NoMemory>
+        ensures exact { IfOk result (λ o. Nudges reason self.old self.new o) }
+        ensures safe { IfOk result (λ o. ActsSafely M.meaning (λ h. Unit {0}) self.old self.new nothing o) }
+    {
+        match reason {
+            NudgeReason::Period => self.seek_afresh(false),
+            NudgeReason::TicksWithheld => self.seek_afresh(true),
+            NudgeReason::Fed => self.ask_further(),
+        }
     }
 }

@@ -2,6 +2,7 @@
 ghost use Rattle.std.specs.Prelude.{◌≡◌, ◌↔◌, IsTrue, length};
 ghost use Rattle.std.specs.Option.{option_map};
 ghost use Rattle.lk_leader.specs.Proposing.{Leads};
+ghost use Rattle.lk_learner.specs.Learners.{gathered_bytes};
 
 use crate::node::Node;
 use lk_state::Machine;
@@ -27,6 +28,13 @@ impl<M: Machine> Node<M> {
         ensures { result ≡ self.now.acceptor.state.snapshot_position }
     {
         self.acceptor.snapshot_position()
+    }
+
+    /// How many bytes of a snapshot it has gathered.
+    pub fn gathered_bytes(&self) -> u32
+        ensures { result ≡ gathered_bytes self.now.learner.gathered }
+    {
+        self.learner.gathered_bytes()
     }
 
     /// Returns the ballot that it has promised: it votes in none below.

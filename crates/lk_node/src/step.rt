@@ -96,7 +96,7 @@ impl<M: Machine> Node<M> {
     {
         match input {
             Input::Tick => self.tick(),
-            Input::Nudge { are_ticks_withheld } => self.nudge(are_ticks_withheld),
+            Input::Nudge(reason) => self.nudge(reason),
             Input::Datagram(datagram) => self.handle_datagram(&datagram),
         }
     }

@@ -1,3 +1,4 @@
+use crate::nudge_reason::NudgeReason;
 use lk_wire::Datagram;
 
 /// The input of a node.
@@ -5,9 +6,9 @@ use lk_wire::Datagram;
 pub enum Input<'a> {
     /// Some time has passed.
     Tick,
-    /// More time has passed: the node is to ask the others for what they know better, or to tell them how far it has
-    /// come. While its ticks are withheld, it cannot count how long it has heard of no leader.
-    Nudge { are_ticks_withheld: bool },
+    /// The node is to go on by itself, for this reason: to ask the others for what they know better, or to tell them
+    /// how far it has come.
+    Nudge(NudgeReason),
     /// A datagram has arrived. It may be any bytes.
     Datagram(Datagram<'a>),
 }

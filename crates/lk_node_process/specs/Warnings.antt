@@ -26,7 +26,7 @@ reminded s r bytes = record { server = s; reminder = r; written = bytes }
 abbrev pub IsStatusOf : ServerValue ReplicaValue → Status → Type 0
 IsStatusOf s status =
     (shown : ProbedState) × IsShown s.replica shown
-    × ReportsStatus s.addresses.seals.genesis (periods s) s.withheld shown status
+    × ReportsStatus s.addresses.seals.genesis (periods s) s.withheld s.quiet shown status
 
 -- by the server's own status, the line of the node of that number, which listens at that port, is written if a warning
 -- is due, and else nothing is; the next one is due a minute later, also where the line could not be written

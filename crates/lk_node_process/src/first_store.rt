@@ -65,8 +65,8 @@ fn begin_folder<M: Machine, R: Files<File = File>, E: Write>(
     let folder = plan.folder;
     create_files(rt, alloc, folder, err)?;
     let _lock = FolderLock::acquire(rt, alloc, folder, err)?;
-    let device = open_device(rt, alloc, folder, plan.sums, err)?;
-    begin_store::<M, _, E>(alloc, &plan.header, device, folder, err)?;
+    let opened = open_device(rt, alloc, folder, plan.sums, err)?;
+    begin_store::<M, _, E>(alloc, &plan.header, opened.device, folder, err)?;
     Ok(())
 }
 

@@ -96,7 +96,7 @@ sends_still node other first offset before out more (inr k) =
       told = λ p c. more _ (k.told p c);
     })
 
-asks_on : (node : NodeValue) (other : ℕ) (out : OutboxValue) → executed node.learner < 281474976710656
+pub asks_on : (node : NodeValue) (other : ℕ) (out : OutboxValue) → executed node.learner < 281474976710656
     → AsksOn node other out → Asks node other out
 asks_on node other out less (inl k) = said_alone node (kinds.Want (wanted node.learner)) other out k.1
 asks_on node other out less (inr k) = absurd (omega (arith, less, k.0))

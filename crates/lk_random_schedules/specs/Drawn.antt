@@ -1,7 +1,8 @@
 -- What each draw may give.
-use Rattle.std.specs.Prelude.{◌≡◌, ℕ, ◌<◌, ◌≤◌, ◌+◌, true, false, ⊤}
+use Rattle.std.specs.Prelude.{◌≡◌, ◌≢◌, ℕ, ◌<◌, ◌≤◌, ◌+◌, true, false, ⊤}
 use Rattle.std.specs.List.{AllByRecursion}
 use Rattle.lk_members.specs.Effects.{RequestValue}
+use Rattle.lk_node_interface.specs.declared.nudge_reason.NudgeReason.TheVariants.{TicksWithheld}
 use Rattle.lk_random_schedules.specs.declared.event_kind.EventKind.{EventKind}
 use Rattle.lk_random_schedules.specs.declared.event_kind.EventKind.TheVariants as kind
 use Rattle.lk_random_schedules.specs.declared.plan.Plan.{Plan}
@@ -29,14 +30,14 @@ IsKind plan _ = ⊤
 -- a tick, or the place of one of so many datagrams, or 0; no nudge
 abbrev pub IsPart : ℕ → GroupInput → Type 0
 IsPart sent group_input.Tick = ⊤
-IsPart sent (group_input.Nudge withheld) = ⊥
+IsPart sent (group_input.Nudge reason) = ⊥
 IsPart sent (group_input.Deliver k) = k ≤ sent
 
 -- an event that the plan may draw after so many datagrams were sent: any but a Start, and a Group or a Nudge only if
 -- the plan has them; no nudge says that ticks are withheld
 abbrev pub IsDrawn : Plan → ℕ → Event → Type 0
 IsDrawn plan sent (event.Start n) = ⊥
-IsDrawn plan sent (event.Nudge n withheld) = (plan.nudges ≡ true) × IsNear n × (withheld ≡ false)
+IsDrawn plan sent (event.Nudge n reason) = (plan.nudges ≡ true) × IsNear n × (reason ≢ TicksWithheld)
 IsDrawn plan sent (event.Restart n) = IsNear n
 IsDrawn plan sent (event.Tick n) = IsNear n
 IsDrawn plan sent (event.Compact n) = IsNear n

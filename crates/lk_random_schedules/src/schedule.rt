@@ -1,5 +1,5 @@
 // Draws the events of a random schedule.
-ghost use Rattle.std.specs.Prelude.{◌≤◌, length, IfOk, IfSome};
+ghost use Rattle.std.specs.Prelude.{◌≢◌, ◌≤◌, length, IfOk, IfSome};
 ghost use Rattle.std.specs.List.{AllByRecursion};
 ghost use Rattle.lk_random_schedules.specs.Drawn.{IsDrawn, IsKind, IsNear, IsPart};
 ghost use Rattle.lk_random_schedules.specs.declared.plan.Plan.{Plan as PlanValue};
@@ -9,6 +9,7 @@ use crate::event_kind::EventKind;
 use crate::plan::Plan;
 use crate::request::request;
 use lk_agreement_laws::Party;
+use lk_node_interface::NudgeReason;
 use lk_replica::Datagram;
 use lk_sim::{Event, GroupInput};
 use lk_types::limits::MAX_COUNT;
@@ -160,6 +161,17 @@ impl Schedule {
         kind
     }
 
+    // Draws the reason of a nudge: that a period has ended, or that the node was fed.
+    fn reason(&mut self) -> NudgeReason
+        ensures { result ≢ NudgeReason.TicksWithheld }
+    {
+        if self.draws.is_one_of(2) {
+            NudgeReason::Fed
+        } else {
+            NudgeReason::Period
+        }
+    }
+
     // Draws an event of that kind. The numbers of requests rise slowly, with how many events were drawn.
     fn event(
         &mut self,
@@ -173,10 +185,7 @@ impl Schedule {
         let event = match kind {
             EventKind::Restart => Event::Restart(node),
             EventKind::Tick => Event::Tick(node),
-            EventKind::Nudge => Event::Nudge {
-                number: node,
-                are_ticks_withheld: false,
-            },
+            EventKind::Nudge => Event::Nudge(node, self.reason()),
             EventKind::Compact => Event::Compact(node),
             EventKind::Client => Event::Client(node, request(&mut self.draws, self.drawn / 4)),
             EventKind::Deliver => Event::Deliver(self.datagram_number(sent.len())),

@@ -1,9 +1,11 @@
 -- The lines of world mode after its first: how each is spelled, and which events it asks for.
-use Rattle.std.specs.Prelude.{◌≡◌, ◌≢◌, ◌≤◌, ◌⊎◌, ℕ, List, [], ◌∷◌, ◌++◌, true, false, Ok, codes}
+use Rattle.std.specs.Prelude.{◌≡◌, ◌≢◌, ◌≤◌, ◌⊎◌, ℕ, List, [], ◌∷◌, ◌++◌, Ok, codes}
 use Rattle.std.specs.Fmt.{decimal}
 use Rattle.hex.specs.Hex.{decode_of}
 use Rattle.lk_types.specs.Limits.{max_count, max_node, max_client}
 use Rattle.lk_members.specs.Effects.{RequestValue}
+use Rattle.lk_node_interface.specs.declared.nudge_reason.NudgeReason.{NudgeReason}
+use Rattle.lk_node_interface.specs.declared.nudge_reason.NudgeReason.TheVariants.{Period, TicksWithheld, Fed}
 use Rattle.lk_word_parsers.specs.Operations.{SpellsOp}
 use Rattle.lk_sim.specs.declared.event.Event.{Event}
 use Rattle.lk_sim.specs.declared.event.Event.TheVariants as event
@@ -44,10 +46,17 @@ AsksForTicks words o = ((n : ℕ) × IsNodeWord n words × (o ≡ Ticks n 1))
     ⊎ ((n : ℕ) × (times : ℕ) × (word : List ℕ) × NodeLeads n word words
     × IsWord 1 10000 times word × (o ≡ Ticks n times))
 
--- `N`, or `N withheld`, which says that ticks are
+-- the word says the reason of a nudge: `withheld` or `fed`
+abbrev pub SaysReason : NudgeReason → List ℕ → Type 0
+SaysReason Period word = ⊥
+SaysReason TicksWithheld word = word ≡ codes "withheld"
+SaysReason Fed word = word ≡ codes "fed"
+
+-- `N` alone, or with a word that says the reason
 abbrev pub AsksToNudge : List ℕ → Instruction → Type 0
-AsksToNudge words o = ((n : ℕ) × IsNodeWord n words × (o ≡ Once (event.Nudge n false)))
-    ⊎ ((n : ℕ) × (word : List ℕ) × NodeLeads n word words × (word ≡ codes "withheld") × (o ≡ Once (event.Nudge n true)))
+AsksToNudge words o = ((n : ℕ) × IsNodeWord n words × (o ≡ Once (event.Nudge n Period)))
+    ⊎ ((n : ℕ) × (reason : NudgeReason) × (word : List ℕ) × NodeLeads n word words × SaysReason reason word
+    × (o ≡ Once (event.Nudge n reason)))
 
 -- `N`
 abbrev pub AsksToCompact : List ℕ → Instruction → Type 0
@@ -57,12 +66,18 @@ AsksToCompact words o = (n : ℕ) × IsNodeWord n words × (o ≡ Once (event.Co
 abbrev pub AsksToDeliver : List ℕ → Instruction → Type 0
 AsksToDeliver words o = (k : ℕ) × IsWord 1 max_count k words × (o ≡ Once (event.Deliver k))
 
--- `t`, `nudge`, `nudge withheld`, or `K`
+-- `t`, `nudge`, `nudge withheld`, `nudge fed`, or `K`
 abbrev pub SpellsInput : GroupInput → List ℕ → Type 0
 SpellsInput input.Tick words = words ≡ codes "t"
-SpellsInput (input.Nudge false) words = words ≡ codes "nudge"
-SpellsInput (input.Nudge true) words = words ≡ codes "nudge withheld"
+SpellsInput (input.Nudge Period) words = words ≡ codes "nudge"
+SpellsInput (input.Nudge TicksWithheld) words = words ≡ codes "nudge withheld"
+SpellsInput (input.Nudge Fed) words = words ≡ codes "nudge fed"
 SpellsInput (input.Deliver k) words = IsWord 1 max_count k words
+
+-- the first of these words are an input of two words, and a space and the rest follow them
+abbrev pub BeginsWithPair : List ℕ → List ℕ → List ℕ → Type 0
+BeginsWithPair first rest words =
+    ((first ≡ codes "nudge withheld") ⊎ (first ≡ codes "nudge fed")) × (words ≡ first ++ 32 ∷ rest)
 
 -- inputs of a group in words, one or more, separated by spaces
 pub data SpellsInputs : List ℕ → List GroupInput → Type 0 where

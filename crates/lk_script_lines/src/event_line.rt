@@ -3,9 +3,10 @@
 ghost use Rattle.std.specs.Prelude.{◌≡◌, ◌++◌, ◌∷◌, [], IfOk, OnOk, string_bytes};
 ghost use Rattle.std.specs.Fmt.{decimal};
 ghost use Rattle.hex.specs.Hex.{encode_lower};
-ghost use Rattle.lk_script_lines.specs.EventLines.{then_numbers, op_words, then_inputs, then_withheld, line_of};
+ghost use Rattle.lk_script_lines.specs.EventLines.{then_numbers, op_words, then_inputs, then_reason, line_of};
 ghost use Rattle.lk_sim.specs.declared.event.Event.TheVariants.{Client, Nudge};
 
+use lk_node_interface::NudgeReason;
 use lk_sim::{Event, GroupInput};
 use lk_types::{NoMemory, NodeNo, Op, Request};
 use std::alloc::{AllocError, Global};
@@ -86,22 +87,27 @@ fn add_client(
     add_op(alloc, text, &request.op)
 }
 
-// Returns the word that says that ticks are withheld, after a space, or nothing.
-fn withheld_word(are_ticks_withheld: bool) -> &'static str
-    ensures { result.now ≡ then_withheld are_ticks_withheld }
+// Returns the word that says the reason of a nudge, after a space; nothing if no word does.
+fn reason_word(reason: NudgeReason) -> &'static str
+    ensures { result.now ≡ then_reason reason }
 {
-    if are_ticks_withheld { " withheld" } else { "" }
+    match reason {
+        NudgeReason::Period => "",
+        NudgeReason::TicksWithheld => " withheld",
+        NudgeReason::Fed => " fed",
+    }
 }
 
-// Appends an input of a group after a space: `t` for a tick, `nudge`, `nudge withheld`, or the number of a datagram.
+// Appends an input of a group after a space: `t` for a tick, `nudge`, `nudge withheld`, `nudge fed`, or the number of a
+// datagram.
 fn add_input(alloc: Global, text: &mut Vec<u8>, input: GroupInput) -> Result<(), NoMemory>
     ensures { OnOk result (text.new.items ≡ text.old.items ++ then_inputs (input ∷ [])) }
 {
     match input {
         GroupInput::Tick => add(text, " t"),
-        GroupInput::Nudge { are_ticks_withheld } => {
+        GroupInput::Nudge(reason) => {
             add(text, " nudge")?;
-            add(text, withheld_word(are_ticks_withheld))
+            add(text, reason_word(reason))
         }
         GroupInput::Deliver(k) => add_numbers(alloc, text, &[k as u64]),
     }
@@ -124,17 +130,17 @@ fn add_verb(alloc: Global, text: &mut Vec<u8>, verb: &str, node: NodeNo) -> Resu
     add_words(alloc, text, verb, &[u64::from(node.get())])
 }
 
-// Appends `nudge N`, or `nudge N withheld`.
+// Appends `nudge N`, `nudge N withheld` or `nudge N fed`.
 fn add_nudge(
     alloc: Global,
     text: &mut Vec<u8>,
     node: NodeNo,
-    are_ticks_withheld: bool,
+    reason: NudgeReason,
 ) -> Result<(), NoMemory>
-    ensures { OnOk result (text.new.items ≡ text.old.items ++ line_of (Nudge node are_ticks_withheld)) }
+    ensures { OnOk result (text.new.items ≡ text.old.items ++ line_of (Nudge node reason)) }
 {
     add_verb(alloc, text, "nudge", node)?;
-    add(text, withheld_word(are_ticks_withheld))
+    add(text, reason_word(reason))
 }
 
 // Appends the line of an event, without its line feed.
@@ -145,10 +151,7 @@ fn add_event(alloc: Global, text: &mut Vec<u8>, event: &Event) -> Result<(), NoM
         Event::Start(node) => add_verb(alloc, text, "start", *node),
         Event::Restart(node) => add_verb(alloc, text, "restart", *node),
         Event::Tick(node) => add_verb(alloc, text, "tick", *node),
-        Event::Nudge {
-            number,
-            are_ticks_withheld,
-        } => add_nudge(alloc, text, *number, *are_ticks_withheld),
+        Event::Nudge(node, reason) => add_nudge(alloc, text, *node, *reason),
         Event::Compact(node) => add_verb(alloc, text, "compact", *node),
         Event::Client(node, request) => add_client(alloc, text, u64::from(node.get()), request),
         Event::Deliver(k) => add_words(alloc, text, "deliver", &[*k as u64]),

@@ -1,16 +1,17 @@
 //! Reads the lines of world mode after its first: a verb, and the words that it takes.
 
-ghost use Rattle.std.specs.Prelude.{◌≡◌, ◌≢◌, ◌≤◌, ℕ, true, false, List, [], Ok, Some, IfSome, IsNone, codes};
+ghost use Rattle.std.specs.Prelude.{◌≡◌, ◌≢◌, ◌≤◌, ℕ, List, [], Ok, Some, IfSome, IsNone};
 ghost use Rattle.std.specs.Prelude.{IfOk, IsErrOf};
 ghost use Rattle.hex.specs.Hex.{decode_of};
 ghost use Rattle.lk_types.specs.Limits.{max_node};
 ghost use Rattle.lk_members.specs.Effects.{RequestValue};
+ghost use Rattle.lk_node_interface.specs.declared.nudge_reason.NudgeReason.{NudgeReason as ReasonValue};
 ghost use Rattle.lk_sim.specs.declared.event.Event.TheVariants as event;
 ghost use Rattle.lk_script_lines.specs.declared.instruction.Instruction.TheVariants as instruction;
 ghost use Rattle.lk_script_lines.specs.declared.instruction.Instruction.{Instruction as InstructionValue};
 ghost use Rattle.lk_script_lines.specs.WorldLines.{IsNodeWord, AsksToStart, AsksToRestart, AsksForTicks, AsksToCompact};
 ghost use Rattle.lk_script_lines.specs.WorldLines.{AsksToDeliver, AsksForGroup, SpellsRequest, AsksOfClient};
-ghost use Rattle.lk_script_lines.specs.WorldLines.{AsksToInject, AsksToNudge};
+ghost use Rattle.lk_script_lines.specs.WorldLines.{AsksToInject, AsksToNudge, SaysReason};
 ghost use Rattle.lk_script_lines.specs.WorldLines.{AsksToStop, AsksToFail, AsksToArm};
 ghost use Rattle.lk_script_lines.specs.WorldLines.{SpellsAfterVerb, SpellsInstruction};
 
@@ -19,6 +20,7 @@ use crate::fault::LineFault;
 use crate::input_words::read_inputs;
 use crate::instruction::Instruction;
 use crate::world_words::{first_number, number_of};
+use lk_node_interface::NudgeReason;
 use lk_sim::Event;
 use lk_types::limits::{MAX_CLIENT, MAX_COUNT, MAX_NODE};
 use lk_types::{ClientNo, NodeNo, Request, RequestNumber};
@@ -88,44 +90,40 @@ fn read_tick(words: &[u8]) -> Option<Instruction>
     Some(Instruction::Ticks(node, times as u16))
 }
 
-// Whether the word is `withheld`.
-fn is_withheld(word: &[u8]) -> bool
-    ensures is { result ≡ true → word.now ≡ codes "withheld" }
-    ensures other { result ≡ false → word.now ≡ codes "withheld" → ⊥ }
+// Returns the reason of a nudge that this word says, if it says one.
+fn reason_of(word: &[u8]) -> Option<NudgeReason>
+    ensures some { IfSome result (λ reason. SaysReason reason word.now) }
+    ensures none { IsNone result → (reason : ReasonValue) → SaysReason reason word.now → ⊥ }
 {
     match word {
-        b"withheld" => true,
-        _ => false,
+        b"withheld" => Some(NudgeReason::TicksWithheld),
+        b"fed" => Some(NudgeReason::Fed),
+        _ => None,
     }
 }
 
-// Returns the number of the node that is nudged, and whether the word `withheld` follows it.
-fn nudged(words: &[u8]) -> Option<(u64, bool)>
+// Returns the number of the node that is nudged, and the reason.
+fn nudged(words: &[u8]) -> Option<(u64, NudgeReason)>
     ensures some { IfSome result
         (λ p. (1 ≤ p.0) × (p.0 ≤ max_node) × AsksToNudge words.now (instruction.Once (event.Nudge p.0 p.1))) }
     ensures none { IsNone result → (o : InstructionValue) → AsksToNudge words.now o → ⊥ }
 {
     if let Some((number, word)) = first_number(words, 1, LAST_NODE) {
-        if !is_withheld(word) {
-            return None;
-        }
-        return Some((number, true));
+        let reason = reason_of(word)?;
+        return Some((number, reason));
     }
     let number = number_of(words, 1, LAST_NODE)?;
-    Some((number, false))
+    Some((number, NudgeReason::Period))
 }
 
-// Reads the words of `nudge N` or `nudge N withheld`.
+// Reads the words of `nudge N`, `nudge N withheld` or `nudge N fed`.
 fn read_nudge(words: &[u8]) -> Option<Instruction>
     ensures some { IfSome result (AsksToNudge words.now) }
     ensures none { IsNone result → (o : InstructionValue) → AsksToNudge words.now o → ⊥ }
 {
-    let (number, are_ticks_withheld) = nudged(words)?;
-    let number = NodeNo::of(number as u32).unwrap();
-    Some(Instruction::Once(Event::Nudge {
-        number,
-        are_ticks_withheld,
-    }))
+    let (number, reason) = nudged(words)?;
+    let node = NodeNo::of(number as u32).unwrap();
+    Some(Instruction::Once(Event::Nudge(node, reason)))
 }
 
 // Reads the word of `compact N`.

@@ -22,6 +22,10 @@ if_err_on (Ok x) f p = tt
 if_err_on (Err e) f p = f p
 
 -- what follows of what stands where a call went on
+pub if_ok_on : {T E P Q : Type 0} (r : Result T E) → (P → Q) → OnOk r P → OnOk r Q
+if_ok_on (Ok x) f p = f p
+if_ok_on (Err e) f p = tt
+
 pub if_ok_weaker : {T E : Type 0} {P Q : T → Type 0} (r : Result T E) → ((x : T) → P x → Q x) → IfOk r P → IfOk r Q
 if_ok_weaker (Ok x) f p = f x p
 if_ok_weaker (Err e) f p = tt

@@ -10,3 +10,4 @@ mod Gatherings
 mod PeriodEnds
 mod Turning
 mod Waiting
+mod Noting

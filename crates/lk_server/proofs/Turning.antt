@@ -11,7 +11,7 @@ use Rattle.lk_address_book.specs.Addresses.{AddressBook, Filter, filter_of, IsSa
 use Rattle.lk_server_replica.specs.Groups.{Sayings, Gatherings, GathersMore, SaysNoMore}
 use Rattle.lk_server.specs.Gatherings.{AreFound, Finds, AddsAll, EndsWithin, AddsLoopback, EndsLoopback}
 use Rattle.lk_server.specs.Gatherings.{AddsHeard, EndsHeard, AddsWaiting, AddsGroup, EndsGroup, DeliversAllLetters}
-use Rattle.lk_server.specs.Gatherings.{ChangesInGroup, SaysNothing}
+use Rattle.lk_server.specs.Gatherings.{ChangesAtInput, ChangesInGroup, GathersNudge, SaysNothing}
 use Rattle.lk_pacing.specs.Paces.{MayFollow}
 use Rattle.lk_auth.specs.Seals.{heard}
 use Rattle.lk_address_book.specs.Senders.{RecordsSenders}
@@ -87,7 +87,8 @@ none_withheld old new ds withheld ticks =
 one_withheld : {R : Type 0} (old mid new : ServerValue R) (ds : List (List ℕ)) → mid.pace ≡ old.pace
     → mid.addresses.deaf ≡ old.addresses.deaf → mid.withheld ≡ old.withheld
     → mid.ticks ≡ all_ticks old.ticks (all_inputs old.pace old.received ds)
-    → new ≡ record mid { withheld = one_more_tick mid.withheld } → MayWithhold mid → Withholding old new
+    → new ≡ record mid { withheld = one_more_tick mid.withheld; quiet = new.quiet } → MayWithhold mid
+    → Withholding old new
 one_withheld {R} old mid new ds pace deaf withheld ticks same m =
     let still : mid.ticks ≡ old.ticks =
     ticks ∙ no_ticks old.pace old.received old.ticks ds (sym pace ∙ m.withholds.clock) in
@@ -139,6 +140,8 @@ pub same_by : {R : Type 0} (old new : ServerValue R)
       replica = new.replica;
       failed = new.failed;
       digest = new.digest;
+      quiet = new.quiet;
+      fed = new.fed;
       received = new.received;
       ticks = new.ticks;
       withheld = new.withheld;
@@ -165,6 +168,17 @@ same_in_group old new others = record {
   aged = ap (λ (s : ServerValue _). s.waiting.aged) others;
   spoke = ap (λ (s : ServerValue _). s.waiting.spoke) others;
   served = ap (λ (s : ServerValue _). s.waiting.served) others;
+}
+
+pub same_at_input : {R : Type 0} (old new : ServerValue R) → ChangesAtInput old new → IsSameServer old new
+same_at_input {R} old new changed = record {
+  cluster = ap (λ (s : ServerValue R). s.cluster) changed;
+  node = ap (λ (s : ServerValue R). s.node) changed;
+  pace = ap (λ (s : ServerValue R). s.pace) changed;
+  queue = ap (λ (s : ServerValue R). s.waiting.queue) changed;
+  aged = ap (λ (s : ServerValue R). s.waiting.aged) changed;
+  spoke = ap (λ (s : ServerValue R). s.waiting.spoke) changed;
+  served = ap (λ (s : ServerValue R). s.waiting.served) changed;
 }
 
 -- one receive is all that a turn receives
@@ -365,7 +379,8 @@ module _ {R : Type 0} (S : Sayings R) (G : Gatherings R) (observable : Type 0) w
 
   -- none is given: what waits is all
   given_none_more : (frames : List (SocketAddr × List ℕ)) (group now : GroupValue) (old mid new : ServerValue R)
-      → AddsWaiting G observable frames group now old mid → new ≡ record mid { withheld = new.withheld }
+      → AddsWaiting G observable frames group now old mid
+      → new ≡ record mid { withheld = new.withheld; quiet = new.quiet }
       → Withholding old new → AddsGroup G observable frames group now old new
   given_none_more frames group now old mid new t same w =
       let ds = datagrams_in (take 64 old.loopback) (all_filtered (filter_of old.addresses) frames) in
@@ -404,6 +419,8 @@ module _ {R : Type 0} (S : Sayings R) (G : Gatherings R) (observable : Type 0) w
         replica = new.replica;
         failed = new.failed;
         digest = new.digest;
+        quiet = new.quiet;
+        fed = new.fed;
         ticks = new.ticks;
       }) where
     abbrev waited : List (List ℕ)
@@ -491,6 +508,8 @@ module _ {R : Type 0} (S : Sayings R) (G : Gatherings R) (observable : Type 0) w
         replica = new.replica;
         failed = new.failed;
         digest = new.digest;
+        quiet = new.quiet;
+        fed = new.fed;
         ticks = new.ticks;
       }) where
     none_taken : all_filtered (filter_of old.addresses) frames ≡ []
@@ -605,12 +624,12 @@ module _ {R : Type 0} (S : Sayings R) (G : Gatherings R) (observable : Type 0) w
 
     -- one is, and is withheld
     pub withheld_takes : (group one : GroupValue) (old mid new : ServerValue R) → mid.withheld ≡ old.withheld
-        → new ≡ record mid { withheld = one_more_tick mid.withheld } → MayWithhold mid
+        → new ≡ record mid { withheld = one_more_tick mid.withheld; quiet = new.quiet } → MayWithhold mid
         → HasWaiting group one old mid → HasTaken group one old new
     withheld_takes group one old mid new withheld same m t = (
       t.0,
       given_none_more t.0 group one old mid new t.1
-          (subst (λ (n : ℕ). new ≡ record mid { withheld = n })
+          (subst (λ (n : ℕ). new ≡ record mid { withheld = n; quiet = new.quiet })
           (sym (ap (λ (s : ServerValue R). s.withheld) same)) same)
           (one_withheld old mid new
           (datagrams_in (take 64 old.loopback) (all_filtered (filter_of old.addresses) t.0)) t.1.adds.pace
@@ -620,7 +639,7 @@ module _ {R : Type 0} (S : Sayings R) (G : Gatherings R) (observable : Type 0) w
 
     -- the same where nothing of it was taken
     pub withheld_rests : (found : TurnInput) (group one : GroupValue) (old mid new : ServerValue R)
-        → new ≡ record mid { withheld = one_more_tick mid.withheld } → MayWithhold mid
+        → new ≡ record mid { withheld = one_more_tick mid.withheld; quiet = new.quiet } → MayWithhold mid
         → HasFound found group one old mid
         → (frames : List (SocketAddr × List ℕ)) × HasReceived observable frames old new
         × IsIdle observable frames old new × Keeps frames
@@ -637,8 +656,13 @@ module _ {R : Type 0} (S : Sayings R) (G : Gatherings R) (observable : Type 0) w
         withholds = one_withheld old mid new [] (ap (λ (s : ServerValue R). s.pace) n.2.same)
             (ap (λ (s : ServerValue R). s.addresses.deaf) n.2.same) (ap (λ (s : ServerValue R). s.withheld) n.2.same)
             (ap (λ (s : ServerValue R). s.ticks) n.2.same) same m;
-        same = ap (λ (s : ServerValue R). record s { incoming = old.incoming; withheld = old.withheld }) same
-            ∙ ap (λ (s : ServerValue R). record s { withheld = old.withheld }) n.2.same;
+        same =
+            ap (λ (s : ServerValue R). record s {
+              incoming = old.incoming;
+              withheld = old.withheld;
+              quiet = old.quiet;
+            }) same
+            ∙ ap (λ (s : ServerValue R). record s { withheld = old.withheld; quiet = old.quiet }) n.2.same;
       },
       n.4,
     )
@@ -659,7 +683,7 @@ module _ {R : Type 0} (S : Sayings R) (G : Gatherings R) (observable : Type 0) w
         comes = n.2.comes;
         withholds = none_withheld old mid [] (ap (λ (s : ServerValue R). s.withheld) n.2.same)
             (ap (λ (s : ServerValue R). s.ticks) n.2.same);
-        same = ap (λ (s : ServerValue R). record s { withheld = old.withheld }) n.2.same;
+        same = ap (λ (s : ServerValue R). record s { withheld = old.withheld; quiet = old.quiet }) n.2.same;
       },
       n.4,
     )
@@ -671,6 +695,8 @@ module _ {R : Type 0} (S : Sayings R) (G : Gatherings R) (observable : Type 0) w
           replica = new.replica;
           failed = new.failed;
           digest = new.digest;
+          quiet = new.quiet;
+          fed = new.fed;
           ticks = new.ticks;
         })
         (timed : new.ticks ≡ one_more_tick mid.ticks) where
@@ -732,55 +758,100 @@ module _ {R : Type 0} (S : Sayings R) (G : Gatherings R) (observable : Type 0) w
     served = same.served ∙ first.served;
   }
 
-  pub turn_of : (frames : List (SocketAddr × List ℕ)) (group now : GroupValue) (old mid new : ServerValue R)
-      → G old.replica [] group old.replica → AddsGroup G observable frames group now old mid
-      → DeliversAllLetters S G observable now mid new
+  pub turn_of : (frames : List (SocketAddr × List ℕ)) (group one now : GroupValue) (old mid nudged new : ServerValue R)
+      → G old.replica [] group old.replica → AddsGroup G observable frames group one old mid
+      → GathersNudge G one now mid.replica nudged.replica → ChangesAtInput mid nudged
+      → DeliversAllLetters S G observable now nudged new
       → mid.sent ≡ old.sent → mid.socket_failures ≡ old.socket_failures → IsSameServer old mid
-      → new.addresses ≡ mid.addresses → new.received ≡ mid.received → new.ticks ≡ mid.ticks
-      → new.withheld ≡ mid.withheld → IsSameServer mid new → new.failed ≡ false
+      → new.addresses ≡ nudged.addresses → new.received ≡ nudged.received → new.ticks ≡ nudged.ticks
+      → new.withheld ≡ nudged.withheld → IsSameServer nudged new → new.failed ≡ false
       → Turn S observable (all_filtered (filter_of old.addresses) frames) old new
-  turn_of frames group now old mid new begins t hands sent failures first book received untimed unheld then
-      lives = record {
+  turn_of frames group one now old mid nudged new begins t n changed hands sent failures first book received untimed
+      unheld then lives =
+      let g = n old.replica t.given (t.gathers old.replica [] begins) in record {
         letters_first = received_first observable frames old mid t.received;
-        given = t.given;
+        timed = t.given;
         may = t.may;
-        hands_on = subst (λ (loopback : List LetterValue). DeliversLetters S observable t.given loopback old new)
-            t.left
-            (hands old t.given (t.gathers old.replica [] begins) (sym sent) (sym failures));
-        counted = received ∙ t.counted;
-        ticks = untimed ∙ t.ticks;
-        withholds = withholding_on old mid new untimed unheld t.withholds;
+        given = g.0;
+        nudged = g.1;
+        hands_on = subst (λ (loopback : List LetterValue). DeliversLetters S observable g.0 loopback old new)
+            (ap (λ (s : ServerValue R). s.loopback) changed ∙ t.left)
+            (hands old g.0 g.2 (sym (ap (λ (s : ServerValue R). s.sent) changed ∙ sent))
+            (sym (ap (λ (s : ServerValue R). s.socket_failures) changed ∙ failures)));
+        counted = received ∙ ap (λ (s : ServerValue R). s.received) changed ∙ t.counted;
+        ticks = untimed ∙ ap (λ (s : ServerValue R). s.ticks) changed ∙ t.ticks;
+        withholds = withholding_on old mid new (untimed ∙ ap (λ (s : ServerValue R). s.ticks) changed)
+            (unheld ∙ ap (λ (s : ServerValue R). s.withheld) changed) t.withholds;
         heard = subst (λ (b : AddressBook). RecordsSenders old.cluster
-            (all_filtered (filter_of old.addresses) frames) old.addresses b) (sym book) t.heard;
-        same = same_further old mid new first then;
+            (all_filtered (filter_of old.addresses) frames) old.addresses b)
+            (sym (book ∙ ap (λ (s : ServerValue R). s.addresses) changed)) t.heard;
+        same = same_further old mid new first (same_further mid nudged new (same_at_input mid nudged changed) then);
         alive = lives;
       }
 
   -- the end of the group has ended it
-  pub last_of : (frames : List (SocketAddr × List ℕ)) (group now : GroupValue) (old mid new : ServerValue R)
-      → G old.replica [] group old.replica → AddsGroup G observable frames group now old mid
-      → SaysNothing S G now mid new
+  pub last_of : (frames : List (SocketAddr × List ℕ)) (group one now : GroupValue) (old mid nudged new : ServerValue R)
+      → G old.replica [] group old.replica → AddsGroup G observable frames group one old mid
+      → GathersNudge G one now mid.replica nudged.replica → ChangesAtInput mid nudged
+      → SaysNothing S G now nudged new
       → mid.sent ≡ old.sent → mid.socket_failures ≡ old.socket_failures → IsSameServer old mid
-      → new.addresses ≡ mid.addresses → new.ticks ≡ mid.ticks → IsSameServer mid new → new.failed ≡ true
+      → new.addresses ≡ nudged.addresses → new.ticks ≡ nudged.ticks → IsSameServer nudged new → new.failed ≡ true
       → LastTurn S observable (all_filtered (filter_of old.addresses) frames) old new
-  last_of frames group now old mid new begins t none sent failures first book untimed then ended = record {
+  last_of frames group one now old mid nudged new begins t n changed none sent failures first book untimed then
+      ended =
+      let g = n old.replica t.given (t.gathers old.replica [] begins) in record {
+        letters_first = received_first observable frames old mid t.received;
+        count = 64;
+        letters = record { at_most = omega arith; some = λ is. absurd (omega (arith, is)) };
+        timed = t.given;
+        first = given_all old.pace old.received
+            (datagrams_in (take 64 old.loopback) (all_filtered (filter_of old.addresses) frames)) t.given t.may;
+        given = g.0;
+        nudged = g.1;
+        after_all = inr t.may;
+        hands_on = hands_none g.0 (drop 64 old.loopback) old new (record {
+          says = none.silent old.replica g.0 g.2;
+          loopback = none.loopback ∙ ap (λ (s : ServerValue R). s.loopback) changed ∙ t.left;
+          sent = none.sent ∙ ap (λ (s : ServerValue R). s.sent) changed ∙ sent;
+          failures = none.failures ∙ ap (λ (s : ServerValue R). s.socket_failures) changed ∙ failures;
+        });
+        silent = refl;
+        ticks = untimed ∙ ap (λ (s : ServerValue R). s.ticks) changed ∙ t.ticks;
+        heard = subst (λ (b : AddressBook). RecordsSenders old.cluster
+            (all_filtered (filter_of old.addresses) frames) old.addresses b)
+            (sym (book ∙ ap (λ (s : ServerValue R). s.addresses) changed)) t.heard;
+        same = same_further old mid new first (same_further mid nudged new (same_at_input mid nudged changed) then);
+        ended = ended;
+      }
+
+  -- the nudge has ended it
+  pub last_at_nudge : (frames : List (SocketAddr × List ℕ)) (group one : GroupValue) (old mid new : ServerValue R)
+      → G old.replica [] group old.replica → AddsGroup G observable frames group one old mid
+      → SaysNoMore S G (None ∷ []) one mid.replica new.replica → ChangesAtInput mid new
+      → mid.sent ≡ old.sent → mid.socket_failures ≡ old.socket_failures → IsSameServer old mid → new.failed ≡ true
+      → LastTurn S observable (all_filtered (filter_of old.addresses) frames) old new
+  last_at_nudge frames group one old mid new begins t silent changed sent failures first ended = record {
     letters_first = received_first observable frames old mid t.received;
     count = 64;
     letters = record { at_most = omega arith; some = λ is. absurd (omega (arith, is)) };
-    given = t.given;
+    timed = t.given;
     first = given_all old.pace old.received
         (datagrams_in (take 64 old.loopback) (all_filtered (filter_of old.addresses) frames)) t.given t.may;
-    hands_on = hands_none t.given (drop 64 old.loopback) old new (record {
-      says = none.silent old.replica t.given (t.gathers old.replica [] begins);
-      loopback = none.loopback ∙ t.left;
-      sent = none.sent ∙ sent;
-      failures = none.failures ∙ failures;
+    given = t.given ++ None ∷ [];
+    nudged = inr refl;
+    after_all = inr t.may;
+    hands_on = hands_none (t.given ++ None ∷ []) (drop 64 old.loopback) old new (record {
+      says = silent old.replica t.given (t.gathers old.replica [] begins);
+      loopback = ap (λ (s : ServerValue R). s.loopback) changed ∙ t.left;
+      sent = ap (λ (s : ServerValue R). s.sent) changed ∙ sent;
+      failures = ap (λ (s : ServerValue R). s.socket_failures) changed ∙ failures;
     });
     silent = refl;
-    ticks = untimed ∙ t.ticks;
+    ticks = ap (λ (s : ServerValue R). s.ticks) changed ∙ t.ticks;
     heard = subst (λ (b : AddressBook). RecordsSenders old.cluster
-        (all_filtered (filter_of old.addresses) frames) old.addresses b) (sym book) t.heard;
-    same = same_further old mid new first then;
+        (all_filtered (filter_of old.addresses) frames) old.addresses b)
+        (sym (ap (λ (s : ServerValue R). s.addresses) changed)) t.heard;
+    same = same_further old mid new first (same_at_input mid new changed);
     ended = ended;
   }
 
@@ -793,8 +864,11 @@ module _ {R : Type 0} (S : Sayings R) (G : Gatherings R) (observable : Type 0) w
     letters_first = received_first observable frames old new e.received;
     count = e.count;
     letters = e.letters;
-    given = e.given;
+    timed = e.given;
     first = e.first;
+    given = e.given;
+    nudged = inl refl;
+    after_all = inl refl;
     hands_on = hands_none e.given (drop e.count old.loopback) old new
         (record { says = e.silent old.replica [] begins; loopback = e.left; sent = sent; failures = failures });
     silent = refl;

@@ -3,6 +3,8 @@ use Rattle.std.specs.Prelude.{◌≡◌, ◌≢◌, ◌≤◌, ℕ, true, List, 
 use Rattle.std.specs.declared.net.socket_addr.SocketAddr.{SocketAddr}
 use Rattle.lk_replica.specs.Groups.{GroupValue}
 use Rattle.lk_server_replica.specs.Groups.{Sayings, Gatherings, GathersMore, SaysNoMore}
+use Rattle.lk_server_replica.specs.Silences.{quiet_after, quiet_withheld}
+use Rattle.lk_server_replica.specs.declared.replica_status.ReplicaStatus.{ReplicaStatus}
 use Rattle.lk_pacing.specs.declared.turn_input.TurnInput.{TurnInput}
 use Rattle.lk_pacing.specs.declared.turn_input.TurnInput.TheVariants.{Nothing, Filtered, Something}
 use Rattle.lk_address_book.specs.Addresses.{Filter, filter_of, IsSameFilter}
@@ -10,7 +12,7 @@ use Rattle.lk_address_book.specs.Senders.{RecordsSenders}
 use Rattle.lk_address_book.specs.Filters.{is_filtered_out, all_filtered}
 use Rattle.lk_transport.specs.Streams.{ReceivesOne, ComeWithin}
 use Rattle.lk_server.specs.Servers.{ServerValue, all_inputs, all_ticks, counted, datagrams_in, Given, GivenPrefix}
-use Rattle.lk_server.specs.Servers.{HasReceived, IsPrefix, TakesLetters, DeliversLetters, Withholding}
+use Rattle.lk_server.specs.Servers.{HasReceived, IsPrefix, MayEndNudged, TakesLetters, DeliversLetters, Withholding}
 
 -- a replica is given nothing of these frames: there is none, or one, which is a probe or a report, or came from a node
 -- of another genesis, or is a request while the server is deaf
@@ -27,8 +29,18 @@ pub record Finds {R : Type 0} (observable : Type 0) (found : TurnInput) (frames 
   pub comes : observable → ReceivesOne frames old.incoming new.incoming
   pub same : record new { incoming = old.incoming } ≡ old
 
--- ---- what a part of a turn may change: a datagram that the replica takes, a letter of the node to itself, what comes
--- to the socket, and all that a turn takes
+-- ---- what a part of a turn may change: an input or a datagram that the replica takes, a letter of the node to itself,
+-- what comes to the socket, and all that a turn takes
+
+abbrev pub ChangesAtInput : {R : Type 0} → ServerValue R → ServerValue R → Type 0
+ChangesAtInput old new =
+    new ≡ record old {
+      replica = new.replica;
+      failed = new.failed;
+      digest = new.digest;
+      quiet = new.quiet;
+      fed = new.fed;
+    }
 
 abbrev pub ChangesAtDatagram : {R : Type 0} → ServerValue R → ServerValue R → Type 0
 ChangesAtDatagram old new =
@@ -36,6 +48,8 @@ ChangesAtDatagram old new =
       replica = new.replica;
       failed = new.failed;
       digest = new.digest;
+      quiet = new.quiet;
+      fed = new.fed;
       received = new.received;
       ticks = new.ticks;
     }
@@ -46,6 +60,8 @@ ChangesAtLetter old new =
       replica = new.replica;
       failed = new.failed;
       digest = new.digest;
+      quiet = new.quiet;
+      fed = new.fed;
       received = new.received;
       ticks = new.ticks;
       loopback = new.loopback;
@@ -57,6 +73,8 @@ ChangesAtFrame old new =
       replica = new.replica;
       failed = new.failed;
       digest = new.digest;
+      quiet = new.quiet;
+      fed = new.fed;
       received = new.received;
       ticks = new.ticks;
       addresses = new.addresses;
@@ -68,6 +86,8 @@ ChangesAtSocket old new =
       replica = new.replica;
       failed = new.failed;
       digest = new.digest;
+      quiet = new.quiet;
+      fed = new.fed;
       received = new.received;
       ticks = new.ticks;
       addresses = new.addresses;
@@ -80,6 +100,8 @@ ChangesInGroup old new =
       replica = new.replica;
       failed = new.failed;
       digest = new.digest;
+      quiet = new.quiet;
+      fed = new.fed;
       received = new.received;
       ticks = new.ticks;
       loopback = new.loopback;
@@ -93,6 +115,8 @@ ChangesInTurn old new =
       replica = new.replica;
       failed = new.failed;
       digest = new.digest;
+      quiet = new.quiet;
+      fed = new.fed;
       received = new.received;
       ticks = new.ticks;
       withheld = new.withheld;
@@ -101,7 +125,30 @@ ChangesInTurn old new =
       incoming = new.incoming;
     }
 
+-- ---- the periods without a leader that a server counts beside its replica
+
+module _ {R : Type 0} (HasStatus : R → ReplicaStatus → Type 0) where
+  -- at an input that this node sent, if one did, the count goes on, or begins anew if the replica's does
+  pub record HearsQuiet (sender : Option ℕ) (old new : ServerValue R) : Type 0 where
+    pub before : ReplicaStatus
+    pub was : HasStatus old.replica before
+    pub after : ReplicaStatus
+    pub is : HasStatus new.replica after
+    pub quiet : new.quiet ≡ quiet_after sender before after old.quiet
+
+  -- a tick was withheld: a period more counts, unless the replica has a term
+  pub record WithholdsQuiet (old new : ServerValue R) : Type 0 where
+    pub status : ReplicaStatus
+    pub is : HasStatus old.replica status
+    pub quiet : new.quiet ≡ quiet_withheld status old.quiet
+
 module _ {R : Type 0} (Gathers : Gatherings R) where
+  -- a nudge was taken into the group, or nothing
+  abbrev pub GathersNudge : GroupValue → GroupValue → R → R → Type 0
+  GathersNudge group now old new =
+      (start : R) (timed : List (Option (List ℕ))) → Gathers start timed group old
+      → (given : List (Option (List ℕ))) × MayEndNudged timed given × Gathers start given now new
+
   -- these datagrams were taken into the group one after another, each counted, and where ticks go by datagrams a tick
   -- after every 64th, which is counted too
   pub record AddsAll (datagrams : List (List ℕ)) (group now : GroupValue) (old new : ServerValue R) : Type 0 where

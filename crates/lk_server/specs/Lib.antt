@@ -6,4 +6,5 @@ pub mod Pauses
 pub mod Probes
 pub mod ProbeHandling
 pub mod WatchHandling
+pub mod StepNotes
 pub mod Premises

@@ -1,5 +1,5 @@
 -- The report of a node, and how a server answers a probe with it.
-use Rattle.std.specs.Prelude.{◌≡◌, ◌≤◌, ◌+◌, ℕ, Bool, List, Option, Some, None, if◌then◌else◌, length}
+use Rattle.std.specs.Prelude.{◌≡◌, ◌≤◌, ◌+◌, ℕ, Bool, List, Option, Some, None, if◌then◌else◌, length, min}
 use Rattle.lk_probe.specs.Grammar.{SpellsReport, IsReportFor}
 use Rattle.lk_probe.specs.declared.probe.Probe.{Probe}
 use Rattle.lk_probe.specs.declared.probe.Report.{Report}
@@ -15,18 +15,21 @@ use Rattle.lk_transport.specs.Askers.{IsReplyAddress, Replies}
 
 -- ---- what a node tells
 
--- the silence that is told is that of the replica, and with it some of the periods whose ticks were withheld
-pub record TellsSilence (withheld : ℕ) (shown told : Leadership) : Type 0 where
+-- the silence that is told is that of the replica and the periods that the server counts beside it, at most all whose
+-- ticks were withheld; no count of 64 bits exceeds that
+pub record TellsSilence (withheld quiet : ℕ) (shown told : Leadership) : Type 0 where
+  pub is : told.silence ≡ min (shown.silence + min quiet withheld) 18446744073709551615
   pub least : shown.silence ≤ told.silence
   pub most : told.silence ≤ shown.silence + withheld
   pub others : told ≡ record shown { silence = told.silence }
 
--- a status tells what a replica shows, the digest of the genesis, and that count of periods; with the silence that the
--- replica shows it counts some of so many periods whose ticks were withheld. The rest the server has counted
-pub record ReportsStatus (digest : List ℕ) (count withheld : ℕ) (shown : ProbedState) (s : Status) : Type 0 where
+-- a status tells what a replica shows, the digest of the genesis, and that count of periods; and with the silence that
+-- the replica shows so many periods more, of so many whose ticks were withheld. The rest the server has counted
+pub record ReportsStatus (digest : List ℕ) (count withheld quiet : ℕ) (shown : ProbedState)
+    (s : Status) : Type 0 where
   pub genesis : s.identity.genesis ≡ digest
   pub format : s.identity.format ≡ shown.format
-  pub leadership : TellsSilence withheld shown.leadership s.leadership
+  pub leadership : TellsSilence withheld quiet shown.leadership s.leadership
   pub progress : s.progress ≡ shown.progress
   pub waiting : s.traffic.waiting ≡ shown.waiting
   pub ticks : s.traffic.ticks ≡ count
@@ -48,14 +51,13 @@ pub record ReportsReach (asks : Bool) (heard : Option ℕ) (watches : ℕ) (dige
 -- these bytes are a report of that node that answers the probe in its form, and tells what the replica shows, that
 -- count of periods, this count of members that are heard, so many watches, and this digest of its state. By the laws of
 -- lk_probe it is as long as the probe
-pub record IsReportTo (node : ℕ) (genesis : List ℕ) (count withheld : ℕ) (heard : Option ℕ) (watches : ℕ)
-    (digest : StateDigest)
-    (shown : ProbedState) (p : Probe) (bytes : List ℕ) : Type 0 where
+pub record IsReportTo (node : ℕ) (genesis : List ℕ) (count withheld quiet : ℕ) (heard : Option ℕ) (watches : ℕ)
+    (digest : StateDigest) (shown : ProbedState) (p : Probe) (bytes : List ℕ) : Type 0 where
   pub report : Report
   pub spelled : SpellsReport report bytes
   pub is_for : IsReportFor p report
   pub node_told : report.node ≡ node
-  pub told : ReportsStatus genesis count withheld shown report.status
+  pub told : ReportsStatus genesis count withheld quiet shown report.status
   pub reached : ReportsReach p.asks_reach heard watches digest shown report.reach
 
 -- the probe was answered, by the server's own count of periods, with whom it hears in this one, how many watches it
@@ -66,8 +68,8 @@ pub record RepliesToProbe {R : Type 0} (Shows : R → ProbedState → Type 0) (o
   pub shown : ProbedState
   pub shows : Shows old.replica shown
   pub bytes : List ℕ
-  pub reports : IsReportTo old.node old.addresses.seals.genesis (periods old) old.withheld (heard_by shown.members old)
-      (length old.waiting.queue.waiters) old.digest shown a.probe bytes
+  pub reports : IsReportTo old.node old.addresses.seals.genesis (periods old) old.withheld old.quiet
+      (heard_by shown.members old) (length old.waiting.queue.waiters) old.digest shown a.probe bytes
   pub located : ProbedState
   pub locates : Shows old.replica located
   pub address : SocketAddr

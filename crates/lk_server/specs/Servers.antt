@@ -7,6 +7,7 @@ use Rattle.lk_types.specs.declared.member.Member.{Member}
 use Rattle.lk_node_interface.specs.Letters.{LetterValue}
 use Rattle.lk_node_interface.specs.declared.input.Input.{Input}
 use Rattle.lk_node_interface.specs.declared.input.Input.TheVariants.{Tick, Nudge, Datagram}
+use Rattle.lk_node_interface.specs.declared.nudge_reason.NudgeReason.TheVariants.{Period, TicksWithheld, Fed}
 use Rattle.lk_replica.specs.Groups.{GroupValue}
 use Rattle.lk_replica.specs.Posts.{CarriesAll}
 use Rattle.lk_address_book.specs.Addresses.{AddressBook, filter_of, client_at, node_at}
@@ -42,6 +43,10 @@ pub record ServerValue (R : Type 0) : Type 0 where
   pub failed : Bool
   -- the digest that it took last of its replica's state
   pub digest : StateDigest
+  -- how many periods without a leader it counts beside those that its replica counts
+  pub quiet : ℕ
+  -- whether its group has fed the replica so far
+  pub fed : Bool
   -- what its socket has sent, and how many of its sends failed
   pub sent : List (SocketAddr × List ℕ)
   pub socket_failures : ℕ
@@ -59,14 +64,16 @@ pub record IsConfiguredAs {R : Type 0} (c n : ℕ) (p : Pace) (known : Network) 
   pub seals : s.addresses.seals ≡ known.seals
   pub admins : s.addresses.admins ≡ known.admins
 
--- nobody has written to it yet, not even itself, and nobody waits; it has counted no tick, taken no digest and probed
--- nobody, and is deaf if its ticks go by the clock
+-- nobody has written to it yet, not even itself, and nobody waits; it has counted no tick and no silence, taken no
+-- digest and probed nobody, nothing has fed its replica, and it is deaf if its ticks go by the clock
 pub record HasHeardNobody {R : Type 0} (s : ServerValue R) : Type 0 where
   pub loopback : s.loopback ≡ []
   pub received : s.received ≡ 0
   pub ticks : s.ticks ≡ 0
   pub withheld : s.withheld ≡ 0
   pub digest : s.digest ≡ no_digest
+  pub quiet : s.quiet ≡ 0
+  pub fed : s.fed ≡ false
   pub hearing : s.addresses.hearing ≡ nothing_sent
   pub deaf : s.addresses.deaf ≡ is_clock s.pace
   pub clients : (c : ℕ) → IsClient c → client_at s.addresses c ≡ None
@@ -141,7 +148,9 @@ pub record MayWithhold {R : Type 0} (s : ServerValue R) : Type 0 where
 -- what ends the period that was just counted: in each 31st a nudge that says whether ticks are withheld, else a tick
 abbrev pub EndsPeriod : {R : Type 0} → ServerValue R → Input → Type 0
 EndsPeriod s Tick = periods s % 31 ≢ 0
-EndsPeriod s (Nudge withheld) = (periods s % 31 ≡ 0) × (IsTrue withheld ↔ WithholdsTicks s)
+EndsPeriod s (Nudge Period) = (periods s % 31 ≡ 0) × (WithholdsTicks s → ⊥)
+EndsPeriod s (Nudge TicksWithheld) = (periods s % 31 ≡ 0) × WithholdsTicks s
+EndsPeriod s (Nudge Fed) = ⊥
 EndsPeriod s (Datagram bytes) = ⊥
 
 -- a period is counted, and the replica has taken what ends it, as its `gather` takes it
@@ -163,6 +172,10 @@ abbrev pub Given : Pace → ℕ → List (List ℕ) → List (Option (List ℕ))
 Given pace received [] given = given ≡ None ∷ []
 Given pace received (bytes ∷ more) given =
     (ticks : List (Option (List ℕ))) × MayFollow pace ticks × (given ≡ all_inputs pace received (bytes ∷ more) ++ ticks)
+
+-- it is given just this, or this and then a nudge, which is not counted as a tick
+abbrev pub MayEndNudged : List (Option (List ℕ)) → List (Option (List ℕ)) → Type 0
+MayEndNudged timed given = (given ≡ timed) ⊎ (given ≡ timed ++ None ∷ [])
 
 -- the datagrams that a turn takes: letters of the node to itself, and what came from the socket
 abbrev pub datagrams_in : List LetterValue → List (SocketAddr × List ℕ) → List (List ℕ)
@@ -245,12 +258,15 @@ pub record TakesLetters (count : ℕ) (loopback : List LetterValue) : Type 0 whe
   pub at_most : count ≤ 64
   pub some : count ≡ 0 → loopback ≡ []
 
--- it has counted no datagram and no tick, given or withheld, and taken no digest
+-- it has counted no datagram, no tick, given or withheld, and no silence, taken no digest, and noted of no input that
+-- this has fed its replica
 pub record KeepsCounts {R : Type 0} (old new : ServerValue R) : Type 0 where
   pub received : new.received ≡ old.received
   pub ticks : new.ticks ≡ old.ticks
   pub withheld : new.withheld ≡ old.withheld
   pub digest : new.digest ≡ old.digest
+  pub quiet : new.quiet ≡ old.quiet
+  pub fed : new.fed ≡ old.fed
 
 -- it is the server of the same node, its ticks go by the same, and the same wait as before
 pub record IsSameServer {R : Type 0} (old new : ServerValue R) : Type 0 where
@@ -264,41 +280,48 @@ pub record IsSameServer {R : Type 0} (old new : ServerValue R) : Type 0 where
 
 -- Where letters of the node to itself wait, it takes the first 64 of them, in order, and nothing of the socket; else
 -- what came. Its replica was given just that as one group, and a tick where one was due and not withheld, and each tick
--- was counted; whoever sent what came was heard, and it goes on
+-- was counted; it may have been nudged at the end of the group. Whoever sent what came was heard, and it goes on
 pub record Turn {R : Type 0} (Says : R → List (Option (List ℕ)) → List LetterValue → R → Type 0) (observable : Type 0)
     (came : List (SocketAddr × List ℕ)) (old new : ServerValue R) : Type 0 where
   pub letters_first : LettersFirst observable came old
+  pub timed : List (Option (List ℕ))
+  pub may : Given old.pace old.received (datagrams_in (take 64 old.loopback) came) timed
   pub given : List (Option (List ℕ))
-  pub may : Given old.pace old.received (datagrams_in (take 64 old.loopback) came) given
+  pub nudged : MayEndNudged timed given
   pub hands_on : DeliversLetters Says observable given (drop 64 old.loopback) old new
   pub counted : new.received ≡ counted old.received (datagrams_in (take 64 old.loopback) came)
-  pub ticks : new.ticks ≡ all_ticks old.ticks given
+  pub ticks : new.ticks ≡ all_ticks old.ticks timed
   pub withholds : Withholding old new
   pub heard : RecordsSenders old.cluster came old.addresses new.addresses
   pub same : IsSameServer old new
   pub alive : new.failed ≡ false
 
--- A turn has ended the replica, after a prefix of its input or at the sync after all of it: this many letters of the
--- node to itself were taken, and the last datagram that arrived has ended it; nothing of the group is sent
+-- A turn has ended the replica, after a prefix of its input, at the nudge after all of it, or at the sync after that:
+-- this many letters of the node to itself were taken, and the last datagram that arrived has ended it; nothing of the
+-- group is sent
 pub record LastTurn {R : Type 0} (Says : R → List (Option (List ℕ)) → List LetterValue → R
     → Type 0) (observable : Type 0)
     (came : List (SocketAddr × List ℕ)) (old new : ServerValue R) : Type 0 where
   pub letters_first : LettersFirst observable came old
   pub count : ℕ
   pub letters : TakesLetters count old.loopback
+  pub timed : List (Option (List ℕ))
+  pub first : GivenPrefix old.pace old.received (datagrams_in (take count old.loopback) came) timed
   pub given : List (Option (List ℕ))
-  pub first : GivenPrefix old.pace old.received (datagrams_in (take count old.loopback) came) given
+  pub nudged : MayEndNudged timed given
+  pub after_all : (given ≡ timed)
+      ⊎ Given old.pace old.received (datagrams_in (take count old.loopback) came) timed
   pub hands_on : DeliversLetters Says observable given (drop count old.loopback) old new
   pub silent : hands_on.letters ≡ []
-  pub ticks : new.ticks ≡ all_ticks old.ticks given
+  pub ticks : new.ticks ≡ all_ticks old.ticks timed
   pub heard : RecordsSenders old.cluster came old.addresses new.addresses
   pub same : IsSameServer old new
   pub ended : new.failed ≡ true
 
 -- An idle turn: no letter of the node to itself waited, one receive found these frames, one or none, which say nothing
 -- to the replica. It was given nothing, nothing was sent, and nothing is changed but what is to come, which is now what
--- follows that receive, and the count of ticks that were withheld. By datagrams a turn in which no frame comes is never
--- idle: it is a tick
+-- follows that receive, and the counts of ticks that were withheld and of silence. By datagrams a turn in which no
+-- frame comes is never idle: it is a tick
 pub record IsIdle {R : Type 0} (observable : Type 0) (frames : List (SocketAddr × List ℕ))
     (old new : ServerValue R) : Type 0 where
   pub loopback : old.loopback ≡ []
@@ -306,7 +329,7 @@ pub record IsIdle {R : Type 0} (observable : Type 0) (frames : List (SocketAddr 
   pub clock : frames ≡ [] → old.pace ≡ Clock
   pub comes : observable → ReceivesOne frames old.incoming new.incoming
   pub withholds : Withholding old new
-  pub same : record new { incoming = old.incoming; withheld = old.withheld } ≡ old
+  pub same : record new { incoming = old.incoming; withheld = old.withheld; quiet = old.quiet } ≡ old
 
 -- a turn in which these frames came: its replica was given what was taken of them, or what waited, or a tick; or the
 -- turn is idle

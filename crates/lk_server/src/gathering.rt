@@ -11,7 +11,10 @@ ghost use Rattle.lk_node_interface.specs.Letters.{LetterValue};
 ghost use Rattle.lk_node.specs.Calls.{heard_by};
 ghost use Rattle.lk_server_replica.specs.Groups.{GathersMore, SaysNoMore};
 ghost use Rattle.lk_server.specs.Gatherings.{Finds, AddsAll, EndsWithin, AddsLoopback, EndsLoopback, AddsWaiting};
-ghost use Rattle.lk_server.specs.Gatherings.{AddsGroup, ChangesInTurn};
+ghost use Rattle.lk_address_book.specs.Arrivals.{sender};
+ghost use Rattle.lk_server.specs.Gatherings.{AddsGroup, ChangesAtInput, ChangesInTurn, GathersNudge, HearsQuiet};
+ghost use Rattle.lk_server.specs.Gatherings.{WithholdsQuiet};
+ghost use Rattle.lk_server.specs.StepNotes.{NotesAll, NotesInput, NudgesIfFed, noted};
 ghost use Rattle.lk_server.specs.Gatherings.{EndsGroup, ChangesAtDatagram, ChangesAtLetter, ChangesInGroup};
 ghost use Rattle.lk_transport.specs.Kept.{KeepsOf};
 ghost use Rattle.lk_server.specs.Servers.{EndsPeriod, HasReceived, IsIdle, MayWithhold, TakesPeriodEnd};
@@ -20,12 +23,13 @@ ghost use Rattle.lk_server.specs.Servers.{WithholdsTicks, one_more_tick};
 use crate::group_fault::GroupFault;
 use crate::server::Server;
 use lk_address_book::arrival::Arrival;
-use lk_node_interface::{Input, Letter};
+use lk_node_interface::{Input, Letter, NudgeReason};
 use lk_pacing::tick_timer::TickTimer;
 use lk_pacing::turn_input::TurnInput;
 use lk_replica::Group;
 use lk_server_log::{log_catch_up, log_changes};
 use lk_server_replica::ServerReplica;
+use lk_server_replica::feeding::Feeding;
 use lk_transport::receive_buffer::ReceiveBuffer;
 use lk_transport::socket::DatagramSocket;
 use lk_wire::Datagram;
@@ -59,7 +63,7 @@ impl<R: ServerReplica, S: DatagramSocket + Drop> Server<R, S> {
     }
 
     // Gives a tick, a nudge or a datagram to the replica as a part of the group. Takes the digest of its state, if one
-    // is due. Logs what changed, and records an installed snapshot for the events.
+    // is due, and notes whether it was fed. Logs what changed, and records an installed snapshot for the events.
     fn add_input<L: Log>(
         &mut self,
         input: Input,
@@ -73,10 +77,13 @@ impl<R: ServerReplica, S: DatagramSocket + Drop> Server<R, S> {
             (R.Takes self.old.replica group.old input.entry self.new.replica group.new) }
         ensures silent { OnErr result
             (SaysNoMore R.Says R.Gathers (heard_by input.entry ∷ []) group.old self.old.replica self.new.replica) }
-        // However it ends, the digest of the state is taken then, if one is due.
-        ensures digests { R.KeepsDigest self.new.replica self.old.digest self.new.digest }
-        ensures others { self.new
-            ≡ record self.old { replica = self.new.replica; failed = self.new.failed; digest = self.new.digest } }
+        // However it ends, the digest of the state is taken then, if one is due, and it is noted whether the input has
+        // fed the replica.
+        ensures notes { NotesInput
+            R.KeepsDigest R.HasStatus self.old.replica self.new.replica (noted self.old) (noted self.new) }
+        // And the count of silence goes on or begins anew.
+        ensures quiet { HearsQuiet R.HasStatus (sender came.now) self.old self.new }
+        ensures others { ChangesAtInput self.old self.new }
         ensures broken { OnErr result (self.new.failed ≡ true) }
     {
         let before = self.replica.status();
@@ -87,6 +94,7 @@ impl<R: ServerReplica, S: DatagramSocket + Drop> Server<R, S> {
         self.events.note_installed(came, &before, &after);
         self.table = self.table.after_step(&before, &after);
         self.silence.note_input(came.node(), &before, &after);
+        self.fed.note_step(&before, &after);
         log_changes(log, came, &before, &after);
         log_catch_up(log, came, group.letters().len().saturating_sub(said));
         match gathered {
@@ -111,9 +119,10 @@ impl<R: ServerReplica, S: DatagramSocket + Drop> Server<R, S> {
         if self.now() % TICKS_A_NUDGE != 0 {
             return Input::Tick;
         }
-        Input::Nudge {
-            are_ticks_withheld: self.are_ticks_withheld(),
+        if self.are_ticks_withheld() {
+            return Input::Nudge(NudgeReason::TicksWithheld);
         }
+        Input::Nudge(NudgeReason::Period)
     }
 
     // Adds a tick to the group, each 31st time a nudge in its place, and counts it.
@@ -123,13 +132,17 @@ impl<R: ServerReplica, S: DatagramSocket + Drop> Server<R, S> {
             (GathersMore R.Gathers (None ∷ []) group.old group.new self.old.replica self.new.replica) }
         ensures silent { OnErr result
             (SaysNoMore R.Says R.Gathers (None ∷ []) group.old self.old.replica self.new.replica) }
-        // However it ends, that is counted.
+        // However it ends, that is counted, and the input is noted.
         ensures ticks { self.new.ticks ≡ one_more_tick self.old.ticks }
+        ensures notes { NotesInput
+            R.KeepsDigest R.HasStatus self.old.replica self.new.replica (noted self.old) (noted self.new) }
         ensures others { self.new
             ≡ record self.old {
               replica = self.new.replica;
               failed = self.new.failed;
               digest = self.new.digest;
+              quiet = self.new.quiet;
+              fed = self.new.fed;
               ticks = self.new.ticks;
             } }
         ensures broken { OnErr result (self.new.failed ≡ true) }
@@ -137,6 +150,30 @@ impl<R: ServerReplica, S: DatagramSocket + Drop> Server<R, S> {
         self.ticks = self.ticks.saturating_add(1);
         let input = self.period_end();
         self.add_input(input, &Arrival::Tick, group, log)
+    }
+
+    // Ends a group that has fed the replica with a nudge that says so: the replica may still be behind. Any other group
+    // stays as it is.
+    pub(crate) fn nudge_if_fed<L: Log>(
+        &mut self,
+        group: &mut Group,
+        log: &L,
+    ) -> Result<(), GroupFault>
+        ensures nudges { OnOk result (NudgesIfFed R.Takes R.KeepsDigest group.old group.new self.old self.new) }
+        ensures gathers { OnOk result
+            (GathersNudge R.Gathers group.old group.new self.old.replica self.new.replica) }
+        ensures silent { OnErr result
+            (SaysNoMore R.Says R.Gathers (None ∷ []) group.old self.old.replica self.new.replica) }
+        ensures rests { self.new.fed ≡ false }
+        ensures others { ChangesAtInput self.old self.new }
+        ensures broken { OnErr result (self.new.failed ≡ true) }
+    {
+        if !self.fed.is_fed() {
+            return Ok(());
+        }
+        let nudged = self.add_input(Input::Nudge(NudgeReason::Fed), &Arrival::Tick, group, log);
+        self.fed = Feeding::none();
+        nudged
     }
 
     // Counts a datagram and adds it to the group, with a tick after it if one is due by that count.
@@ -149,6 +186,7 @@ impl<R: ServerReplica, S: DatagramSocket + Drop> Server<R, S> {
     ) -> Result<(), GroupFault>
         ensures adds { OnOk result (AddsAll R.Gathers (datagram.entry ∷ []) group.old group.new self.old self.new) }
         ensures ends { OnErr result (EndsWithin R.Says R.Gathers (datagram.entry ∷ []) group.old self.old self.new) }
+        ensures notes { OnOk result (NotesAll R.Takes R.KeepsDigest R.HasStatus group.old group.new self.old self.new) }
         ensures others { ChangesAtDatagram self.old self.new }
         ensures broken { OnErr result (self.new.failed ≡ true) }
     {
@@ -167,6 +205,7 @@ impl<R: ServerReplica, S: DatagramSocket + Drop> Server<R, S> {
             × AddsAll R.Gathers (l.bytes ∷ []) group.old group.new self.old self.new) }
         ensures none { IfOk result
             (λ some. some ≡ false → (self.old.loopback ≡ []) × (self.new ≡ self.old) × (group.new ≡ group.old)) }
+        ensures notes { OnOk result (NotesAll R.Takes R.KeepsDigest R.HasStatus group.old group.new self.old self.new) }
         ensures ends { OnErr result
             ((l : LetterValue) × (self.old.loopback ≡ l ∷ self.new.loopback)
             × EndsWithin R.Says R.Gathers (l.bytes ∷ []) group.old self.old self.new) }
@@ -185,6 +224,7 @@ impl<R: ServerReplica, S: DatagramSocket + Drop> Server<R, S> {
     // Adds further letters of the node to itself to the group, in order, at most 63.
     fn add_loopbacks<L: Log>(&mut self, group: &mut Group, log: &L) -> Result<(), GroupFault>
         ensures adds { OnOk result (AddsLoopback R.Gathers 63 group.old group.new self.old self.new) }
+        ensures notes { OnOk result (NotesAll R.Takes R.KeepsDigest R.HasStatus group.old group.new self.old self.new) }
         ensures ends { OnErr result (EndsLoopback R.Says R.Gathers 63 group.old self.old self.new) }
         ensures others { ChangesAtLetter self.old self.new }
         ensures broken { OnErr result (self.new.failed ≡ true) }
@@ -220,6 +260,7 @@ impl<R: ServerReplica, S: DatagramSocket + Drop> Server<R, S> {
         ensures ends { OnErr result
             ((frames : List (Address × List ℕ))
             × EndsGroup R.Says R.Gathers S.is_observable frames group.old self.old self.new) }
+        ensures notes { OnOk result (NotesAll R.Takes R.KeepsDigest R.HasStatus group.old group.new self.old self.new) }
         ensures others { ChangesInGroup self.old self.new }
         ensures broken { OnErr result (self.new.failed ≡ true) }
     {
@@ -240,7 +281,9 @@ impl<R: ServerReplica, S: DatagramSocket + Drop> Server<R, S> {
 
     // Counts a tick that its replica is not given.
     fn withhold_tick(&mut self)
-        ensures { self.new ≡ record self.old { withheld = one_more_tick self.old.withheld } }
+        ensures counts { self.new
+            ≡ record self.old { withheld = one_more_tick self.old.withheld; quiet = self.new.quiet } }
+        ensures quiet { WithholdsQuiet R.HasStatus self.old self.new }
     {
         self.withheld = self.withheld.saturating_add(1);
         self.silence.count_withheld(&self.replica.status());
@@ -266,6 +309,7 @@ impl<R: ServerReplica, S: DatagramSocket + Drop> Server<R, S> {
         ensures ends { OnErr result
             ((frames : List (Address × List ℕ))
             × EndsGroup R.Says R.Gathers S.is_observable frames group.old self.old self.new) }
+        ensures notes { OnOk result (NotesAll R.Takes R.KeepsDigest R.HasStatus group.old group.new self.old self.new) }
         ensures others { ChangesInTurn self.old self.new }
         ensures broken { OnErr result (self.new.failed ≡ true) }
     {

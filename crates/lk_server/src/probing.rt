@@ -1,11 +1,12 @@
 //! Composes a node's report, and replies to a probe with it.
 
-ghost use Rattle.std.specs.Prelude.{◌≡◌, ◌≤◌, ◌+◌, length};
+ghost use Rattle.std.specs.Prelude.{◌≡◌, ◌≤◌, ◌+◌, length, min};
 ghost use Rattle.lk_types.specs.Limits.{max_members};
 ghost use Rattle.lk_server.specs.Probes.{RepliesToKept, IsReportTo, ReportsStatus, TellsSilence};
 ghost use Rattle.lk_server.specs.Servers.{heard_by, periods};
 ghost use Rattle.lk_transport.specs.Askers.{IsReplyAddress};
 ghost use Rattle.lk_server_replica.specs.declared.probed_state.ProbedState.{ProbedState as ProbedStateValue};
+ghost use Rattle.lk_server_replica.specs.declared.replica_status.ReplicaStatus.{ReplicaStatus as ReplicaStatusValue};
 
 use crate::server::Server;
 use lk_probe::{Identity, Leadership, PROGRAM, ProbeDatagram, Reach, Status, Traffic};
@@ -18,6 +19,7 @@ use std::net::SocketAddr;
 impl<R: ServerReplica, S: DatagramSocket + Drop> Server<R, S> {
     // Returns for how many periods a replica that shows this silence has heard no leader.
     fn silence_of(&self, shown: u64) -> u64
+        ensures is { result ≡ min (shown + min self.now.quiet self.now.withheld) 18446744073709551615 }
         ensures least { shown ≤ result }
         ensures most { result ≤ shown + self.now.withheld }
     {
@@ -26,13 +28,16 @@ impl<R: ServerReplica, S: DatagramSocket + Drop> Server<R, S> {
     }
 
     /// Returns for how many periods it has heard no leader, or since its start if it never did; 0 while it seeks votes.
-    pub fn silence(&self) -> u64 {
+    pub fn silence(&self) -> u64
+        ensures { (status : ReplicaStatusValue) × R.HasStatus self.now.replica status
+            × (result ≡ min (status.silence + min self.now.quiet self.now.withheld) 18446744073709551615) }
+    {
         self.silence_of(self.replica.status().silence)
     }
 
     // Returns the leadership that it tells: what the replica shows, with the silence in periods.
     fn leadership_of(&self, shown: Leadership) -> Leadership
-        ensures { TellsSilence self.now.withheld shown result }
+        ensures { TellsSilence self.now.withheld self.now.quiet shown result }
     {
         Leadership {
             silence: self.silence_of(shown.silence),
@@ -42,7 +47,8 @@ impl<R: ServerReplica, S: DatagramSocket + Drop> Server<R, S> {
 
     // Returns what it reports of its node, whose replica shows this.
     fn status_of(&self, shown: ProbedState) -> Status
-        ensures { ReportsStatus self.now.addresses.seals.genesis (periods self.now) self.now.withheld shown result }
+        ensures { ReportsStatus self.now.addresses.seals.genesis (periods self.now) self.now.withheld self.now.quiet
+            shown result }
     {
         Status {
             identity: Identity {
@@ -67,7 +73,8 @@ impl<R: ServerReplica, S: DatagramSocket + Drop> Server<R, S> {
     /// its count of periods and what else it has counted, and the version of the lock table, as it was last read.
     pub fn status(&self) -> Status
         ensures { (shown : ProbedStateValue) × R.Shows self.now.replica shown
-            × ReportsStatus self.now.addresses.seals.genesis (periods self.now) self.now.withheld shown result }
+            × ReportsStatus self.now.addresses.seals.genesis (periods self.now) self.now.withheld self.now.quiet
+            shown result }
     {
         self.status_of(self.replica.show())
     }
@@ -120,8 +127,8 @@ impl<R: ServerReplica, S: DatagramSocket + Drop> Server<R, S> {
     fn report(&self, asked: &ReceivedProbe) -> ProbeDatagram
         ensures { (shown : ProbedStateValue) × R.Shows self.now.replica shown
             × IsReportTo self.now.node self.now.addresses.seals.genesis (periods self.now) self.now.withheld
-            (heard_by shown.members self.now) (length self.now.waiting.queue.waiters) self.now.digest shown
-            asked.now.probe result }
+            self.now.quiet (heard_by shown.members self.now) (length self.now.waiting.queue.waiters) self.now.digest
+            shown asked.now.probe result }
     {
         let shown = self.replica.show();
         let reach = self.reach_of(&shown);

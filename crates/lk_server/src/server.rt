@@ -10,6 +10,7 @@ ghost use Rattle.lk_transport.specs.Kept.{KeepsOf};
 ghost use Rattle.lk_server_replica.specs.Refusals.{IsOfGroups};
 ghost use Rattle.lk_server.specs.Servers.{DeliversLetters, DeliversNothing, HasHeardNobody, HasReceived, IsSameServer};
 ghost use Rattle.lk_server.specs.Servers.{KeepsCounts, LastTurn};
+ghost use Rattle.lk_server.specs.StepNotes.{TurnsNotesOrKeeps};
 ghost use Rattle.lk_server.specs.Servers.{Runs, IsConfiguredAs, HasSocket, TurnOrIdle, Turn, one_more_tick};
 
 use crate::group_fault::GroupFault;
@@ -25,6 +26,7 @@ use lk_pacing::turn_input::TurnInput;
 use lk_probe::StateDigest;
 use lk_replica::Group;
 use lk_server_log::{log_notes, log_sends};
+use lk_server_replica::feeding::Feeding;
 use lk_server_replica::silence::Silence;
 use lk_server_replica::{ServerReplica, TableVersion};
 use lk_transport::post::SocketPost;
@@ -65,6 +67,8 @@ pub struct Server<R: ServerReplica, S: DatagramSocket + Drop> {
     pub(crate) sync_pause: SyncPause,
     // the digest that it took last of its replica's state
     pub(crate) digest: StateDigest,
+    // whether a step of this group has fed its replica
+    pub(crate) fed: Feeding,
     // it draws the tokens of its probes
     pub(crate) tokens: TokenSource,
     // the count of periods at its last warning of a node of another genesis
@@ -96,6 +100,8 @@ impl<R: ServerReplica, S: DatagramSocket + Drop> Model for Server<R, S> {
       withheld = s.withheld;
       failed = R.failed s.replica;
       digest = s.digest;
+      quiet = s.silence;
+      fed = s.fed;
       sent = s.post.sent;
       socket_failures = s.post.socket_failures;
       incoming = s.post.incoming;
@@ -136,9 +142,10 @@ impl<R: ServerReplica, S: DatagramSocket + Drop> Server<R, S> {
             ticks: 0,
             withheld: 0,
             unsent: 0,
-            silence: Silence::NONE,
+            silence: Silence::none(),
             table: TableVersion::Unread,
             digest: StateDigest::none(),
+            fed: Feeding::none(),
             sync_pause: SyncPause::NONE,
             tokens: TokenSource::new(),
             stranger_warned: None,
@@ -279,6 +286,7 @@ impl<R: ServerReplica, S: DatagramSocket + Drop> Server<R, S> {
         if !found.is_something() {
             return Ok(false);
         }
+        self.nudge_if_fed(&mut group, log)?;
         self.end_group(&group, log)?;
         Ok(true)
     }
@@ -302,6 +310,12 @@ pub fn node_turn<R: ServerReplica, S: DatagramSocket + Drop, C: Clock, L: Log>(
         ((frames : List (Address × List ℕ)) × HasReceived S.is_observable frames server.old server.new
         × TurnOrIdle R.Says S.is_observable frames server.old server.new
         × KeepsOf server.old.addresses.seals frames buffer.old buffer.new) }
+    // The digest that it reports is the one before, or that of the state which the replica had after one of the inputs
+    // of the group, at a multiple of 64 positions. The last input is a nudge because the replica was fed, if one of the
+    // others has fed it; no other input is one.
+    ensures notes { OnOk result
+        (TurnsNotesOrKeeps R.Says R.Gathers R.Takes R.KeepsDigest R.HasStatus S.is_observable server.old
+        server.new) }
     // After an error nothing of the group is sent.
     ensures ends { OnErr result
         ((frames : List (Address × List ℕ)) × HasReceived S.is_observable frames server.old server.new
@@ -314,6 +328,7 @@ pub fn node_turn<R: ServerReplica, S: DatagramSocket + Drop, C: Clock, L: Log>(
     if !server.fill_group(buffer, tick_timer, &mut group, log)? {
         return Ok(());
     }
+    server.nudge_if_fed(&mut group, log)?;
     let began = tick_timer.now();
     server.end_group(&group, log)?;
     server.note_sync(&group, tick_timer, began);

@@ -9,6 +9,7 @@ ghost use Rattle.std.specs.declared.net.socket_addr.SocketAddr.{SocketAddr as Ad
 ghost use Rattle.lk_address_book.specs.Addresses.{filter_of, IsSameFilter};
 ghost use Rattle.lk_server.specs.Gatherings.{Finds, AddsHeard, EndsHeard, AddsFromSocket, EndsSocket, AddsWaiting};
 ghost use Rattle.lk_server.specs.Gatherings.{EndsGroup, ChangesAtFrame, ChangesAtSocket};
+ghost use Rattle.lk_server.specs.StepNotes.{NotesAll};
 ghost use Rattle.lk_transport.specs.Streams.{Receives, ComeWithin, first_of, listed};
 ghost use Rattle.lk_address_book.specs.Senders.{RecordsSender};
 ghost use Rattle.lk_address_book.specs.Filters.{is_filtered_out};
@@ -127,6 +128,7 @@ impl<R: ServerReplica, S: DatagramSocket + Drop> Server<R, S> {
             buffer.new) }
         ensures rest { IfOk result (λ found. (found ≡ TurnInput.Filtered → ⊥) → buffer.new ≡ buffer.old) }
         ensures spares { OnErr result (buffer.new ≡ buffer.old) }
+        ensures notes { OnOk result (NotesAll R.Takes R.KeepsDigest R.HasStatus group.old group.new self.old self.new) }
         ensures others { ChangesAtFrame self.old self.new }
         ensures broken { OnErr result (self.new.failed ≡ true) }
     {
@@ -178,6 +180,7 @@ impl<R: ServerReplica, S: DatagramSocket + Drop> Server<R, S> {
         ensures ends { OnErr result
             ((frame : Address × List ℕ) × (is_filtered_out (filter_of self.old.addresses) frame ≡ false)
             × EndsSocket R.Says R.Gathers S.is_observable 1 (frame ∷ []) group.old self.old self.new) }
+        ensures notes { OnOk result (NotesAll R.Takes R.KeepsDigest R.HasStatus group.old group.new self.old self.new) }
         ensures others { ChangesAtSocket self.old self.new }
         ensures broken { OnErr result (self.new.failed ≡ true) }
     {
@@ -207,6 +210,7 @@ impl<R: ServerReplica, S: DatagramSocket + Drop> Server<R, S> {
         ensures ends { OnErr result
             ((frame : Address × List ℕ)
             × EndsSocket R.Says R.Gathers S.is_observable 2 (frame ∷ []) group.old self.old self.new) }
+        ensures notes { OnOk result (NotesAll R.Takes R.KeepsDigest R.HasStatus group.old group.new self.old self.new) }
         ensures others { ChangesAtSocket self.old self.new }
         ensures broken { OnErr result (self.new.failed ≡ true) }
     {
@@ -239,6 +243,7 @@ impl<R: ServerReplica, S: DatagramSocket + Drop> Server<R, S> {
             ((frames : List (Address × List ℕ)) × (length frames ≤ 63)
             × EndsSocket R.Says R.Gathers S.is_observable (2 * length frames + 2) frames group.old
             self.old self.new) }
+        ensures notes { OnOk result (NotesAll R.Takes R.KeepsDigest R.HasStatus group.old group.new self.old self.new) }
         ensures others { ChangesAtSocket self.old self.new }
         ensures broken { OnErr result (self.new.failed ≡ true) }
     {
@@ -275,6 +280,7 @@ impl<R: ServerReplica, S: DatagramSocket + Drop> Server<R, S> {
         ensures ends { OnErr result
             ((frames : List (Address × List ℕ))
             × EndsGroup R.Says R.Gathers S.is_observable frames group.old self.old self.new) }
+        ensures notes { OnOk result (NotesAll R.Takes R.KeepsDigest R.HasStatus group.old group.new self.old self.new) }
         ensures others { ChangesAtSocket self.old self.new }
         ensures broken { OnErr result (self.new.failed ≡ true) }
     {

@@ -7,3 +7,4 @@ pub mod Refusals
 pub mod Tables
 pub mod StateDigests
 pub mod Silences
+pub mod Feedings

@@ -1,6 +1,7 @@
 //! A replica as a server runs it: it takes its input in groups, and shows what others see of it.
 #![tactic(auto)]
 
+pub mod feeding;
 mod probed_state;
 pub mod replica_status;
 mod server_replica;

@@ -1,4 +1,5 @@
-//! A summary of a replica's state, which a server compares before and after a step for its log and events.
+//! A summary of a replica's state, which a server compares before and after a step for its log and events, and to see
+//! whether the step has fed the replica.
 
 use lk_types::{Ballot, Executed, NodeNo, RealBallot};
 
@@ -11,6 +12,8 @@ pub struct ReplicaStatus {
     pub snapshot: Executed,
     /// How many positions it has executed.
     pub executed: Executed,
+    /// How many bytes of another node's snapshot it has gathered.
+    pub gathered: u32,
     /// The ballot that it has promised.
     pub promised: Ballot,
     /// The ballot of its term, if it has one.

@@ -18,6 +18,7 @@ ghost use Rattle.lk_server_replica.specs.StateDigests.{KeepsDigestOf};
 ghost use Rattle.lk_server_replica.specs.Tables.{greatest_of, table_of};
 ghost use Rattle.lk_server_replica.specs.TableVersions.{TellsRaised};
 ghost use Rattle.lk_server_replica.specs.declared.probed_state.ProbedState.{ProbedState as ProbedStateValue};
+ghost use Rattle.lk_server_replica.specs.declared.replica_status.ReplicaStatus.{ReplicaStatus as ReplicaStatusValue};
 
 use crate::probed_state::ProbedState;
 use crate::replica_status::ReplicaStatus;
@@ -47,6 +48,9 @@ pub trait ServerReplica: Sized + Drop {
 
     /// A call of `gather` that succeeded: the replica and the group before it, its input, and both after it.
     ghost Takes: { Self → GroupValue → InputValue → Self → GroupValue → Type 0 };
+
+    /// Whether this is a summary of its state.
+    ghost HasStatus: { Self → ReplicaStatusValue → Type 0 };
 
     /// Whether it may show this state to a probe.
     ghost Shows: { Self → ProbedStateValue → Type 0 };
@@ -100,7 +104,8 @@ pub trait ServerReplica: Sized + Drop {
         ensures told { IfErr result IsOfGroups };
 
     /// Returns a summary of its state.
-    fn status(&self) -> ReplicaStatus;
+    fn status(&self) -> ReplicaStatus
+        ensures { HasStatus self.now result };
 
     /// Returns what it shows to a probe.
     fn show(&self) -> ProbedState
@@ -137,6 +142,8 @@ impl<M: TableMachine, D: LogDisk + Drop> ServerReplica for Replica<M, D> {
     ghost Takes = { λ old before input new now. D.is_honest
         → IsGathered M.meaning M.IsText D.is_metered old.node old.store before input new.node new.store now };
 
+    ghost HasStatus = { IsStatusOf };
+
     ghost Shows = { IsShown };
 
     ghost IsRaised = { λ r. TellsRaised M.meaning M.IsText (packed r.node.learner.whole) };
@@ -159,14 +166,13 @@ impl<M: TableMachine, D: LogDisk + Drop> ServerReplica for Replica<M, D> {
         Replica::release(self, group, post)
     }
 
-    fn status(&self) -> ReplicaStatus
-        ensures { IsStatusOf self.now result }
-    {
+    fn status(&self) -> ReplicaStatus {
         let node = self.node();
         ReplicaStatus {
             generation: self.generation(),
             snapshot: node.snapshot_position(),
             executed: node.executed(),
+            gathered: node.gathered_bytes(),
             promised: node.promised(),
             term: node.term(),
             known: node.presumed_leader(),

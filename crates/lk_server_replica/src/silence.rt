@@ -1,16 +1,26 @@
 //! The periods without a leader that a replica does not count, since their ticks were withheld from it.
 
-ghost use Rattle.std.specs.Prelude.{◌≡◌, None, true, false, is_some};
-ghost use Rattle.lk_disk.specs.Disk.{one_more};
-ghost use Rattle.lk_server_replica.specs.Silences.{begins_anew, is_from};
+ghost use Rattle.std.specs.Prelude.{◌≡◌};
+ghost use Rattle.lk_server_replica.specs.Silences.{is_from, quiet_after, quiet_withheld};
 
 use crate::replica_status::ReplicaStatus;
 use lk_types::NodeNo;
+use std::marker::Model;
 
 /// The periods whose ticks were withheld from a replica since it began its own count of silent ticks.
 #[derive(Clone, Copy)]
 pub struct Silence {
     withheld: u64,
+}
+
+impl Model for Silence {
+    ghost use Rattle.std.specs.Prelude.{ℕ};
+
+    ghost Value = { ℕ };
+
+    ghost view = { λ s. s.withheld };
+
+    ghost inverse = { λ n. record { withheld = n } };
 }
 
 // Whether that node sent it, and is this one.
@@ -25,20 +35,22 @@ fn is_from(sender: Option<NodeNo>, node: Option<NodeNo>) -> bool
 
 impl Silence {
     /// No tick was withheld.
-    pub const NONE: Silence = Silence { withheld: 0 };
+    pub fn none() -> Silence
+        ensures { result ≡ 0 }
+    {
+        Silence { withheld: 0 }
+    }
 
     /// Returns how many periods it counts.
     pub fn periods(self) -> u64
-        ensures { result ≡ self.withheld }
+        ensures { result ≡ self }
     {
         self.withheld
     }
 
     /// Counts a period whose tick was withheld. A replica with a term counts no silence.
     pub fn count_withheld(&mut self, status: &ReplicaStatus)
-        ensures counted { status.now.term ≡ None
-            → self.new ≡ record self.old { withheld = one_more self.old.withheld } }
-        ensures term { is_some status.now.term ≡ true → self.new ≡ self.old }
+        ensures { self.new ≡ quiet_withheld status.now self.old }
     {
         if status.term.is_none() {
             self.withheld = self.withheld.saturating_add(1);
@@ -53,9 +65,7 @@ impl Silence {
         before: &ReplicaStatus,
         after: &ReplicaStatus,
     )
-        ensures anew { begins_anew sender before.now after.now ≡ true
-            → self.new ≡ record self.old { withheld = 0 } }
-        ensures goes_on { begins_anew sender before.now after.now ≡ false → self.new ≡ self.old }
+        ensures { self.new ≡ quiet_after sender before.now after.now self.old }
     {
         let has_fallen = after.silence < before.silence;
         let is_heard = after.silence == 0 && is_from(sender, after.known);

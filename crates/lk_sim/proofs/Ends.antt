@@ -50,7 +50,7 @@ module _ {R : Type 0} (b : Behaviour R) where
   brings_told old new (event.Start n) k = come_told old new k.seat empty k.comes
   brings_told old new (event.Restart n) k = come_told old new k.next k.device k.comes
   brings_told old new (event.Tick n) k = given_told old new n input.Tick [] k
-  brings_told old new (event.Nudge n withheld) k = given_told old new n (input.Nudge withheld) [] k
+  brings_told old new (event.Nudge n reason) k = given_told old new n (input.Nudge reason) [] k
   brings_told old new (event.Compact n) k = elim k.comes_to [ inl p ↦ nothing_told new p.ended | inr f ↦ f.told ]
   brings_told old new (event.Client n r) k = nothing_told new k.ended
   brings_told old new (event.Deliver i) k = given_told old new k.node (input.Datagram k.datagram.bytes) [] k.given
@@ -72,7 +72,7 @@ module _ {R : Type 0} (b : Behaviour R) where
   wants_told old new (event.Start m) k told = same_told old new k told
   wants_told old new (event.Restart m) k told = told_as new.ended old.ended k.ended told
   wants_told old new (event.Tick m) k told = told_as new.ended old.ended k.ended told
-  wants_told old new (event.Nudge m withheld) k told = told_as new.ended old.ended k.ended told
+  wants_told old new (event.Nudge m reason) k told = told_as new.ended old.ended k.ended told
   wants_told old new (event.Compact m) k told = told_as new.ended old.ended k.ended told
   wants_told old new (event.Client m r) k told = same_told old new k told
   wants_told old new (event.Deliver i) k told =

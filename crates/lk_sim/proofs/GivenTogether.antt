@@ -58,7 +58,7 @@ pub all_heard : {R : Type 0} (Shows : R → Genesis → ℕ → Holding → Type
 all_heard Shows disks m genesis seats sent trace w [] were = tt
 all_heard Shows disks m genesis seats sent trace w (Tick ∷ is) were =
     (tt, all_heard Shows disks m genesis seats sent trace w is were.1)
-all_heard Shows disks m genesis seats sent trace w (Nudge withheld ∷ is) were =
+all_heard Shows disks m genesis seats sent trace w (Nudge reason ∷ is) were =
     (tt, all_heard Shows disks m genesis seats sent trace w is were.1)
 all_heard Shows disks m genesis seats sent trace w (Heard bytes ∷ is) were = (
   heard_sent Shows disks m genesis seats sent trace w were.0.0 were.0.1 bytes were.0.2,
@@ -69,9 +69,9 @@ all_heard Shows disks m genesis seats sent trace w (Heard bytes ∷ is) were = (
 was_brought : (sent : List Datagram) (n : ℕ) (t : GroupInput) (i : Input) → IsFor sent n t
     → i ≡ given_by sent t → WasSentTo sent i
 was_brought sent n t Tick is same = tt
-was_brought sent n t (Nudge withheld) is same = tt
+was_brought sent n t (Nudge reason) is same = tt
 was_brought sent n group_input.Tick (Heard bytes) is same = absurd cc
-was_brought sent n (group_input.Nudge withheld) (Heard bytes) is same = absurd cc
+was_brought sent n (group_input.Nudge reason) (Heard bytes) is same = absurd cc
 was_brought sent n (group_input.Deliver k) (Heard bytes) is same =
     let brought : Heard bytes ≡ Heard is.0.bytes = same ∙ ap bringing is.1 in
     (is.0, datagram_listed sent k is.0 is.1, cc brought)

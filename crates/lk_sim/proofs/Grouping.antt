@@ -31,7 +31,7 @@ use Rattle.lk_sim.proofs.Explaining.{lawful}
 still_sent_to : (sent more : List Datagram) (is : List Input) → WereSentTo sent is → WereSentTo (sent ++ more) is
 still_sent_to sent more [] w = tt
 still_sent_to sent more (Tick ∷ is) w = (tt, still_sent_to sent more is w.1)
-still_sent_to sent more (Nudge withheld ∷ is) w = (tt, still_sent_to sent more is w.1)
+still_sent_to sent more (Nudge reason ∷ is) w = (tt, still_sent_to sent more is w.1)
 still_sent_to sent more (Heard bytes ∷ is) w =
     ((w.0.0, Contains-append_left sent more w.0.0 w.0.1, w.0.2), still_sent_to sent more is w.1)
 
@@ -92,7 +92,7 @@ module _ {R : Type 0} (Shows : R → Genesis → ℕ → Holding → Type 0) (di
     where
       fits : (x : Input) → WasSentTo sent x → InputFits (happened genesis sent trace) x
       fits Tick was = tt
-      fits (Nudge withheld) was = tt
+      fits (Nudge reason) was = tt
       fits (Heard bytes) was = heard_sent Shows disks m genesis seats sent trace w was.0 was.1 bytes was.2
 
   -- each step notes what is its own
@@ -123,5 +123,5 @@ module _ {R : Type 0} (Shows : R → Genesis → ℕ → Holding → Type 0) (di
     where
       fits : (x : Input) → WasSentTo sent x → InputFits (happened genesis sent trace) x
       fits Tick was = tt
-      fits (Nudge withheld) was = tt
+      fits (Nudge reason) was = tt
       fits (Heard bytes) was = heard_sent Shows disks m genesis seats sent trace w was.0 was.1 bytes was.2

@@ -102,7 +102,7 @@ module _ {R : Type 0} (b : Behaviour R) where
   brings_grows old new (event.Start n) k = come_grows old new k.seat empty k.comes
   brings_grows old new (event.Restart n) k = come_grows old new k.next k.device k.comes
   brings_grows old new (event.Tick n) k = given_grows old new n input.Tick [] k
-  brings_grows old new (event.Nudge n withheld) k = given_grows old new n (input.Nudge withheld) [] k
+  brings_grows old new (event.Nudge n reason) k = given_grows old new n (input.Nudge reason) [] k
   brings_grows old new (event.Compact n) k = elim k.comes_to [ inl p ↦ ([], p.adds.sent) | inr f ↦ ([], f.adds.sent) ]
   brings_grows old new (event.Client n r) k = (k.datagram ∷ [], k.adds.sent)
   brings_grows old new (event.Deliver i) k = given_grows old new k.node (input.Datagram k.datagram.bytes) [] k.given
@@ -121,7 +121,7 @@ module _ {R : Type 0} (b : Behaviour R) where
   wants_grow old new (event.Start m) k = nothing_more old new k
   wants_grow old new (event.Restart m) k = ([], k.adds.sent)
   wants_grow old new (event.Tick m) k = ([], k.adds.sent)
-  wants_grow old new (event.Nudge m withheld) k = ([], k.adds.sent)
+  wants_grow old new (event.Nudge m reason) k = ([], k.adds.sent)
   wants_grow old new (event.Compact m) k = ([], k.adds.sent)
   wants_grow old new (event.Client m r) k = nothing_more old new k
   wants_grow old new (event.Deliver i) k = elim k [ inl same ↦ nothing_more old new same | inr h ↦ ([], h.4.adds.sent) ]

@@ -66,7 +66,7 @@ module _ {R : Type 0} (b : Behaviour R) (Shows : R → Genesis → ℕ → Holdi
   leaves_packed old new w (event.Start n) k = tt
   leaves_packed old new w (event.Restart n) k = tt
   leaves_packed old new w (event.Tick n) k = tt
-  leaves_packed old new w (event.Nudge n withheld) k = tt
+  leaves_packed old new w (event.Nudge n reason) k = tt
   leaves_packed old new w (event.Compact n) k = λ ended. elim k.1.comes_to [
     | inl p ↦ stands_packed old new w n k.1 p
     | inr f ↦ absurd (cc (f.ended, ended))

@@ -299,7 +299,7 @@ abbrev pub HasEffect : {R : Type 0} → Behaviour R → Scene R → Event → Sc
 HasEffect b old (event.Start n) new = IsAdded b old new n
 HasEffect b old (event.Restart n) new = IsBack b old new n
 HasEffect b old (event.Tick n) new = IsGiven b old new n Tick []
-HasEffect b old (event.Nudge n withheld) new = IsGiven b old new n (Nudge withheld) []
+HasEffect b old (event.Nudge n reason) new = IsGiven b old new n (Nudge reason) []
 HasEffect b old (event.Compact n) new = IsCompacted b old new n
 HasEffect b old (event.Client n r) new = IsAsked old new n r
 HasEffect b old (event.Deliver k) new = IsDelivered b old new k
@@ -394,7 +394,7 @@ abbrev pub Wants : {R : Type 0} → Behaviour R → Scene R → Event → Scene 
 Wants b old (event.Start n) new = new ≡ old
 Wants b old (event.Restart n) new = IsHalted (LeftByRevival b (header_of old.genesis n)) old new n
 Wants b old (event.Tick n) new = IsHalted (LeftBy b Tick) old new n
-Wants b old (event.Nudge n withheld) new = IsHalted (LeftBy b (Nudge withheld)) old new n
+Wants b old (event.Nudge n reason) new = IsHalted (LeftBy b (Nudge reason)) old new n
 Wants b old (event.Compact n) new = IsHalted (LeftByCompacting b) old new n
 Wants b old (event.Client n r) new = new ≡ old
 Wants b old (event.Deliver k) new =

@@ -22,19 +22,19 @@ bringing (Some d) = Heard d.bytes
 -- what an input of a group gives: a tick, a nudge, or the datagram's bytes
 abbrev pub given_by : List Datagram → GroupInput → Input
 given_by sent group_input.Tick = Tick
-given_by sent (group_input.Nudge withheld) = Nudge withheld
+given_by sent (group_input.Nudge reason) = Nudge reason
 given_by sent (group_input.Deliver k) = bringing (datagram_at sent k)
 
 -- the input of which this is a copy
 abbrev pub input_of : CopiedInput → Input
 input_of copied_input.Tick = Tick
-input_of (copied_input.Nudge withheld) = Nudge withheld
+input_of (copied_input.Nudge reason) = Nudge reason
 input_of (copied_input.Datagram bytes) = Heard bytes.items
 
 -- a tick, a nudge, or a datagram that was sent
 abbrev pub WasSentTo : List Datagram → Input → Type 0
 WasSentTo sent Tick = Unit {0}
-WasSentTo sent (Nudge withheld) = Unit {0}
+WasSentTo sent (Nudge reason) = Unit {0}
 WasSentTo sent (Heard bytes) = (d : Datagram) × Contains sent d × (bytes ≡ d.bytes)
 
 -- each of these inputs is a tick, a nudge, or a datagram that was sent

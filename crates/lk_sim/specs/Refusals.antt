@@ -32,7 +32,7 @@ datagram_at sent (suc k) = slice_get sent k
 -- a tick or a nudge, or its datagram exists, addressed to the node
 abbrev pub IsFor : List Datagram → ℕ → GroupInput → Type 0
 IsFor sent n group_input.Tick = Unit {0}
-IsFor sent n (group_input.Nudge withheld) = Unit {0}
+IsFor sent n (group_input.Nudge reason) = Unit {0}
 IsFor sent n (group_input.Deliver k) = (d : Datagram) × (datagram_at sent k ≡ Some d) × (d.to ≡ party.Node n)
 
 -- the same of each of these
@@ -96,7 +96,7 @@ abbrev pub IsRejectedFor : {R : Type 0} → Scene R → Event → Refused → Ty
 IsRejectedFor w (event.Start n) e = NoStart w.seats n e
 IsRejectedFor w (event.Restart n) e = NoRestart w.seats n e
 IsRejectedFor w (event.Tick n) e = NoStep w.seats w.sent n e
-IsRejectedFor w (event.Nudge n withheld) e = NoStep w.seats w.sent n e
+IsRejectedFor w (event.Nudge n reason) e = NoStep w.seats w.sent n e
 IsRejectedFor w (event.Compact n) e = NoneUp w.seats n e
 IsRejectedFor w (event.Client n r) e = NoClient w.seats w.sent n e
 IsRejectedFor w (event.Deliver k) e = NoDelivery w.seats w.sent (datagram_at w.sent k) e
@@ -129,7 +129,7 @@ abbrev pub IsPermitted : {R : Type 0} → Scene R → Event → Type 0
 IsPermitted w (event.Start n) = HasNo w.seats n × (length w.seats < 16)
 IsPermitted w (event.Restart n) = IsDown w.seats n
 IsPermitted w (event.Tick n) = MayStep w n
-IsPermitted w (event.Nudge n withheld) = MayStep w n
+IsPermitted w (event.Nudge n reason) = MayStep w n
 IsPermitted w (event.Compact n) = IsUp w.seats n
 IsPermitted w (event.Client n r) = IsStarted w.seats n × HasRoom w.sent
 IsPermitted w (event.Deliver k) = MayDeliver w k

@@ -2,7 +2,7 @@
 ghost use Rattle.std.specs.Prelude.{◌≡◌};
 ghost use Rattle.lk_sim.specs.Groups.{input_of};
 
-use lk_node_interface::Input;
+use lk_node_interface::{Input, NudgeReason};
 use lk_wire::Datagram;
 
 /// An input of a group, with a copy of its datagram's bytes.
@@ -10,8 +10,8 @@ use lk_wire::Datagram;
 pub enum CopiedInput {
     /// A tick.
     Tick,
-    /// A nudge, which says whether the node's ticks are withheld.
-    Nudge { are_ticks_withheld: bool },
+    /// A nudge, for this reason.
+    Nudge(NudgeReason),
     /// The bytes of a datagram.
     Datagram(Vec<u8>),
 }
@@ -23,9 +23,7 @@ impl CopiedInput {
     {
         match self {
             CopiedInput::Tick => Input::Tick,
-            CopiedInput::Nudge { are_ticks_withheld } => Input::Nudge {
-                are_ticks_withheld: *are_ticks_withheld,
-            },
+            CopiedInput::Nudge(reason) => Input::Nudge(*reason),
             CopiedInput::Datagram(bytes) => Input::Datagram(Datagram::of(bytes)),
         }
     }

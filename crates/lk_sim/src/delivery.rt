@@ -18,7 +18,7 @@ use crate::datagrams::{datagram, has_room};
 use crate::giving::give;
 use crate::world_parts::WorldParts;
 use lk_agreement_laws::Party;
-use lk_node_interface::{Input, Note};
+use lk_node_interface::{Input, Note, NudgeReason};
 use lk_replica::MemoryReplica;
 use lk_sim_nodes::{Refused, find_up};
 use lk_types::{NoMemory, NodeNo, Request};
@@ -49,21 +49,21 @@ pub fn tick<R: MemoryReplica>(parts: &mut WorldParts<R>, number: NodeNo) -> Resu
     Ok(())
 }
 
-/// Nudges a node that is up, and says whether its ticks are withheld.
+/// Nudges a node that is up, for this reason.
 pub fn nudge<R: MemoryReplica>(
     parts: &mut WorldParts<R>,
     number: NodeNo,
-    are_ticks_withheld: bool,
+    reason: NudgeReason,
 ) -> Result<(), Refused>
     requires { PartsKeepInvariant R.Shows (disks_by R.behaves) R.meaning parts.old }
     ensures holds { PartsKeepInvariant R.Shows (disks_by R.behaves) R.meaning parts.new }
     ensures ok { OnOk result
-        (IsExecuted R.behaves (scene_of parts.old) (event.Nudge number are_ticks_withheld) (scene_of parts.new)) }
-    ensures err { IfErr result (λ e. IsRefused
-        R.behaves (scene_of parts.old) (event.Nudge number are_ticks_withheld) e (scene_of parts.new)) }
+        (IsExecuted R.behaves (scene_of parts.old) (event.Nudge number reason) (scene_of parts.new)) }
+    ensures err { IfErr result
+        (λ e. IsRefused R.behaves (scene_of parts.old) (event.Nudge number reason) e (scene_of parts.new)) }
 {
     let i = find_ready(parts, number)?;
-    give(parts, i, Input::Nudge { are_ticks_withheld }, None)?;
+    give(parts, i, Input::Nudge(reason), None)?;
     Ok(())
 }
 

@@ -1,3 +1,4 @@
+use lk_node_interface::NudgeReason;
 use lk_types::{NodeNo, Request};
 
 /// One input of a group.
@@ -5,8 +6,8 @@ use lk_types::{NodeNo, Request};
 pub enum GroupInput {
     /// A tick.
     Tick,
-    /// A nudge, which says whether the node's ticks are withheld.
-    Nudge { are_ticks_withheld: bool },
+    /// A nudge, for this reason.
+    Nudge(NudgeReason),
     /// The datagram at this place, which is addressed to the node. Places count from 1.
     Deliver(usize),
 }
@@ -20,12 +21,8 @@ pub enum Event {
     Restart(NodeNo),
     /// A node takes a tick.
     Tick(NodeNo),
-    /// A node is nudged: it asks the others for what they know better, or tells them how far it has come. A node whose
-    /// ticks are withheld cannot count them.
-    Nudge {
-        number: NodeNo,
-        are_ticks_withheld: bool,
-    },
+    /// A node is nudged, for this reason: it asks others for what they know better, or tells them how far it has come.
+    Nudge(NodeNo, NudgeReason),
     /// A node that is up writes a snapshot of everything executed, which replaces the commands up to there.
     Compact(NodeNo),
     /// A client sends a request: its datagram is added to the list, addressed to the node.

@@ -170,7 +170,7 @@ fn copied<R: MemoryReplica>(
 {
     match group_input {
         GroupInput::Tick => Ok(CopiedInput::Tick),
-        GroupInput::Nudge { are_ticks_withheld } => Ok(CopiedInput::Nudge { are_ticks_withheld }),
+        GroupInput::Nudge(reason) => Ok(CopiedInput::Nudge(reason)),
         GroupInput::Deliver(k) => copied_datagram(parts, k),
     }
 }

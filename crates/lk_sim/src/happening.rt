@@ -27,10 +27,7 @@ pub fn happen<R: MemoryReplica>(parts: &mut WorldParts<R>, event: &Event) -> Res
         Event::Start(number) => start(parts, *number),
         Event::Restart(number) => restart(parts, *number),
         Event::Tick(number) => tick(parts, *number),
-        Event::Nudge {
-            number,
-            are_ticks_withheld,
-        } => nudge(parts, *number, *are_ticks_withheld),
+        Event::Nudge(number, reason) => nudge(parts, *number, *reason),
         Event::Compact(number) => compact(parts, *number),
         Event::Client(number, request) => client(parts, *number, request),
         Event::Deliver(k) => deliver(parts, *k),

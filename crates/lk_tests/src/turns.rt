@@ -63,6 +63,8 @@ impl ServerReplica for NotingReplica {
 
     ghost Takes = { λ _ _ _ _ _. ⊤ };
 
+    ghost HasStatus = { λ t s. s ≡ t.status };
+
     ghost Shows = { λ _ _. ⊤ };
 
     ghost IsRaised = { λ _ _. ⊤ };
@@ -135,6 +137,7 @@ fn status_of(seen: Seen) -> Result<ReplicaStatus, Fail> {
         generation,
         snapshot: Executed::of(snapshot).ok_or("snapshot")?,
         executed: Executed::of(executed).ok_or("executed")?,
+        gathered: 0,
         promised: Ballot::ZERO,
         term: match Ballot::of(round, 1) {
             Some(ballot) => RealBallot::of(ballot),

@@ -34,15 +34,17 @@ some_of ahead first d there (inr all) = omega (arith, all, there)
 -- the invariant holds before a node comes to ask, and after
 asked_before : (m : Meaning) (IsText : List ℕ → Type 0) (old new : Scene ReplicaValue) (n other : ℕ) (r : ReplicaValue)
     → ComesToAsk m IsText n other r old new → Holds m IsText old
-asked_before m IsText old new n other r (inl (inl k)) = k.2.goes.before
-asked_before m IsText old new n other r (inl (inr k)) = k.4.goes.before
-asked_before m IsText old new n other r (inr k) = k.7.before
+asked_before m IsText old new n other r (inl (inl (inl k))) = k.2.goes.before
+asked_before m IsText old new n other r (inl (inl (inr k))) = k.4.goes.before
+asked_before m IsText old new n other r (inl (inr k)) = k.4.before
+asked_before m IsText old new n other r (inr k) = k.8.before
 
 asked_after : (m : Meaning) (IsText : List ℕ → Type 0) (old new : Scene ReplicaValue) (n other : ℕ) (r : ReplicaValue)
     → ComesToAsk m IsText n other r old new → Holds m IsText new
-asked_after m IsText old new n other r (inl (inl k)) = k.2.goes.after
-asked_after m IsText old new n other r (inl (inr k)) = k.4.goes.after
-asked_after m IsText old new n other r (inr k) = k.7.after
+asked_after m IsText old new n other r (inl (inl (inl k))) = k.2.goes.after
+asked_after m IsText old new n other r (inl (inl (inr k))) = k.4.goes.after
+asked_after m IsText old new n other r (inl (inr k)) = k.4.after
+asked_after m IsText old new n other r (inr k) = k.8.after
 
 same_executed : (l k : LearnerValue) → l ≡ k → executed l ≡ executed k
 same_executed l k e = ap (λ (x : LearnerValue). executed x) e

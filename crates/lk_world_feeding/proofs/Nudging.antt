@@ -19,14 +19,16 @@ use Rattle.lk_members.specs.Ports.{AreAllAbove, is_named}
 use Rattle.lk_node.proofs.Nodes.{map_has}
 use Rattle.lk_node.specs.Leading.{ProposesAll, having_proposed}
 use Rattle.lk_node.specs.NodeValue.{NodeValue}
-use Rattle.lk_node.specs.Nudging.{AsksInTerm, AsksOthers, Nudges, TellsIfSilent, TellsProgress, progress, refreshed}
-use Rattle.lk_node.specs.Nudging.{remembering, without_gathered}
+use Rattle.lk_node.specs.Nudging.{AsksInTerm, AsksOthers, Nudges, SeeksAfresh, TellsIfSilent, TellsProgress, progress}
+use Rattle.lk_node.specs.Nudging.{refreshed, remembering, without_gathered}
 use Rattle.lk_node.specs.Reminding.{IsTermOf}
 use Rattle.lk_node.specs.Telling.{AreOthers, letter_to}
 use Rattle.lk_node_interface.specs.Letters.{LetterValue}
 use Rattle.lk_node_interface.specs.Outboxes.{OutboxValue, nothing}
 use Rattle.lk_node_interface.specs.Ticks.{is_full}
 use Rattle.lk_node_interface.specs.declared.input.Input.TheVariants.{Nudge}
+use Rattle.lk_node_interface.specs.declared.nudge_reason.NudgeReason.{NudgeReason}
+use Rattle.lk_node_interface.specs.declared.nudge_reason.NudgeReason.TheVariants.{Period, TicksWithheld, Fed}
 use Rattle.lk_progress.proofs.Hearing.{proposed_learner, proposed_letters}
 use Rattle.lk_replica.specs.ReplicaValue.{ReplicaValue}
 use Rattle.lk_sim.specs.Scenes.{Scene}
@@ -88,11 +90,19 @@ refreshed_none node is = by_test (eqb (gathered_bytes node.learner.gathered) nod
     by_test true e = refl
     by_test false e = absurd (cc e)
 
+-- a nudge that comes since time has passed makes it begin afresh
+begins_afresh : (reason : NudgeReason) → (reason ≡ Fed → ⊥) → (old new : NodeValue) (out : OutboxValue)
+    → Nudges reason old new out → (withheld : Bool) × SeeksAfresh withheld old new out
+begins_afresh Period ne old new out k = (false, k)
+begins_afresh TicksWithheld ne old new out k = (true, k)
+begins_afresh Fed ne old new out k = absurd (ne refl)
+
 module _ (m : Meaning) (IsText : List ℕ → Type 0) (law : EventIsStep m IsText) (old new : Scene ReplicaValue)
     (n other : ℕ) (r : ReplicaValue) (up : IsUpAs old n r) where
   -- ---- whom it asks or tells
 
-  module _ (withheld : Bool) (k : StepsFrom m IsText law n (Nudge withheld) r old new) where
+  module _ (reason : NudgeReason) (withheld : Bool) (k : StepsFrom m IsText law n (Nudge reason) r old new)
+      (afresh : SeeksAfresh withheld k.step.start k.step.last k.step.out) where
     abbrev start : NodeValue
     start = k.step.start
 
@@ -136,17 +146,17 @@ module _ (m : Meaning) (IsText : List ℕ → Type 0) (law : EventIsStep m IsTex
 
     -- its learner is that of the node that has thrown away or remembered
     learner_left : k.step.last.learner ≡ now.learner
-    learner_left = by_nudge k.step.steps
+    learner_left = by_nudge afresh
       where
-        by_nudge : Nudges withheld start k.step.last k.step.out → k.step.last.learner ≡ now.learner
+        by_nudge : SeeksAfresh withheld start k.step.last k.step.out → k.step.last.learner ≡ now.learner
         by_nudge (inl a) = let p = a.2.proposes in
             proposed_learner p.0 now k.step.last a.2.asked k.step.out p.1
         by_nudge (inr t) = ap (λ (node : NodeValue). node.learner) t.1
 
     before_left : k.step.last.gathered_before ≡ now.gathered_before
-    before_left = by_nudge k.step.steps
+    before_left = by_nudge afresh
       where
-        by_nudge : Nudges withheld start k.step.last k.step.out → k.step.last.gathered_before ≡ now.gathered_before
+        by_nudge : SeeksAfresh withheld start k.step.last k.step.out → k.step.last.gathered_before ≡ now.gathered_before
         by_nudge (inl a) = let p = a.2.proposes in proposed_before p.0 now k.step.last a.2.asked k.step.out p.1
         by_nudge (inr t) = ap (λ (node : NodeValue). node.gathered_before) t.1
 
@@ -211,7 +221,7 @@ module _ (m : Meaning) (IsText : List ℕ → Type 0) (law : EventIsStep m IsTex
           }
 
       nudged : AsksIn n other r old new
-      nudged = by_term k.step.steps
+      nudged = by_term afresh
         where
           still_term : IsTermOf b now.leader
           still_term = refreshed_has (λ node. IsTermOf b node.leader) start at_start at_start
@@ -219,13 +229,13 @@ module _ (m : Meaning) (IsText : List ℕ → Type 0) (law : EventIsStep m IsTex
               at_start : IsTermOf b start.leader
               at_start = found_has r start k.found (λ node. IsTermOf b node.leader) (λ e. e) term
 
-          by_term : Nudges withheld start k.step.last k.step.out → AsksIn n other r old new
+          by_term : SeeksAfresh withheld start k.step.last k.step.out → AsksIn n other r old new
           by_term (inl a) = asks_in_term a.2
           by_term (inr none) = absurd (cc (sym none.0 ∙ still_term.1))
 
     -- ---- without one
 
-    module _ (silent : IsSilent n other withheld r) where
+    module _ (silent : IsSilent n other reason r) (waited : (withheld || is_full r.node.ticks) ≡ true) where
       told_in : TellsProgress now k.step.out → Contains k.step.out.letters
           (letter_to start (kinds.Nack (progress start)) other)
       told_in t = subst (λ (l : LetterValue). Contains k.step.out.letters l)
@@ -240,7 +250,7 @@ module _ (m : Meaning) (IsText : List ℕ → Type 0) (law : EventIsStep m IsTex
       waited_now = refreshed_has (λ node. (withheld || is_full node.ticks) ≡ true) start at_start at_start
         where
           at_start : (withheld || is_full start.ticks) ≡ true
-          at_start = found_has r start k.found (λ node. (withheld || is_full node.ticks) ≡ true) (λ e. e) silent.waited
+          at_start = found_has r start k.found (λ node. (withheld || is_full node.ticks) ≡ true) (λ e. e) waited
 
       idle_now : now.leader.term ≡ None
       idle_now = refreshed_has (λ node. node.leader.term ≡ None) start at_start at_start
@@ -248,7 +258,7 @@ module _ (m : Meaning) (IsText : List ℕ → Type 0) (law : EventIsStep m IsTex
           at_start : start.leader.term ≡ None
           at_start = found_has r start k.found (λ node. node.leader.term ≡ None) (λ e. e) silent.idle
 
-      told : Nudges withheld start k.step.last k.step.out
+      told : SeeksAfresh withheld start k.step.last k.step.out
           → Contains k.step.out.letters (letter_to start (kinds.Nack (progress start)) other)
       told (inl a) = absurd (cc (sym idle_now ∙ a.1.1))
       told (inr t) = by_silence t.2
@@ -265,37 +275,48 @@ module _ (m : Meaning) (IsText : List ℕ → Type 0) (law : EventIsStep m IsTex
         whole = whole_after_nudge;
         tells = subst (λ (x : Nack). HasSentTo new n other (kinds.Nack x))
             (found_has r start k.found (λ node. progress node ≡ progress r.node) (λ e. e) refl)
-            (k.says other (kinds.Nack (progress start)) (told k.step.steps));
+            (k.says other (kinds.Nack (progress start)) (told afresh));
         only = k.only;
       }
 
   nudged_asks : IsNudged m IsText n other r old new → AsksIn n other r old new
-  nudged_asks k = nudged k.1
-      (steps_from m IsText law n (Nudge k.1) (event.Nudge n k.1) r old new up k.7 (refl, refl)) k.0 k.2 k.3 k.4 k.5 k.6
+  nudged_asks k =
+      let s : StepsFrom m IsText law n (Nudge k.1) r old new =
+      steps_from m IsText law n (Nudge k.1) (event.Nudge n k.1) r old new up k.8 (refl, refl) in
+      let afresh = begins_afresh k.1 k.2 s.step.start s.step.last s.step.out s.step.steps in
+      nudged k.1 afresh.0 s afresh.1 k.0 k.3 k.4 k.5 k.6 k.7
 
 pub nudged_node_asks : (m : Meaning) (IsText : List ℕ → Type 0) → EventIsStep m IsText → (old new : Scene ReplicaValue)
     (n other : ℕ) (r : ReplicaValue) → IsUpAs old n r → IsNudged m IsText n other r old new → AsksIn n other r old new
 nudged_node_asks m IsText law old new n other r up k = nudged_asks m IsText law old new n other r up k
 
 pub silent_tells : (m : Meaning) (IsText : List ℕ → Type 0) → EventIsStep m IsText → SilentNodesTell m IsText
-silent_tells m IsText law old new n other withheld r up silent goes =
-    tells_in m IsText law old new n other r up withheld
-    (steps_from m IsText law n (Nudge withheld) (event.Nudge n withheld) r old new up goes (refl, refl)) silent
+silent_tells m IsText law old new n other reason r up silent goes =
+    by_reason reason silent
+    (steps_from m IsText law n (Nudge reason) (event.Nudge n reason) r old new up goes (refl, refl))
+  where
+    by_reason : (why : NudgeReason) → IsSilent n other why r → StepsFrom m IsText law n (Nudge why) r old new
+        → TellsIn n other r old new
+    by_reason Period s k = tells_in m IsText law old new n other r up Period false k k.step.steps s s.waited
+    by_reason TicksWithheld s k = tells_in m IsText law old new n other r up TicksWithheld true k k.step.steps s refl
+    by_reason Fed s k = absurd s.waited
 
 -- ---- two nudges
 
 pub nudges_throw : (m : Meaning) (IsText : List ℕ → Type 0) → EventIsStep m IsText → NudgesThrowAway m IsText
-nudges_throw m IsText law old mid new n withheld again r up first second =
-    let k : StepsFrom m IsText law n (Nudge withheld) r old mid =
-    steps_from m IsText law n (Nudge withheld) (event.Nudge n withheld) r old mid up first (refl, refl) in
+nudges_throw m IsText law old mid new n reason again r up timed timed_again first second =
+    let k : StepsFrom m IsText law n (Nudge reason) r old mid =
+    steps_from m IsText law n (Nudge reason) (event.Nudge n reason) r old mid up first (refl, refl) in
     let l : StepsFrom m IsText law n (Nudge again) k.step.after mid new =
     steps_from m IsText law n (Nudge again) (event.Nudge n again) k.step.after mid new k.step.is second (refl, refl) in
+    let f = begins_afresh reason timed k.step.start k.step.last k.step.out k.step.steps in
+    let g = begins_afresh again timed_again l.step.start l.step.last l.step.out l.step.steps in
     record {
       now = l.step.after;
       is = l.step.is;
-      whole = whole_after_nudge m IsText law mid new n 0 k.step.after k.step.is again l
-          ∙ whole_after_nudge m IsText law old mid n 0 r up withheld k;
-      gathered = none_left m IsText law mid new n 0 k.step.after k.step.is again l
-          (remembers m IsText law old mid n 0 r up withheld k);
+      whole = whole_after_nudge m IsText law mid new n 0 k.step.after k.step.is again g.0 l g.1
+          ∙ whole_after_nudge m IsText law old mid n 0 r up reason f.0 k f.1;
+      gathered = none_left m IsText law mid new n 0 k.step.after k.step.is again g.0 l g.1
+          (remembers m IsText law old mid n 0 r up reason f.0 k f.1);
       only = then_only n old mid new k.only l.only;
     }

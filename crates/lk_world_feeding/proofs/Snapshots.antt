@@ -19,7 +19,7 @@ use Rattle.lk_world_feeding.proofs.Gathering.{TookParts, all_taken, gets_on_left
 use Rattle.lk_world_feeding.proofs.Gathering.{start_here}
 use Rattle.lk_world_feeding.proofs.Knowing.{StatesFit, has_window, may_serve, snapshot_unpacks, window_alpha}
 use Rattle.lk_world_feeding.proofs.Serving.{TakesOne, takes_one}
-use Rattle.lk_world_feeding.specs.Asking.{AsksIn, HearersKeepGathered, HearsOfMore}
+use Rattle.lk_world_feeding.specs.Asking.{AsksIn, AskersKeepGathered, ComesToAskOn}
 use Rattle.lk_world_feeding.specs.Feeding.{KeepsLearner, Later}
 use Rattle.lk_world_feeding.specs.Gathering.{GainsParts, HasGathered, IsSentParts, IsSentPartsAgain}
 use Rattle.lk_world_feeding.specs.Gathering.{IsSentSome}
@@ -30,7 +30,7 @@ use Rattle.lk_world_progress.specs.Delivering.{DeliveriesAreTaken}
 use Rattle.lk_world_progress.specs.Stepping.{EventIsStep, Holds, IsUpAs}
 
 module _ (m : Meaning) (IsText : List ℕ → Type 0) (law : EventIsStep m IsText) (taken : DeliveriesAreTaken m IsText)
-    (hearing : HearersKeepGathered m IsText) (answers : WantIsAnswered m IsText) (installs : PartsAreInstalled m IsText)
+    (hearing : AskersKeepGathered m IsText) (answers : WantIsAnswered m IsText) (installs : PartsAreInstalled m IsText)
     (fit : StatesFit m IsText) where
   -- ---- one exchange
 
@@ -38,10 +38,10 @@ module _ (m : Meaning) (IsText : List ℕ → Type 0) (law : EventIsStep m IsTex
       (needs : NeedsSnapshot m IsText first n other behind ahead)
       (k : IsSentParts m IsText n other behind ahead first last) where
     abbrev asks : AsksIn n other behind first k.asked
-    asks = (hearing first k.asked n other behind needs.up k.hears).0
+    asks = (hearing first k.asked n other behind needs.up k.comes).0
 
     kept : asks.now.node.learner.gathered ≡ behind.node.learner.gathered
-    kept = (hearing first k.asked n other behind needs.up k.hears).1
+    kept = (hearing first k.asked n other behind needs.up k.comes).1
 
     same_wanted : wanted asks.now.node.learner ≡ wanted behind.node.learner
     same_wanted = λ i. record {
@@ -172,10 +172,11 @@ module _ (m : Meaning) (IsText : List ℕ → Type 0) (law : EventIsStep m IsTex
 
   -- ---- several
 
-  hears_before : (old new : Scene ReplicaValue) (n other : ℕ) (r : ReplicaValue)
-      → HearsOfMore m IsText n other r old new → Holds m IsText old
-  hears_before old new n other r (inl k) = k.2.goes.before
-  hears_before old new n other r (inr k) = k.4.goes.before
+  asked_before : (old new : Scene ReplicaValue) (n other : ℕ) (r : ReplicaValue)
+      → ComesToAskOn m IsText n other r old new → Holds m IsText old
+  asked_before old new n other r (inl (inl k)) = k.2.goes.before
+  asked_before old new n other r (inl (inr k)) = k.4.goes.before
+  asked_before old new n other r (inr k) = k.4.before
 
   -- what the node has gathered of the same snapshot
   next_gathered : (behind ahead q p : ReplicaValue) (reached : ℕ) → reached < length (text_of ahead)
@@ -266,7 +267,7 @@ module _ (m : Meaning) (IsText : List ℕ → Type 0) (law : EventIsStep m IsTex
     exchange = k.happens
 
     holds_then : Holds m IsText k.mid
-    holds_then = hears_before k.mid exchange.once.asked n other exchange.behind exchange.once.hears
+    holds_then = asked_before k.mid exchange.once.asked n other exchange.behind exchange.once.comes
 
     same_behind : exchange.behind.node.learner ≡ behind.node.learner
     same_behind =

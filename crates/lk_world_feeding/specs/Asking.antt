@@ -1,6 +1,6 @@
 -- Single events by which a node that has executed less than another is fed: it asks, the other one sends commands, and
 -- it executes them.
-use Rattle.std.specs.Prelude.{◌≡◌, ◌⊎◌, ℕ, ◌+◌, ◌<◌, ◌≤◌, Bool, true, false, List, length, None, Contains}
+use Rattle.std.specs.Prelude.{◌≡◌, ◌≢◌, ◌⊎◌, ℕ, ◌+◌, ◌<◌, ◌≤◌, true, false, List, length, Some, None, Contains}
 use Rattle.lk_types.specs.BallotValue.{BallotValue}
 use Rattle.lk_types.specs.Ballots.{is_below}
 use Rattle.lk_types.specs.Limits.{max_commands, max_count}
@@ -12,6 +12,8 @@ use Rattle.lk_members.specs.Ports.{is_named}
 use Rattle.lk_agreement_laws.specs.Datagrams.{Datagram}
 use Rattle.lk_state.specs.Meanings.{Meaning}
 use Rattle.lk_learner.specs.Learners.{decided_from, executed, wanted}
+use Rattle.lk_node_interface.specs.declared.nudge_reason.NudgeReason.{NudgeReason}
+use Rattle.lk_node_interface.specs.declared.nudge_reason.NudgeReason.TheVariants.{Fed}
 use Rattle.lk_node.specs.Reminding.{IsTermOf}
 use Rattle.lk_replica.specs.ReplicaValue.{ReplicaValue}
 use Rattle.lk_sim.specs.Scenes.{Scene}
@@ -42,21 +44,34 @@ IsNotified m IsText n other r old new = (b : BallotValue) × (theirs : ℕ)
     × (is_below b r.node.acceptor.state.promised ≡ false) × (executed r.node.learner < theirs)
     × Hears m IsText n (content.Node other (kinds.Lead b theirs)) old new
 
--- it takes a nudge in a term, and the other one is of its window
-abbrev pub IsNudged : Meaning → (List ℕ → Type 0) → ℕ → ℕ → ReplicaValue → Scene ReplicaValue → Scene ReplicaValue
-    → Type 0
-IsNudged m IsText n other r old new = (b : BallotValue) × (withheld : Bool) × IsTermOf b r.node.leader
-    × (executed r.node.learner < max_count) × (1 ≤ other) × (other ≡ n → ⊥)
-    × (is_named other r.node.learner.whole.roster.sets ≡ true) × GoesWell m IsText old (event.Nudge n withheld) new
-
+-- it hears of more from the other one
 abbrev pub HearsOfMore : Meaning → (List ℕ → Type 0) → ℕ → ℕ → ReplicaValue → Scene ReplicaValue → Scene ReplicaValue
     → Type 0
 HearsOfMore m IsText n other r old new = IsRejected m IsText n other r old new ⊎ IsNotified m IsText n other r old new
 
+-- it takes a nudge because it was fed; it has no term, and takes the other one for the leader
+abbrev pub IsNudgedOn : Meaning → (List ℕ → Type 0) → ℕ → ℕ → ReplicaValue → Scene ReplicaValue → Scene ReplicaValue
+    → Type 0
+IsNudgedOn m IsText n other r old new = (r.node.leader.term ≡ None) × (r.node.known ≡ Some other) × (other ≡ n → ⊥)
+    × (executed r.node.learner < max_count) × GoesWell m IsText old (event.Nudge n Fed) new
+
+-- one of these makes it ask the other one, and takes nothing of what it has gathered
+abbrev pub ComesToAskOn : Meaning → (List ℕ → Type 0) → ℕ → ℕ → ReplicaValue → Scene ReplicaValue → Scene ReplicaValue
+    → Type 0
+ComesToAskOn m IsText n other r old new =
+    HearsOfMore m IsText n other r old new ⊎ IsNudgedOn m IsText n other r old new
+
+-- it takes another nudge in a term, and the other one is of its window
+abbrev pub IsNudged : Meaning → (List ℕ → Type 0) → ℕ → ℕ → ReplicaValue → Scene ReplicaValue → Scene ReplicaValue
+    → Type 0
+IsNudged m IsText n other r old new = (b : BallotValue) × (reason : NudgeReason) × (reason ≢ Fed)
+    × IsTermOf b r.node.leader × (executed r.node.learner < max_count) × (1 ≤ other) × (other ≡ n → ⊥)
+    × (is_named other r.node.learner.whole.roster.sets ≡ true) × GoesWell m IsText old (event.Nudge n reason) new
+
 -- one of these makes it ask the other one
 abbrev pub ComesToAsk : Meaning → (List ℕ → Type 0) → ℕ → ℕ → ReplicaValue → Scene ReplicaValue → Scene ReplicaValue
     → Type 0
-ComesToAsk m IsText n other r old new = HearsOfMore m IsText n other r old new ⊎ IsNudged m IsText n other r old new
+ComesToAsk m IsText n other r old new = ComesToAskOn m IsText n other r old new ⊎ IsNudged m IsText n other r old new
 
 -- It has asked the other one for what it lacks. It has executed the same as before, and has gathered the same of a
 -- snapshot, or has thrown that away.
@@ -72,10 +87,10 @@ abbrev pub NodesThatAreBehindAsk : Meaning → (List ℕ → Type 0) → Type 0
 NodesThatAreBehindAsk m IsText = (old new : Scene ReplicaValue) (n other : ℕ) (r : ReplicaValue) → IsUpAs old n r
     → ComesToAsk m IsText n other r old new → AsksIn n other r old new
 
--- What it hears takes nothing of what it has gathered.
-abbrev pub HearersKeepGathered : Meaning → (List ℕ → Type 0) → Type 0
-HearersKeepGathered m IsText = (old new : Scene ReplicaValue) (n other : ℕ) (r : ReplicaValue) → IsUpAs old n r
-    → HearsOfMore m IsText n other r old new
+-- What it hears, or a nudge because it was fed, takes nothing of what it has gathered.
+abbrev pub AskersKeepGathered : Meaning → (List ℕ → Type 0) → Type 0
+AskersKeepGathered m IsText = (old new : Scene ReplicaValue) (n other : ℕ) (r : ReplicaValue) → IsUpAs old n r
+    → ComesToAskOn m IsText n other r old new
     → (k : AsksIn n other r old new) × (k.now.node.learner.gathered ≡ r.node.learner.gathered)
 
 -- ---- the other one sends commands

@@ -10,7 +10,7 @@ use Rattle.lk_learner.specs.Parts.{AreParts, max_parts}
 use Rattle.lk_progress.specs.Gathering.{GetsOn, HasFirst, parts_from}
 use Rattle.lk_replica.specs.ReplicaValue.{ReplicaValue}
 use Rattle.lk_sim.specs.Scenes.{Scene}
-use Rattle.lk_world_feeding.specs.Asking.{ChangesOnly, HearsOfMore}
+use Rattle.lk_world_feeding.specs.Asking.{ChangesOnly, ComesToAskOn}
 use Rattle.lk_world_feeding.specs.Feeding.{CanBeFed, KeepsLearner, Later}
 use Rattle.lk_world_progress.specs.Balloting.{HasSentTo}
 use Rattle.lk_world_progress.specs.Delivering.{Delivers, DeliversInTurn}
@@ -45,13 +45,13 @@ pub record NeedsSnapshot (m : Meaning) (IsText : List ℕ → Type 0) (w : Scene
   pub above : executed behind.node.learner < position_of ahead
   pub gathered : HasGathered behind ahead
 
--- The first node hears that the other one has executed more, and asks it. Later that one takes the question, and later
--- the first one takes the parts that it sends, in order, and nothing else among them. No rebase is due at the other
--- node when it is asked, or at the first one when it takes a part.
+-- The first node hears that the other one has executed more, or is nudged because it was fed, and asks the other one.
+-- Later that one takes the question, and later the first one takes the parts that it sends, in order, and nothing else
+-- among them. No rebase is due at the other node when it is asked, or at the first one when it takes a part.
 pub record IsSentParts (m : Meaning) (IsText : List ℕ → Type 0) (n other : ℕ) (behind ahead : ReplicaValue)
     (first last : Scene ReplicaValue) : Type 0 where
   pub asked : Scene ReplicaValue
-  pub hears : HearsOfMore m IsText n other behind first asked
+  pub comes : ComesToAskOn m IsText n other behind first asked
   pub served : Scene ReplicaValue
   pub serves : Later n other (Delivers m IsText other (content.Node n (kinds.Want (wanted behind.node.learner)))) asked
       served

@@ -1,10 +1,12 @@
 -- What a nudge makes a node of a world tell others, and throw away: so a node goes on that nobody would feed otherwise.
-use Rattle.std.specs.Prelude.{◌≡◌, ℕ, ◌||◌, ◌≤◌, Bool, true, List, None}
+use Rattle.std.specs.Prelude.{◌≡◌, ◌≢◌, ℕ, ◌≤◌, true, List, None, ⊤}
 use Rattle.lk_messages.specs.declared.message.NodeMessage.TheVariants as kinds
 use Rattle.lk_members.specs.Ports.{is_named}
 use Rattle.lk_state.specs.Meanings.{Meaning}
 use Rattle.lk_node.specs.Nudging.{progress}
 use Rattle.lk_node_interface.specs.Ticks.{is_full}
+use Rattle.lk_node_interface.specs.declared.nudge_reason.NudgeReason.{NudgeReason}
+use Rattle.lk_node_interface.specs.declared.nudge_reason.NudgeReason.TheVariants.{Period, TicksWithheld, Fed}
 use Rattle.lk_replica.specs.ReplicaValue.{ReplicaValue}
 use Rattle.lk_sim.specs.Scenes.{Scene}
 use Rattle.lk_sim.specs.declared.event.Event.TheVariants as event
@@ -14,10 +16,17 @@ use Rattle.lk_world_progress.specs.Stepping.{GoesWell, IsUpAs}
 
 -- ---- it tells
 
--- the node has no term, and has heard of no leader for 28 ticks or cannot count them; the other one is of its window
-pub record IsSilent (n other : ℕ) (withheld : Bool) (r : ReplicaValue) : Type 0 where
+-- it has heard of no leader for 28 ticks or cannot count them, and its nudge comes for no other reason than that time
+-- has passed
+abbrev pub HasWaited : NudgeReason → ReplicaValue → Type 0
+HasWaited Period r = is_full r.node.ticks ≡ true
+HasWaited TicksWithheld r = ⊤
+HasWaited Fed r = ⊥
+
+-- the node has no term, and has waited; the other one is of its window
+pub record IsSilent (n other : ℕ) (reason : NudgeReason) (r : ReplicaValue) : Type 0 where
   pub idle : r.node.leader.term ≡ None
-  pub waited : (withheld || is_full r.node.ticks) ≡ true
+  pub waited : HasWaited reason r
   pub some : 1 ≤ other
   pub apart : other ≡ n → ⊥
   pub named : is_named other r.node.learner.whole.roster.sets ≡ true
@@ -32,8 +41,8 @@ pub record TellsIn (n other : ℕ) (r : ReplicaValue) (old new : Scene ReplicaVa
 
 -- A nudge makes such a node tell each other node of its window how many positions it has executed.
 abbrev pub SilentNodesTell : Meaning → (List ℕ → Type 0) → Type 0
-SilentNodesTell m IsText = (old new : Scene ReplicaValue) (n other : ℕ) (withheld : Bool) (r : ReplicaValue)
-    → IsUpAs old n r → IsSilent n other withheld r → GoesWell m IsText old (event.Nudge n withheld) new
+SilentNodesTell m IsText = (old new : Scene ReplicaValue) (n other : ℕ) (reason : NudgeReason) (r : ReplicaValue)
+    → IsUpAs old n r → IsSilent n other reason r → GoesWell m IsText old (event.Nudge n reason) new
     → TellsIn n other r old new
 
 -- ---- it throws away
@@ -46,8 +55,9 @@ pub record ThrowsAway (n : ℕ) (r : ReplicaValue) (old new : Scene ReplicaValue
   pub gathered : now.node.learner.gathered ≡ None
   pub only : ChangesOnly n old new
 
--- Two nudges, with nothing between them, throw away what a node has gathered of a snapshot.
+-- Two nudges, with nothing between them, throw away what a node has gathered of a snapshot, unless one of them comes
+-- because it was fed.
 abbrev pub NudgesThrowAway : Meaning → (List ℕ → Type 0) → Type 0
-NudgesThrowAway m IsText = (old mid new : Scene ReplicaValue) (n : ℕ) (withheld again : Bool) (r : ReplicaValue)
-    → IsUpAs old n r → GoesWell m IsText old (event.Nudge n withheld) mid
+NudgesThrowAway m IsText = (old mid new : Scene ReplicaValue) (n : ℕ) (reason again : NudgeReason) (r : ReplicaValue)
+    → IsUpAs old n r → (reason ≢ Fed) → (again ≢ Fed) → GoesWell m IsText old (event.Nudge n reason) mid
     → GoesWell m IsText mid (event.Nudge n again) new → ThrowsAway n r old new

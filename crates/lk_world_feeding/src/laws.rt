@@ -1,6 +1,6 @@
 //! Laws about nodes of a world of replicas that are behind: each is the contract of a function that does nothing,
 //! except that it calls the laws on which it rests.
-ghost use Rattle.lk_world_feeding.specs.Asking.{AskedNodesSend, HearersKeepGathered, NodesThatAreBehindAsk};
+ghost use Rattle.lk_world_feeding.specs.Asking.{AskedNodesSend, AskersKeepGathered, NodesThatAreBehindAsk};
 ghost use Rattle.lk_world_feeding.specs.Asking.{RejectedNodesSend, SentCommandsAreExecuted};
 ghost use Rattle.lk_world_feeding.specs.Feeding.{ExchangesCatchUp, ExchangesFeed, RejectionsFeed};
 ghost use Rattle.lk_world_feeding.specs.Gathering.{AllCanBeFed, NewerPartsBeginAnew, PartsAreWhole};
@@ -18,10 +18,11 @@ use lk_world_progress::laws::{an_event_is_a_step, deliveries_are_taken};
 // ---- single events
 
 /// A node that hears, by a rejection or a leader's notice, of one that has executed more, asks that one for the rest. A
-/// node that takes a nudge in a term asks each other node of its window.
+/// node without a term that is nudged because it was fed asks the leader that it knows. A node with a term asks each
+/// other node of its window at any other nudge.
 pub fn a_node_that_is_behind_asks_in_a_world<M: Machine>()
     ensures asks { NodesThatAreBehindAsk M.meaning M.IsText }
-    ensures keeps { HearersKeepGathered M.meaning M.IsText }
+    ensures keeps { AskersKeepGathered M.meaning M.IsText }
 {
     an_event_is_a_step::<M>();
     a_node_that_is_behind_asks::<M>();
@@ -47,8 +48,9 @@ pub fn sent_commands_are_executed<M: Machine>()
 
 // ---- nudges
 
-/// A nudge makes a node that has no term, and has heard of no leader for long, tell each other node of its window how
-/// many positions it has executed: who has executed fewer asks for the rest, and who has executed more sends it.
+/// A nudge, unless it comes because the node was fed, makes a node that has no term, and has heard of no leader for
+/// long, tell each other node of its window how many positions it has executed: who has executed fewer asks for the
+/// rest, and who has executed more sends it.
 pub fn a_nudge_makes_a_silent_node_tell<M: Machine>()
     ensures { SilentNodesTell M.meaning M.IsText }
 {
@@ -56,7 +58,7 @@ pub fn a_nudge_makes_a_silent_node_tell<M: Machine>()
 }
 
 /// Two nudges, with nothing between them, throw away what a node has gathered of a snapshot, so that it can gather
-/// another one.
+/// another one, unless one of them comes because it was fed.
 pub fn two_nudges_throw_away_what_is_gathered<M: Machine>()
     ensures { NudgesThrowAway M.meaning M.IsText }
 {

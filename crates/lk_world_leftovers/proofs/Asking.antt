@@ -156,7 +156,7 @@ module _ (m : Meaning) (IsText : List ℕ → Type 0) (law : ExchangesFeed m IsT
   abbrev once : IsFedOnce m IsText x n run.candidate run.voter old new
   once = record {
     asked = run.told;
-    comes = inl (inl (run.nack, run.tells, run.hears));
+    comes = inl (inl (inl (run.nack, run.tells, run.hears)));
     asking = run.asking;
     up = run.asks;
     served = run.served;

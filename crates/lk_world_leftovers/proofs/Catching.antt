@@ -147,7 +147,7 @@ module _ (m : Meaning) (IsText : List ℕ → Type 0) (law : SentCommandsAreExec
   }
 
   -- the leader's next position is one of its next 2 alpha by now
-  caught_reaches : ReachesNext new leader n
+  pub caught_reaches : ReachesNext new leader n
   caught_reaches q up = subst (λ (r : ReplicaValue). f < executed r.node.learner + 2 * alpha r.node.learner)
       (one_replica m IsText new run.takes.goes.after n took.after q took.is up)
       (omega (arith, reaches, grows, start_executed, start_alpha, got.reaches.width_is, k.within))
@@ -164,7 +164,7 @@ module _ (m : Meaning) (IsText : List ℕ → Type 0) (law : SentCommandsAreExec
     })
   ]
 
-  caught_fills : IsFilling m IsText new x leader t set others last
+  pub caught_fills : IsFilling m IsText new x leader t set others last
   caught_fills = record {
     holds = run.takes.goes.after;
     up = took_from.others x (Up leader) (λ is. apart (sym is)) k.up;
@@ -183,7 +183,7 @@ module _ (m : Meaning) (IsText : List ℕ → Type 0) (law : SentCommandsAreExec
   }
 
   -- another one reaches as far as before
-  reaches_still : (j : ℕ) → (j ≡ n → ⊥) → Contains others j → ReachesNext old leader j → ReachesNext new leader j
+  pub reaches_still : (j : ℕ) → (j ≡ n → ⊥) → Contains others j → ReachesNext old leader j → ReachesNext new leader j
   reaches_still j differs c near q up =
       let v : VotesIn old t.ballot (f + 1) last j = k.voters j c in
       subst (λ (r : ReplicaValue). f < executed r.node.learner + 2 * alpha r.node.learner)

@@ -14,12 +14,15 @@ use Rattle.lk_state.specs.States.{WholeValue}
 use Rattle.lk_acceptor.specs.AcceptorValue.{AcceptorValue}
 use Rattle.lk_leader.specs.Terms.{is_term_below}
 use Rattle.lk_learner.specs.Learners.{LearnerValue, Pair, alpha, decided_from, executed, gathered_bytes}
-use Rattle.lk_node_interface.specs.Outboxes.{OutboxValue}
+use Rattle.lk_node_interface.specs.Outboxes.{OutboxValue, nothing}
 use Rattle.lk_node_interface.specs.declared.input.Input.TheVariants.{Nudge}
+use Rattle.lk_node_interface.specs.declared.nudge_reason.NudgeReason.{NudgeReason}
+use Rattle.lk_node_interface.specs.declared.nudge_reason.NudgeReason.TheVariants.{Period, TicksWithheld, Fed}
 use Rattle.lk_node.specs.Nearness.{AreNear}
+use Rattle.lk_node.specs.Leading.{ProposesOpen}
 use Rattle.lk_node.specs.NewBases.{with_snapshot}
 use Rattle.lk_node.specs.NodeValue.{NodeValue}
-use Rattle.lk_node.specs.Nudging.{Nudges, refreshed, remembering, without_gathered}
+use Rattle.lk_node.specs.Nudging.{Nudges, SeeksAfresh, refreshed, remembering, without_gathered}
 use Rattle.lk_node.specs.Yielding.{seeing, with_round, without_term}
 use Rattle.lk_progress.specs.Feeding.{MayServe}
 use Rattle.lk_progress.specs.Hearing.{Takes}
@@ -331,9 +334,9 @@ module _ (m : Meaning) (IsText : List ℕ → Type 0) (x e : ℕ) (others : List
       }
 
   -- a nudge of one of the others
-  module _ (n : ℕ) (withheld : Bool) (old new : Scene ReplicaValue) (k : MayContend m IsText old x e others last)
-      (there : Contains others n) (goes : GoesWell m IsText old (event.Nudge n withheld) new)
-      (s : TakesStep m IsText old n (Nudge withheld) new) where
+  module _ (n : ℕ) (reason : NudgeReason) (old new : Scene ReplicaValue) (k : MayContend m IsText old x e others last)
+      (there : Contains others n) (goes : GoesWell m IsText old (event.Nudge n reason) new)
+      (s : TakesStep m IsText old n (Nudge reason) new) where
     refreshed_lasts : Lasts s.start (refreshed s.start)
     refreshed_lasts = by_test (eqb (gathered_bytes s.start.learner.gathered) s.start.gathered_before)
       where
@@ -352,22 +355,33 @@ module _ (m : Meaning) (IsText : List ℕ → Type 0) (x e : ℕ) (others : List
           near = λ near. record { alpha_is = near.alpha_is; snapshot = near.snapshot; votes = near.votes };
         }
 
-    step_lasts : Nudges withheld s.start s.last s.out → Lasts (refreshed s.start) s.last
-    step_lasts (inl a) =
-        let p = a.2.proposes in
-        let same : HasSame (refreshed s.start) s.last =
-        proposed_same p.0 (refreshed s.start) s.last a.2.asked s.out p.1 in
-        lasts_promise (refreshed s.start) s.last (refreshed s.start).acceptor.state.promised same.learner same.acceptor
-    step_lasts (inr t) = subst (λ (node : NodeValue). Lasts (refreshed s.start) node) (sym t.1)
-        (lasts_itself (refreshed s.start))
+    proposed_lasts : (node : NodeValue) (before : OutboxValue) → ProposesOpen node s.last before s.out
+        → Lasts node s.last
+    proposed_lasts node before p =
+        let same : HasSame node s.last = proposed_same p.0 node s.last before s.out p.1 in
+        lasts_promise node s.last node.acceptor.state.promised same.learner same.acceptor
+
+    unchanged_lasts : (node : NodeValue) → s.last ≡ node → Lasts node s.last
+    unchanged_lasts node is = subst (λ (last : NodeValue). Lasts node last) (sym is) (lasts_itself node)
+
+    afresh_lasts : (withheld : Bool) → SeeksAfresh withheld s.start s.last s.out → Lasts s.start s.last
+    afresh_lasts withheld (inl a) = lasts_trans s.start (refreshed s.start) s.last refreshed_lasts
+        (proposed_lasts (refreshed s.start) a.2.asked a.2.proposes)
+    afresh_lasts withheld (inr t) = lasts_trans s.start (refreshed s.start) s.last refreshed_lasts
+        (unchanged_lasts (refreshed s.start) t.1)
+
+    step_lasts : (why : NudgeReason) → Nudges why s.start s.last s.out → Lasts s.start s.last
+    step_lasts Period step = afresh_lasts false step
+    step_lasts TicksWithheld step = afresh_lasts true step
+    step_lasts Fed (inl proposes) = proposed_lasts s.start nothing proposes.2
+    step_lasts Fed (inr asks) = unchanged_lasts s.start asks.1
 
     nudged_lasts : (r : ReplicaValue) → IsUpAs old n r → Lasts r.node s.after.node
     nudged_lasts r up =
         let found : IsFound r s.start = subst (λ (q : ReplicaValue). IsFound q s.start)
         (one_replica m IsText old goes.before n s.before r s.was up) s.found in
         let stepped : Lasts r.node s.last =
-        lasts_trans r.node s.start s.last (lasts_found r s.start found)
-        (lasts_trans s.start (refreshed s.start) s.last refreshed_lasts (step_lasts s.steps)) in
+        lasts_trans r.node s.start s.last (lasts_found r s.start found) (step_lasts reason s.steps) in
         left_has s.out s.last s.after (λ node. Lasts r.node node)
         (λ l. lasts_trans r.node s.last (with_snapshot s.last) l (lasts_snapshot s.last)) s.left stepped
 
@@ -394,6 +408,6 @@ module _ (m : Meaning) (IsText : List ℕ → Type 0) (x e : ℕ) (others : List
     }
 
 pub nudged_voter_lasts : (m : Meaning) (IsText : List ℕ → Type 0) → NudgedVoterLasts m IsText
-nudged_voter_lasts m IsText x e n others last withheld old new k there goes =
-    all_nudged m IsText x e others last n withheld old new k there goes
-    (event_steps m IsText old new (event.Nudge n withheld) n (Nudge withheld) goes (refl, refl))
+nudged_voter_lasts m IsText x e n others last reason old new k there goes =
+    all_nudged m IsText x e others last n reason old new k there goes
+    (event_steps m IsText old new (event.Nudge n reason) n (Nudge reason) goes (refl, refl))

@@ -1,14 +1,14 @@
-mod Keeping
+pub mod Keeping
 mod Telling
 pub mod Filling
 mod Taking
-mod Catching
+pub mod Catching
 pub mod Serving
 pub mod Promising
 pub mod Collecting
 mod Exchanging
-mod Fixed
-mod Lasting
+pub mod Fixed
+pub mod Lasting
 mod Feeding
 mod Lagging
 mod Asking

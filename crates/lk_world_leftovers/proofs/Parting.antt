@@ -142,7 +142,7 @@ module _ (m : Meaning) (IsText : List ℕ → Type 0) (law : PartsFeed m IsText)
   abbrev exchange : IsSentParts m IsText n other run.behind run.ahead old new
   exchange = record {
     asked = run.told;
-    hears = inl (run.nack, run.tells, run.hears);
+    comes = inl (inl (run.nack, run.tells, run.hears));
     served = run.served;
     serves = record {
       mid = run.told;

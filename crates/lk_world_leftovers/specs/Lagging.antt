@@ -1,6 +1,6 @@
 -- Nodes of a candidate's majority that have executed too little, the candidate or others: each is fed the commands that
 -- it lacks, after a rejection.
-use Rattle.std.specs.Prelude.{◌≡◌, ◌⊎◌, ℕ, ◌+◌, ◌<◌, ◌≤◌, Bool, None, List, [], ◌∷◌, Contains}
+use Rattle.std.specs.Prelude.{◌≡◌, ◌⊎◌, ℕ, ◌+◌, ◌<◌, ◌≤◌, None, List, [], ◌∷◌, Contains}
 use Rattle.lk_types.specs.Limits.{max_commands}
 use Rattle.lk_types.specs.declared.vote.Vote.{Vote}
 use Rattle.lk_messages.specs.declared.message.Content.TheVariants as content
@@ -10,6 +10,7 @@ use Rattle.lk_state.specs.Meanings.{Meaning}
 use Rattle.lk_learner.specs.Learners.{decided_from, executed, wanted}
 use Rattle.lk_node.specs.Nearness.{AreNear}
 use Rattle.lk_node.specs.NodeValue.{NodeValue}
+use Rattle.lk_node_interface.specs.declared.nudge_reason.NudgeReason.{NudgeReason}
 use Rattle.lk_replica.specs.ReplicaValue.{ReplicaValue}
 use Rattle.lk_sim.specs.Scenes.{Scene}
 use Rattle.lk_sim.specs.declared.event.Event.TheVariants as event
@@ -58,11 +59,12 @@ pub record AllLast (m : Meaning) (IsText : List ℕ → Type 0) (x : ℕ) (other
   pub others_last : (n : ℕ) → Contains others n → (r : ReplicaValue) → IsUpAs old n r
       → (q : ReplicaValue) × IsUpAs new n q × Lasts r.node q.node
 
--- so it is after a nudge of one of the others, by which this one tells the rest what it has executed
+-- so it is after a nudge of one of the others, by which this one may tell the rest what it has executed
 abbrev pub NudgedVoterLasts : Meaning → (List ℕ → Type 0) → Type 0
-NudgedVoterLasts m IsText = (x e n : ℕ) (others : List ℕ) (last : ℕ) (withheld : Bool) (old new : Scene ReplicaValue)
+NudgedVoterLasts m IsText = (x e n : ℕ) (others : List ℕ) (last : ℕ) (reason : NudgeReason)
+    (old new : Scene ReplicaValue)
     → MayContend m IsText old x e others last → Contains others n
-    → GoesWell m IsText old (event.Nudge n withheld) new → AllLast m IsText x others old new
+    → GoesWell m IsText old (event.Nudge n reason) new → AllLast m IsText x others old new
 
 -- ---- another node is fed
 

@@ -196,7 +196,7 @@ pub fn parts_are_taken<M: Machine>()
     an_exchange_sends_parts::<M>();
 }
 
-/// A nudge of one of the others, which tells the rest what it has executed, leaves all of them as they were.
+/// A nudge of one of the others, by which it may tell the rest what it has executed, leaves all of them as they were.
 pub fn a_nudged_voter_lasts<M: Machine>()
     ensures { NudgedVoterLasts M.meaning M.IsText }
 {}

@@ -223,7 +223,7 @@ module _ (m : Meaning) (IsText : List ℕ → Type 0) where
   event_steps old new (event.Tick k) n i g gives = steps_if_given old new n i [] g.before
       (subst (λ (j : ℕ). IsGiven b old new j i []) (sym gives.0)
       (subst (λ (x : Input). IsGiven b old new k x []) (sym gives.1) g.done.1)) g.alive
-  event_steps old new (event.Nudge k withheld) n i g gives = steps_if_given old new n i [] g.before
+  event_steps old new (event.Nudge k reason) n i g gives = steps_if_given old new n i [] g.before
       (subst (λ (j : ℕ). IsGiven b old new j i []) (sym gives.0)
       (subst (λ (x : Input). IsGiven b old new k x []) (sym gives.1) g.done.1)) g.alive
   event_steps old new (event.Deliver place) n i g gives =

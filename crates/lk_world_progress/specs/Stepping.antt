@@ -73,7 +73,7 @@ IsUpAs w n r = Lives w n (Up r)
 -- the event gives the node this input: a tick, a nudge, a datagram that was sent to it, or bytes that no node has sent
 abbrev pub Gives : Scene ReplicaValue → Event → ℕ → Input → Type 0
 Gives w (event.Tick n) k i = (k ≡ n) × (i ≡ Tick)
-Gives w (event.Nudge n withheld) k i = (k ≡ n) × (i ≡ Nudge withheld)
+Gives w (event.Nudge n reason) k i = (k ≡ n) × (i ≡ Nudge reason)
 Gives w (event.Deliver place) k i =
     (d : Datagram) × (datagram_at w.sent place ≡ Some d) × (d.to ≡ party.Node k) × (i ≡ Heard d.bytes)
 Gives w (event.Inject n bytes) k i = (k ≡ n) × (i ≡ Heard bytes.items)

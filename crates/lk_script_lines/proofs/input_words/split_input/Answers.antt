@@ -1,37 +1,32 @@
-use Rattle.std.proofs.Common.{rules, ◌≡◌, ◌≢◌, ℕ, List, ◌++◌, Option, Some, None, IfSome, true, codes, subst}
-use Rattle.std.proofs.lemmas.Bool.Decides.{Decides-eqb}
-use Rattle.std.proofs.lemmas.Slice.Eq.{slice_eq-Decides, strip_prefix_is}
-use Rattle.lk_script_lines.proofs.InputLaws.{first_word, first_withheld, one_word, one_withheld}
+use Rattle.std.proofs.Common.{◌≡◌, ◌∙◌, List, ℕ, Option, Some, None, IfSome, true, refl, sym}
+use Rattle.std.specs.Option.{is_some}
+use Rattle.lk_node_interface.specs.declared.nudge_reason.NudgeReason.{NudgeReason}
+use Rattle.lk_sim.specs.declared.event.GroupInput.TheVariants.{Nudge}
+use Rattle.lk_script_lines.specs.WorldLines.{OneInput, SpellsInput}
+use Rattle.lk_script_lines.proofs.InputLaws.{first_word, first_pair, one_word, one_nudge}
 use Rattle.lk_script_lines.proofs.input_words.split_input.Goals as goal
 
 each : {X : Type 0} {P Q : X → Type 0} (o : Option X) → ((x : X) → P x → Q x) → IfSome o P → IfSome o Q
 each None f p = tt
 each (Some x) f p = f x p
 
-pub returns-then-eq-clause-none : goal.returns-then-eq-clause-none
-returns-then-eq-clause-none c = λ _.
-    let two : c.args.words.now ≡ codes "nudge withheld" = search rules in
-    one_withheld c.args.words.now two
+alone : (words : List ℕ) (o : Option NudgeReason) → is_some o ≡ true
+    → IfSome o (λ reason. SpellsInput (Nudge reason) words) → OneInput words
+alone words None some is = absurd (cc some)
+alone words (Some reason) some is = one_nudge reason words is
+
+pub returns-then-is_some-clause-none : goal.returns-then-is_some-clause-none
+returns-then-is_some-clause-none c = λ _.
+    alone c.args.words.now c.nudge_of.result (sym c.is_some.ensures ∙ c.if-is_some.true) c.nudge_of.ensures.some
 
 pub returns-in-Some-clause-some : goal.returns-in-Some-clause-some
 returns-in-Some-clause-some c =
-    let prefix : c.as_slice.result.now ≡ codes "nudge withheld " = search rules in
-    let is = strip_prefix_is Decides-eqb c.args.words.now c.as_slice.result.now (Some c.in-Some.rest)
-    c.in-Some.ensures.cases in
-    first_withheld c.args.words.now c.in-Some.rest.now
-    (subst (λ (l : List ℕ). c.args.words.now ≡ l ++ c.in-Some.rest.now) prefix is)
+    first_pair c.in-Some.first.now c.in-Some.rest.now c.args.words.now c.in-Some.ensures.some
 
 pub returns-clause-some : goal.returns-clause-some
 returns-clause-some c =
-    let words = c.args.words.now in
-    let prefix : c.as_slice.result.now ≡ codes "nudge withheld " = search rules in
-    let not_two : words ≢ codes "nudge withheld" = λ e.
-    let two : c.eq.result ≡ true = (slice_eq-Decides Decides-eqb _ _ _ c.eq.ensures).1 e in
-    cc (c.if-eq.false, two) in
-    let not_more : (rest : List ℕ) → words ≢ codes "nudge withheld " ++ rest =
-    subst (λ (l : List ℕ). (rest : List ℕ) → words ≢ l ++ rest) prefix
-    (strip_prefix_is Decides-eqb words c.as_slice.result.now None c.in_default.ensures.cases) in
-    each c.split_word.result (λ p is. first_word words p.0.now p.1.now is.0 is.1 not_two not_more)
+    each c.split_word.result (λ p is. first_word c.args.words.now p.0.now p.1.now is.0 is.1
+    (c.nudge_of.ensures.none (sym c.is_some.ensures ∙ c.if-is_some.false)) (c.in_default.ensures.none refl))
     c.split_word.ensures.some
 
 pub returns-clause-none : goal.returns-clause-none

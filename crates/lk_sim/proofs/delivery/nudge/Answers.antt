@@ -12,7 +12,7 @@ returns-in_err-give-clause-err g c =
     let p = c.args.parts.now in
     let u : IsUpAt p.seats.items c.in_ok-i.i c.args.number × HasRoom p.sent.items = search rules in
     let k : IsRefused g.R.MemoryReplica.behaves (scene_of p)
-    (event.Nudge c.args.number c.args.are_ticks_withheld) WorldMemory (scene_of c.give.new.parts) =
+    (event.Nudge c.args.number c.args.reason) WorldMemory (scene_of c.give.new.parts) =
     inr (
       refl,
       ((u.0.1, (c.in_ok-i.i, u.0.0, u.0.2, u.0.3, u.0.4)), u.1),

@@ -1,14 +1,16 @@
-use Rattle.std.proofs.Common.{◌≡◌, ◌∙◌, sym, ap}
+use Rattle.std.proofs.Common.{◌≡◌, ◌∙◌, refl, sym, ap}
 use Rattle.lk_pacing.specs.declared.turn_input.TurnInput.TheVariants.{Filtered, Something}
 use Rattle.lk_address_book.specs.Addresses.{filter_of}
 use Rattle.lk_server.specs.Servers.{ServerValue}
 use Rattle.lk_server.proofs.FilteredOut.{not_beside}
 use Rattle.lk_server.proofs.Asking.{keeps_given, keeps_found}
-use Rattle.lk_server.proofs.Carrying.{if_ok_both, if_ok_four, if_err_on}
+use Rattle.lk_server.proofs.Carrying.{if_ok_on, if_ok_both, if_ok_four, if_err_on}
 use Rattle.lk_server.proofs.Gatherings.{socket_one, ends_socket, finds, still_not_out}
 use Rattle.lk_server.proofs.server.Server.add_first_datagram.Goals as goal
 use Rattle.lk_transport.specs.ReceiveBuffers.{BufferValue}
 use Rattle.lk_transport.specs.Streams.{listed}
+use Rattle.lk_server.specs.StepNotes.{noted}
+use Rattle.lk_server.proofs.Noting.{notes_as}
 use Rattle.lk_transport.proofs.Streaming.{come_one}
 
 pub returns-clause-adds : goal.returns-clause-adds
@@ -67,3 +69,12 @@ returns-clause-ends g c =
           (l.comes telling)) l.others
           (ap (λ (s : ServerValue _). s.incoming) h.others) e.3,
     )) h.ends
+
+pub returns-clause-notes : goal.returns-clause-notes
+returns-clause-notes g c =
+    let r = g.R.ServerReplica in
+    let l = c.receive.ensures.others in
+    if_ok_on c.add_received.result (notes_as r.Takes r.KeepsDigest r.HasStatus c.args.group.now c.add_received.new.group
+    c.args.self.now c.receive.new.self c.add_received.new.self c.add_received.new.self
+    (ap (λ (s : ServerValue _). s.replica) l) (ap (λ (s : ServerValue _). noted s) l) refl refl)
+    c.add_received.ensures.notes

@@ -6,6 +6,7 @@ use Rattle.lk_server.proofs.Asking.{keeps_more}
 use Rattle.lk_server.proofs.Carrying.{on_err}
 use Rattle.lk_server.proofs.Gatherings.{socket_more, ends_further}
 use Rattle.lk_server.proofs.Turning.{socket_group, socket_ends}
+use Rattle.lk_server.proofs.Noting.{notes_both}
 use Rattle.lk_server.proofs.server.Server.add_from_socket.Goals as goal
 
 pub returns-then-not-is_something-clause-adds : goal.returns-then-not-is_something-clause-adds
@@ -72,3 +73,11 @@ returns-in_err-add_further_datagrams-clause-ends g c =
           c.add_first_datagram.new.self c.add_further_datagrams.new.self
           (ap (λ (s : ServerValue _). s.cluster) one) (omega arith) first.2 e.2).ends,
     )
+
+pub returns-clause-notes : goal.returns-clause-notes
+returns-clause-notes g c =
+    let r = g.R.ServerReplica in
+    notes_both r.Takes r.KeepsDigest r.HasStatus c.args.group.now c.add_first_datagram.new.group
+    c.add_further_datagrams.new.group
+    c.args.self.now c.add_first_datagram.new.self c.add_further_datagrams.new.self c.in_ok-found.ensures.notes
+    c.in_ok-add_further_datagrams.ensures.notes

@@ -1,8 +1,10 @@
 use Rattle.std.proofs.Common.{◌≡◌, ◌+◌, ◌*◌, [], ◌∷◌, ◌++◌, length, refl, ap, ◌∙◌, length-append, arith}
 use Rattle.lk_address_book.specs.Addresses.{Filter}
 use Rattle.lk_server.specs.Servers.{ServerValue}
+use Rattle.lk_server.specs.StepNotes.{nothing}
 use Rattle.lk_server.proofs.Asking.{keeps_more, keeps_still, keeps_on}
 use Rattle.lk_server.proofs.Carrying.{on_err}
+use Rattle.lk_server.proofs.Noting.{notes_both}
 use Rattle.lk_server.proofs.Gatherings.{socket_nothing, socket_more, socket_wider, socket_still, ends_further}
 use Rattle.lk_server.proofs.server.Server.add_further_datagrams.Goals as goal
 
@@ -14,6 +16,7 @@ datagrams-init g c = (
       c.args.self.now c.args.self.now refl refl,
   refl,
   keeps_still c.args.self.now.addresses.seals c.args.buffer.now c.args.buffer.now refl refl refl,
+  nothing,
 )
 
 pub datagrams-preserved : goal.datagrams-preserved
@@ -34,6 +37,8 @@ datagrams-preserved g c =
             replica = new.replica;
             failed = new.failed;
             digest = new.digest;
+            quiet = new.quiet;
+            fed = new.fed;
             received = new.received;
             ticks = new.ticks;
             addresses = new.addresses;
@@ -44,6 +49,10 @@ datagrams-preserved g c =
           (t.0 ∷ []) c.args.buffer.now c.datagrams.buffer c.add_next_datagram.new.buffer
           (ap (λ (c : Filter). c.seals) i.2.adds.network.1) i.4 t.2
           (λ unasked untold unwatched. c.has_kept.ensures.none (cc c.if-has_kept.false)),
+      notes_both g.R.ServerReplica.Takes g.R.ServerReplica.KeepsDigest g.R.ServerReplica.HasStatus c.args.group.now
+          c.datagrams.group
+          c.add_next_datagram.new.group c.args.self.now c.datagrams.self new i.5
+          c.in_ok-add_next_datagram.ensures.notes,
     )
 
 pub returns-then-not-branch-clause-adds : goal.returns-then-not-branch-clause-adds
@@ -97,3 +106,16 @@ returns-in_err-add_next_datagram-clause-ends g c =
           (e.0 ∷ []) c.args.group.now c.datagrams.group c.args.self.now c.datagrams.self c.add_next_datagram.new.self
           (ap (λ (s : ServerValue _). s.cluster) i.3) (omega (arith, i.1, length-append i.0 (e.0 ∷ []))) i.2 e.1,
     )
+
+pub returns-then-not-branch-clause-notes : goal.returns-then-not-branch-clause-notes
+returns-then-not-branch-clause-notes g c =
+    let r = g.R.ServerReplica in
+    notes_both r.Takes r.KeepsDigest r.HasStatus c.args.group.now c.datagrams.group c.add_next_datagram.new.group
+    c.args.self.now
+    c.datagrams.self c.add_next_datagram.new.self c.datagrams.invariant.5 c.in_ok-add_next_datagram.ensures.notes
+
+pub returns-then-has_kept-clause-notes : goal.returns-then-has_kept-clause-notes
+returns-then-has_kept-clause-notes g c = c.datagrams.invariant.5
+
+pub returns-clause-notes : goal.returns-clause-notes
+returns-clause-notes g c = c.datagrams.invariant.5

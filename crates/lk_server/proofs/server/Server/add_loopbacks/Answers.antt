@@ -1,8 +1,20 @@
-use Rattle.std.proofs.Common.{◌≡◌, [], ◌∷◌, ◌++◌, ap, sym, ◌∙◌, append_assoc, length-append, arith}
+use Rattle.std.proofs.Common.{◌≡◌, [], ◌∷◌, ◌++◌, refl, ap, sym, ◌∙◌, append_assoc, length-append, arith}
 use Rattle.lk_server.specs.Servers.{ServerValue}
+use Rattle.lk_server.specs.StepNotes.{nothing}
 use Rattle.lk_server.proofs.Carrying.{on_err}
-use Rattle.lk_server.proofs.Gatherings.{own_stops, own_fills, own_goes, own_breaks}
+use Rattle.lk_server.proofs.Noting.{notes_both}
+use Rattle.lk_server.proofs.Gatherings.{takes_nothing, own_stops, own_fills, own_goes, own_breaks}
 use Rattle.lk_server.proofs.server.Server.add_loopbacks.Goals as goal
+
+pub letters-init : goal.letters-init
+letters-init g c = (
+  [],
+  refl,
+  refl,
+  takes_nothing g.R.ServerReplica.Gathers c.args.group.now c.args.group.now c.args.self.now c.args.self.now refl refl,
+  refl,
+  nothing,
+)
 
 pub letters-preserved : goal.letters-preserved
 letters-preserved g c =
@@ -19,10 +31,15 @@ letters-preserved g c =
             replica = new.replica;
             failed = new.failed;
             digest = new.digest;
+            quiet = new.quiet;
+            fed = new.fed;
             received = new.received;
             ticks = new.ticks;
             loopback = new.loopback;
           }) i.4,
+      notes_both g.R.ServerReplica.Takes g.R.ServerReplica.KeepsDigest g.R.ServerReplica.HasStatus c.args.group.now
+          c.letters.group
+          c.add_loopback.new.group c.args.self.now c.letters.self new i.5 c.in_ok-add_loopback.ensures.notes,
     )
 
 pub returns-then-not-branch-clause-adds : goal.returns-then-not-branch-clause-adds
@@ -46,3 +63,13 @@ returns-in_err-add_loopback-clause-ends g c =
     on_err c.from_residual.result
     (own_breaks g.R.ServerReplica.Says g.R.ServerReplica.Gathers i.0 e.0 c.args.group.now c.letters.group
     c.args.self.now c.letters.self c.add_loopback.new.self i.1 (omega (arith, i.2, c.letters-test.true)) e.1 i.3 e.2)
+
+pub returns-then-not-branch-clause-notes : goal.returns-then-not-branch-clause-notes
+returns-then-not-branch-clause-notes g c =
+    let r = g.R.ServerReplica in
+    notes_both r.Takes r.KeepsDigest r.HasStatus c.args.group.now c.letters.group c.add_loopback.new.group
+    c.args.self.now
+    c.letters.self c.add_loopback.new.self c.letters.invariant.5 c.in_ok-add_loopback.ensures.notes
+
+pub returns-clause-notes : goal.returns-clause-notes
+returns-clause-notes g c = c.letters.invariant.5

@@ -3,6 +3,7 @@ use Rattle.std.proofs.Common.{◌≡◌, List, [], ◌++◌, length}
 use Rattle.lk_node_interface.specs.Letters.{LetterValue}
 use Rattle.lk_server.specs.Gatherings.{AddsAll}
 use Rattle.lk_server.specs.Servers.{datagrams_in}
+use Rattle.lk_server.specs.StepNotes.{NotesAll}
 use Rattle.lk_server.proofs.server.Server.add_loopbacks.Given as goal
 
 abbrev pub invariant-letters : goal.invariant-letters
@@ -13,7 +14,11 @@ invariant-letters g l =
       replica = l.self.replica;
       failed = l.self.failed;
       digest = l.self.digest;
+      quiet = l.self.quiet;
+      fed = l.self.fed;
       received = l.self.received;
       ticks = l.self.ticks;
       loopback = l.self.loopback;
     })
+    × NotesAll g.R.ServerReplica.Takes g.R.ServerReplica.KeepsDigest g.R.ServerReplica.HasStatus l.fn.group l.group
+    l.fn.self l.self

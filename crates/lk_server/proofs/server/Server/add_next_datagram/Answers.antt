@@ -1,11 +1,14 @@
-use Rattle.std.proofs.Common.{rules, ap, ◌∙◌}
+use Rattle.std.proofs.Common.{rules, refl, ap, ◌∙◌}
 use Rattle.lk_address_book.specs.Addresses.{filter_of}
 use Rattle.lk_server.specs.Servers.{ServerValue}
+use Rattle.lk_server.specs.StepNotes.{nothing}
 use Rattle.lk_server.proofs.FilteredOut.{not_beside}
 use Rattle.lk_server.proofs.Asking.{keeps_given, keeps_beside}
 use Rattle.lk_server.proofs.Carrying.{on_err}
 use Rattle.lk_server.proofs.Gatherings.{socket_one, socket_beside, ends_socket, none_came, still_not_out}
 use Rattle.lk_server.proofs.server.Server.add_next_datagram.Goals as goal
+use Rattle.lk_server.specs.StepNotes.{noted}
+use Rattle.lk_server.proofs.Noting.{notes_as}
 use Rattle.lk_transport.specs.ReceiveBuffers.{BufferValue}
 
 pub returns-in-Something-clause-adds : goal.returns-in-Something-clause-adds
@@ -66,3 +69,33 @@ returns-in_err-add_received-clause-ends g c =
           c.add_received.new.self e.1 l.comes l.others
           (ap (λ (s : ServerValue _). s.incoming) c.add_received.ensures.others) e.3,
     )
+
+pub returns-in-Something-clause-notes : goal.returns-in-Something-clause-notes
+returns-in-Something-clause-notes g c =
+    let r = g.R.ServerReplica in
+    let l = c.receive_or_pause.ensures.others in
+    notes_as r.Takes r.KeepsDigest r.HasStatus c.args.group.now c.add_received.new.group c.args.self.now
+    c.receive_or_pause.new.self c.add_received.new.self c.add_received.new.self
+    (ap (λ (s : ServerValue _). s.replica) l) (ap (λ (s : ServerValue _). noted s) l) refl refl
+    c.in_ok-add_received.ensures.notes
+
+pub returns-in-Filtered-clause-notes : goal.returns-in-Filtered-clause-notes
+returns-in-Filtered-clause-notes g c =
+    let r = g.R.ServerReplica in
+    let l = c.receive_or_pause.ensures.others in
+    notes_as r.Takes r.KeepsDigest r.HasStatus c.args.group.now c.add_received.new.group c.args.self.now
+    c.receive_or_pause.new.self c.add_received.new.self c.add_received.new.self
+    (ap (λ (s : ServerValue _). s.replica) l) (ap (λ (s : ServerValue _). noted s) l) refl refl
+    c.in_ok-add_received.ensures.notes
+
+pub returns-in-Nothing-clause-notes : goal.returns-in-Nothing-clause-notes
+returns-in-Nothing-clause-notes g c =
+    let r = g.R.ServerReplica in
+    let l = c.receive_or_pause.ensures.others in
+    notes_as r.Takes r.KeepsDigest r.HasStatus c.args.group.now c.add_received.new.group c.args.self.now
+    c.receive_or_pause.new.self c.add_received.new.self c.add_received.new.self
+    (ap (λ (s : ServerValue _). s.replica) l) (ap (λ (s : ServerValue _). noted s) l) refl refl
+    c.in_ok-add_received.ensures.notes
+
+pub returns-then-is_empty-clause-notes : goal.returns-then-is_empty-clause-notes
+returns-then-is_empty-clause-notes g c = nothing

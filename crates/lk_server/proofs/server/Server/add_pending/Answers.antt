@@ -1,5 +1,5 @@
 use Rattle.std.proofs.Common.{◌≡◌, ◌∙◌, ℕ, List, [], refl, ap, subst₂}
-use Rattle.std.specs.Prelude.{IfOk, OnErr}
+use Rattle.std.specs.Prelude.{IfOk, OnOk, OnErr}
 use Rattle.std.specs.declared.net.socket_addr.SocketAddr.{SocketAddr}
 use Rattle.lk_replica.specs.Groups.{GroupValue}
 use Rattle.lk_server.specs.Gatherings.{Finds, AddsWaiting, EndsGroup}
@@ -9,6 +9,8 @@ use Rattle.lk_server.proofs.Asking.{keeps_still}
 use Rattle.lk_server.proofs.Carrying.{on_err}
 use Rattle.lk_server.proofs.Turning.{own_group, own_ends_first, own_ends}
 use Rattle.lk_server.proofs.server.Server.add_pending.Goals as goal
+use Rattle.lk_server.specs.StepNotes.{NotesAll}
+use Rattle.lk_server.proofs.Noting.{notes_both}
 use Rattle.lk_transport.specs.Kept.{KeepsOf}
 
 pub returns-then-not-branch-clause-adds : goal.returns-then-not-branch-clause-adds
@@ -82,3 +84,18 @@ returns-in_err-add_loopbacks-clause-ends g c =
           ∙ ap (λ (s : ServerValue _). s.incoming) c.add_loopback.ensures.others) first.2
           c.in_err-add_loopbacks.ensures.ends,
     )
+
+pub returns-then-not-branch-clause-notes : goal.returns-then-not-branch-clause-notes
+returns-then-not-branch-clause-notes g c =
+    let r = g.R.ServerReplica in
+    let n = c.in_ok-add_loopback.ensures.none (cc c.if-not-branch.true) in
+    subst₂ (λ (x : GroupValue) (s : ServerValue _). OnOk c.add_from_socket.result
+    (NotesAll r.Takes r.KeepsDigest r.HasStatus x c.add_from_socket.new.group s c.add_from_socket.new.self))
+    n.2 n.1 c.add_from_socket.ensures.notes
+
+pub returns-clause-notes : goal.returns-clause-notes
+returns-clause-notes g c =
+    let r = g.R.ServerReplica in
+    notes_both r.Takes r.KeepsDigest r.HasStatus c.args.group.now c.add_loopback.new.group c.add_loopbacks.new.group
+    c.args.self.now c.add_loopback.new.self c.add_loopbacks.new.self c.in_ok-add_loopback.ensures.notes
+    c.in_ok-add_loopbacks.ensures.notes

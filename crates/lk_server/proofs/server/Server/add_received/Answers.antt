@@ -1,12 +1,14 @@
-use Rattle.std.proofs.Common.{rules, ◌≡◌, false}
+use Rattle.std.proofs.Common.{rules, ◌≡◌, false, refl}
 use Rattle.lk_probe.specs.Neighbours.{is_stranger}
 use Rattle.lk_auth.specs.Seals.{heard}
 use Rattle.lk_address_book.specs.Addresses.{filter_of}
 use Rattle.lk_address_book.specs.Filters.{is_filtered_out, is_beside_protocol, is_dropped}
+use Rattle.lk_server.specs.StepNotes.{nothing}
 use Rattle.lk_server.proofs.FilteredOut.{is_not_out}
 use Rattle.lk_server.proofs.Asking.{keeps_strange}
 use Rattle.lk_server.proofs.Carrying.{on_err}
 use Rattle.lk_server.proofs.Gatherings.{heard_one, ends_heard}
+use Rattle.lk_server.proofs.Noting.{notes_none}
 use Rattle.lk_server.proofs.server.Server.add_received.Goals as goal
 
 pub returns-clause-adds : goal.returns-clause-adds
@@ -61,3 +63,23 @@ returns-then-drops-clause-kept g c = λ found.
     search rules in
     keeps_strange c.args.self.now.addresses.seals
     (c.in-Some.from, c.in-Some.frame.now) c.args.buffer.now c.in-Some.ensures.some beside
+
+pub returns-in_default-clause-notes : goal.returns-in_default-clause-notes
+returns-in_default-clause-notes g c = nothing
+
+pub returns-then-is_beside_protocol-clause-notes : goal.returns-then-is_beside_protocol-clause-notes
+returns-then-is_beside_protocol-clause-notes g c = nothing
+
+pub returns-in-Some-stranger-clause-notes : goal.returns-in-Some-stranger-clause-notes
+returns-in-Some-stranger-clause-notes g c =
+    let r = g.R.ServerReplica in
+    let same : c.warn_of_stranger.new.self ≡ c.args.self.now = search rules in
+    notes_none r.Takes r.KeepsDigest r.HasStatus c.args.group.now c.args.group.now c.args.self.now
+    c.warn_of_stranger.new.self refl same
+
+pub returns-then-drops-clause-notes : goal.returns-then-drops-clause-notes
+returns-then-drops-clause-notes g c =
+    let r = g.R.ServerReplica in
+    let same : c.note_dropped.new.self ≡ c.args.self.now = search rules in
+    notes_none r.Takes r.KeepsDigest r.HasStatus c.args.group.now c.args.group.now c.args.self.now
+    c.note_dropped.new.self refl same

@@ -1,4 +1,4 @@
-use Rattle.std.proofs.Common.{rules, ◌≡◌, ◌∙◌, ℕ, true, false, List, ap, sym, subst}
+use Rattle.std.proofs.Common.{rules, ◌≡◌, ◌∙◌, ℕ, true, false, List, refl, ap, sym, subst}
 use Rattle.std.specs.declared.net.socket_addr.SocketAddr.{SocketAddr}
 use Rattle.lk_server.specs.Gatherings.{AddsGroup, EndsGroup}
 use Rattle.lk_server.specs.Servers.{ServerValue, HasReceived, IsIdle}
@@ -6,6 +6,8 @@ use Rattle.lk_server.proofs.Carrying.{on_err, apart_by}
 use Rattle.lk_server.proofs.Turning.{untimely_takes, untimely_rests, withheld_takes, withheld_rests}
 use Rattle.lk_server.proofs.Turning.{tick_turn, tick_turn_ends}
 use Rattle.lk_server.proofs.server.Server.fill_group.Goals as goal
+use Rattle.lk_server.specs.StepNotes.{NotesAll, noted}
+use Rattle.lk_server.proofs.Noting.{ends_timely, notes_after, notes_as}
 use Rattle.lk_transport.specs.Kept.{KeepsOf}
 
 pub returns-then-not-is_due-clause-adds : goal.returns-then-not-is_due-clause-adds
@@ -48,7 +50,7 @@ returns-then-withholds-clause-adds g c = λ is.
     (λ frames. KeepsOf c.set_timeout.new.self.addresses.seals frames c.args.buffer.now
     c.add_pending.new.buffer) c.args.group.now c.add_pending.new.group c.set_timeout.new.self c.add_pending.new.self
     c.withhold_tick.new.self (ap (λ (s : ServerValue _). s.withheld) c.add_pending.ensures.others)
-    c.withhold_tick.ensures (c.withholds.ensures.0 (cc c.if-withholds.true))
+    c.withhold_tick.ensures.counts (c.withholds.ensures.0 (cc c.if-withholds.true))
     (c.in_ok-found.ensures.adds (c.is_something-then-withholds.ensures.0 is)))
 
 pub returns-then-withholds-clause-idle : goal.returns-then-withholds-clause-idle
@@ -62,7 +64,7 @@ returns-then-withholds-clause-idle g c = λ isnt.
     (withheld_rests r.Says r.Gathers observable
     (λ frames. KeepsOf c.set_timeout.new.self.addresses.seals frames c.args.buffer.now
     c.add_pending.new.buffer) c.in_ok-found.found c.args.group.now c.add_pending.new.group
-    c.set_timeout.new.self c.add_pending.new.self c.withhold_tick.new.self c.withhold_tick.ensures
+    c.set_timeout.new.self c.add_pending.new.self c.withhold_tick.new.self c.withhold_tick.ensures.counts
     (c.withholds.ensures.0 (cc c.if-withholds.true)) (c.in_ok-found.ensures.none apart))
 
 pub returns-clause-adds : goal.returns-clause-adds
@@ -109,3 +111,31 @@ returns-in_err-add_tick-clause-ends g c =
     (λ m. let both : false ≡ true = sym (cc c.if-withholds.false) ∙ c.withholds.ensures.1 m in cc both)
     c.add_tick.ensures.others c.add_tick.ensures.ticks c.in_ok-found.found a.adds a.none
     (λ same. c.is_due.ensures.given (pace ∙ same)) c.in_err-add_tick.ensures.silent))
+
+pub returns-then-not-is_due-clause-notes : goal.returns-then-not-is_due-clause-notes
+returns-then-not-is_due-clause-notes g c =
+    let r = g.R.ServerReplica in
+    subst (λ (s : ServerValue _). NotesAll r.Takes r.KeepsDigest r.HasStatus c.args.group.now c.add_pending.new.group s
+    c.add_pending.new.self) c.set_timeout.ensures c.in_ok-found.ensures.notes
+
+pub returns-then-withholds-clause-notes : goal.returns-then-withholds-clause-notes
+returns-then-withholds-clause-notes g c =
+    let r = g.R.ServerReplica in
+    let w = c.withhold_tick.ensures.counts in
+    let t = c.set_timeout.ensures in
+    notes_as r.Takes r.KeepsDigest r.HasStatus c.args.group.now c.add_pending.new.group c.args.self.now
+    c.set_timeout.new.self
+    c.add_pending.new.self c.withhold_tick.new.self (ap (λ (s : ServerValue _). s.replica) t)
+    (ap (λ (s : ServerValue _). noted s) t) (ap (λ (s : ServerValue _). s.replica) w)
+    (ap (λ (s : ServerValue _). noted s) w) c.in_ok-found.ensures.notes
+
+pub returns-clause-notes : goal.returns-clause-notes
+returns-clause-notes g c =
+    let r = g.R.ServerReplica in
+    let tick = c.in_ok-add_tick.ensures.takes in
+    notes_after r.Takes r.KeepsDigest r.HasStatus tick.input (ends_timely _ tick.input tick.ends) c.args.group.now
+    c.add_pending.new.group c.add_tick.new.group
+    c.args.self.now c.add_pending.new.self c.add_tick.new.self _ _
+    (subst (λ (s : ServerValue _). NotesAll r.Takes r.KeepsDigest r.HasStatus c.args.group.now c.add_pending.new.group s
+    c.add_pending.new.self) c.set_timeout.ensures c.in_ok-found.ensures.notes) refl refl tick.takes
+    c.add_tick.ensures.notes
