@@ -25,6 +25,7 @@ use Rattle.lk_world_progress.proofs.Stepping.{event_steps}
 use Rattle.lk_world_progress.specs.Delivering.{Hears, HearsEach, HearsInTurn}
 use Rattle.lk_world_progress.specs.Stepping.{behaviour, GoesWell}
 use Rattle.lk_world_leftovers.specs.Persisting.{WaitsIn}
+pub use Rattle.lk_healing.specs.Contending.{AsksNothing}
 
 -- ---- notes
 
@@ -73,11 +74,6 @@ replies_ask_nothing (d ∷ ds) notes k =
     ∙ replies_ask_nothing ds k.1 k.4
 
 -- ---- events
-
--- the requests that were asked are the same, and the genesis
-pub record AsksNothing (old new : Scene ReplicaValue) : Type 0 where
-  pub asked : asked_in new.trace ≡ asked_in old.trace
-  pub genesis : new.genesis ≡ old.genesis
 
 pub asks_same : (w : Scene ReplicaValue) → AsksNothing w w
 asks_same w = record { asked = refl; genesis = refl }

@@ -8,3 +8,16 @@ mod Polls
 mod Leads
 mod Quiet
 mod News
+mod Letters
+mod Rejected
+mod Begun
+mod Stands
+mod Ballots
+mod Persists
+mod Fronts
+mod Offers
+mod Runs
+mod Traces
+mod Fills
+mod Filled
+mod Catches

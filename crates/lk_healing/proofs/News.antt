@@ -1,8 +1,7 @@
 -- A new cluster is quiet for a request.
-use Rattle.std.proofs.Common.{◌≡◌, ◌∙◌, ℕ, ◌==◌, List, [], ◌∷◌, Some, Contains}
-use Rattle.std.proofs.Common.{refl, ap, sym, subst, arith, slice_get}
+use Rattle.std.proofs.Common.{◌≡◌, ◌∙◌, ℕ, ◌==◌, List, ◌∷◌, Contains}
+use Rattle.std.proofs.Common.{refl, ap, sym, subst, arith}
 use Rattle.std.proofs.lemmas.List.Quantifiers.{position-Some}
-use Rattle.std.specs.List.{position}
 use Rattle.lk_types.specs.BallotValue.{BallotValue}
 use Rattle.lk_types.specs.Ballots.{IsBelow}
 use Rattle.lk_types.specs.declared.command.Request.{Request as RequestValue}
@@ -10,7 +9,6 @@ use Rattle.lk_types.specs.declared.member.Member.{Member}
 use Rattle.lk_agreement_laws.proofs.Histories.{at_most_below, below_self}
 use Rattle.lk_members.proofs.Memberships.{majority_lies_within}
 use Rattle.lk_state.specs.Meanings.{Meaning}
-use Rattle.lk_node_interface.specs.Recipients.{index_in}
 use Rattle.lk_node.specs.Beginning.{next_ballot}
 use Rattle.lk_node.specs.NodeValue.{NodeValue}
 use Rattle.lk_progress.proofs.Proposing.{next_set}
@@ -25,14 +23,8 @@ use Rattle.lk_world_progress.specs.Exchanging.{number_of}
 use Rattle.lk_world_progress.specs.Stepping.{IsUpAs}
 use Rattle.lk_world_leftovers.specs.Fixed.{IsFresh, NobodyChanges}
 use Rattle.lk_world_leftovers.specs.Persisting.{Contends, NewWorldsContend}
+use Rattle.lk_healing.proofs.Places.{place_in}
 use Rattle.lk_healing.specs.Answers.{IsQuietFor, NewWorldsAreQuietFor}
-
-place_in : (sets : List (List Member)) (set : List Member) (n : ℕ) → slice_get sets 0 ≡ Some set
-    → index_in sets n ≡ position (λ m. m.node == n) set
-place_in [] set n at = absurd (cc at)
-place_in (s ∷ sets) set n at =
-    let is : s ≡ set = (let e : Some s ≡ Some set = at in cc e) in
-    ap (λ (x : List Member). position (λ m. m.node == n) x) is
 
 module _ (m : Meaning) (IsText : List ℕ → Type 0) (clusters : NewClustersAreQuiet)
     (contend : NewWorldsContend m IsText) (w : Scene ReplicaValue) (c : ReplicaValue) (index ticks : ℕ)

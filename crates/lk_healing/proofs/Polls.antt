@@ -1,41 +1,25 @@
 -- Where the promises stand, and what follows once the candidate has taken them.
-use Rattle.std.proofs.Common.{◌≡◌, ◌∙◌, inl, inr, ℕ, zero, suc, ◌+◌, ◌≤◌, ◌++◌, List, [], ◌∷◌, map, length}
-use Rattle.std.proofs.Common.{Some, None, Option, Contains, slice_get, take, refl, ap, sym, subst, arith, append_assoc}
-use Rattle.std.proofs.Common.{add-one, append-nil}
+use Rattle.std.proofs.Common.{◌≡◌, ◌∙◌, ℕ, zero, suc, ◌+◌, ◌≤◌, ◌++◌, List, [], ◌∷◌, map, length, Some}
+use Rattle.std.proofs.Common.{Contains, slice_get, take, refl, ap, sym, subst, arith, add-one}
 use Rattle.std.proofs.lemmas.List.{take_all}
 use Rattle.lk_types.specs.BallotValue.{BallotValue}
 use Rattle.lk_types.specs.Ballots.{IsAtMost}
-use Rattle.lk_types.specs.declared.entry.Entry.{Entry}
 use Rattle.lk_types.specs.declared.genesis.Genesis.{Genesis}
 use Rattle.lk_types.specs.declared.vote.Vote.{Vote}
-use Rattle.lk_store_format.specs.Values.{HeaderValue}
-use Rattle.lk_messages.specs.Grammar.{IsMessage, Spells, spelling}
+use Rattle.lk_messages.specs.Grammar.{Spells}
 use Rattle.lk_messages.specs.Values.{PromiseValue}
 use Rattle.lk_messages.specs.declared.message.Content.{Content}
 use Rattle.lk_messages.specs.declared.message.Content.TheVariants as content
 use Rattle.lk_messages.specs.declared.message.Message.{Message}
-use Rattle.lk_messages.specs.declared.message.NodeMessage.{NodeMessage}
 use Rattle.lk_messages.specs.declared.message.NodeMessage.TheVariants as kinds
 use Rattle.lk_agreement_laws.proofs.Histories.{contains_more}
 use Rattle.lk_agreement_laws.specs.Datagrams.{Datagram}
-use Rattle.lk_members.specs.Nodes.{nodes_of}
 use Rattle.lk_state.specs.Meanings.{Meaning}
-use Rattle.lk_acceptor.specs.Replies.{RepliesToPrepare}
 use Rattle.lk_acceptor.specs.VoteLists.{votes_from}
-use Rattle.lk_learner.specs.Learners.{executed}
-use Rattle.lk_node_interface.specs.Letters.{LetterValue, batch_of, datagram_of}
-use Rattle.lk_node_interface.specs.Outboxes.{OutboxValue, nothing, with_optional}
-use Rattle.lk_node_interface.specs.Saying.{saying}
+use Rattle.lk_node_interface.specs.Letters.{batch_of}
 use Rattle.lk_node.proofs.Nodes.{map_has}
-use Rattle.lk_node.specs.Leading.{ProposesAll, having_proposed}
 use Rattle.lk_node.specs.Leavings.{header_of}
-use Rattle.lk_node.specs.Nearness.{AreNear}
-use Rattle.lk_node.specs.NodeValue.{NodeValue}
-use Rattle.lk_node.specs.Responding.{Responds}
-use Rattle.lk_node.specs.Telling.{letter_to}
-use Rattle.lk_progress.proofs.Hearing.{Handled, handled}
 use Rattle.lk_progress.specs.Electing.{promises}
-use Rattle.lk_progress.specs.Hearing.{Takes}
 use Rattle.lk_replica.specs.ReplicaValue.{ReplicaValue}
 use Rattle.lk_sim.specs.Refusals.{datagram_at}
 use Rattle.lk_sim.specs.Scenes.{Scene}
@@ -50,71 +34,13 @@ use Rattle.lk_world_progress.specs.Delivering.{AreDistinct, Hears, HearsEach, He
 use Rattle.lk_world_progress.specs.Stepping.{GoesWell, Holds, IsFound, IsUpAs}
 use Rattle.lk_world_leftovers.proofs.Promising.{Stands, stands_snapshot}
 use Rattle.lk_healing.proofs.Hands.{same_genesis, stay_on_their_way, stays_up}
-use Rattle.lk_healing.proofs.Places.{at_end, datagram_stays}
+use Rattle.lk_healing.proofs.Places.{datagram_stays}
+use Rattle.lk_healing.proofs.Letters.{RepliesFirst, kept, promises_first, promising, reply_stands}
 use Rattle.lk_healing.specs.Halts.{AreOnTheirWay, MayBeTaken}
 use Rattle.lk_healing.specs.Polls.{HearsAt, StandAt, StandsAt}
 
--- ---- the first letter
-
-proposed_more : (xs : List Vote) (old new : NodeValue) (before out : OutboxValue) → ProposesAll xs old new before out
-    → (more : List LetterValue) × (out.letters ≡ before.letters ++ more)
-proposed_more [] old new before out p =
-    ([], ap (λ (o : OutboxValue). o.letters) p.2 ∙ sym (append-nil before.letters))
-proposed_more (x ∷ xs) old new before out p =
-    let told : List LetterValue = map (letter_to old (kinds.Accept x)) (nodes_of p.0.proposes.set) in
-    let rest = proposed_more xs (having_proposed old x p.0) new _ out p.1 in
-    (told ++ rest.0, rest.1 ∙ append_assoc before.letters told rest.0)
-
-optional_letters : (o : Option Entry) → (with_optional o nothing).letters ≡ []
-optional_letters None = refl
-optional_letters (Some e) = refl
-
--- a promise of positions above e with these votes
-abbrev pub promising : BallotValue → ℕ → List Vote → NodeMessage
-promising b e votes = kinds.Promise (record { ballot = b; first = e + 1; votes = votes })
-
 abbrev pub as_promise : BallotValue → ℕ → ℕ × List Vote → ℕ × PromiseValue
 as_promise b e h = (h.0, record { ballot = b; first = e + 1; votes = h.1 })
-
-abbrev kept : NodeValue → ℕ → List Vote
-kept node e = votes_from (e + 1) node.acceptor.state.votes
-
-record PromisesFirst (old : NodeValue) (from : ℕ) (b : BallotValue) (e : ℕ) (out : OutboxValue) : Type 0 where
-  more : List LetterValue
-  letters : out.letters ≡ letter_to old (promising b e (kept old e)) from ∷ more
-  fits : IsMessage (saying old.header (promising b e (kept old e)))
-
-promises_first : (m : Meaning) (IsText : List ℕ → Type 0) (old new : NodeValue) (from : ℕ) (b : BallotValue) (e : ℕ)
-    (out : OutboxValue) → AreNear old.acceptor old.learner → IsAtMost old.acceptor.state.promised b
-    → executed old.learner ≤ e → Takes m IsText old (content.Node from (kinds.Prepare b (e + 1))) new out
-    → PromisesFirst old from b e out
-promises_first m IsText old new from b e out near ballot behind takes =
-    by_handled (handled m IsText old (content.Node from (kinds.Prepare b (e + 1))) new out takes)
-  where
-    by_handled : Handled m IsText old (content.Node from (kinds.Prepare b (e + 1))) new out
-        → PromisesFirst old from b e out
-    by_handled h = by_reply h.handles
-      where
-        by_reply : Responds old from (RepliesToPrepare old.acceptor (executed old.learner) b (e + 1)) h.mid h.first
-            → PromisesFirst old from b e out
-        by_reply r = elim r.given [
-          | inl granted ↦
-              let more = proposed_more h.proposes.0 h.mid new h.first out h.proposes.1 in
-              record {
-                more = more.0;
-                letters = more.1 ∙ ap (λ (ls : List LetterValue). ls ++ more.0)
-                    (ap (λ (o : OutboxValue). o.letters) r.comes_to
-                    ∙ ap (λ (ls : List LetterValue). ls ++ letter_to old r.response.reply from ∷ [])
-                    (optional_letters r.response.entry)
-                    ∙ ap (λ (y : NodeMessage). letter_to old y from ∷ []) granted.1.reply);
-                fits = subst (λ (y : NodeMessage). IsMessage (saying old.header y)) granted.1.reply r.fits;
-              }
-          | inr refused ↦ absurd (refused.0 (record {
-            ballot = ballot;
-            above = omega (arith, near.snapshot, behind);
-            near = λ v c. omega (arith, near.votes v c, near.alpha_is, behind);
-          }))
-        ]
 
 -- ---- places
 
@@ -140,7 +66,7 @@ module _ (m : Meaning) (IsText : List ℕ → Type 0) where
   all_stand_still j n x old new h (p ∷ ps) (y ∷ ys) stand =
       (stands_still j n p x y old new h stand.0, all_stand_still j n x old new h ps ys stand.1)
 
-  stands_later : (n p : ℕ) (y x : Content) (ns ps : List ℕ) (old new : Scene ReplicaValue)
+  pub stands_later : (n p : ℕ) (y x : Content) (ns ps : List ℕ) (old new : Scene ReplicaValue)
       → HearsAt m IsText x ns ps old new → StandsAt old n p y → StandsAt new n p y
   stands_later n p y x [] [] old new same stands =
       subst (λ (w : Scene ReplicaValue). StandsAt w n p y) (sym same) stands
@@ -195,7 +121,7 @@ module _ (m : Meaning) (IsText : List ℕ → Type 0) where
     stood = found_has may.replica s.start found (Stands b e may.highest votes)
         (stands_snapshot b e may.highest votes may.replica.node) may.stands
 
-    first : PromisesFirst s.start x b e s.out
+    first : RepliesFirst s.start x (promising b e (kept s.start e)) s.out
     first = promises_first m IsText s.start s.last x b e s.out stood.near
         (found_has may.replica s.start found (λ node. IsAtMost node.acceptor.state.promised b) (λ q. q) may.ballot)
         stood.behind s.takes
@@ -206,28 +132,12 @@ module _ (m : Meaning) (IsText : List ℕ → Type 0) where
     reports : (P : List Vote → Type 0) → P (votes_from (e + 1) s.start.acceptor.state.votes) → P votes
     reports P p = subst P stood.reports p
 
-    there : datagram_at new.sent (suc (length old.sent))
-        ≡ Some (datagram_of n (letter_to s.start (promising b e (kept s.start e)) x))
-    there = ap (λ (ds : List Datagram). slice_get ds (length old.sent))
-        (s.sent ∙ ap (λ (ls : List LetterValue). old.sent ++ batch_of n ls) first.letters)
-        ∙ at_end old.sent _ (batch_of n first.more)
-
     -- the first that it sends is its promise
     pub stands_there : StandsAt new x (suc (length old.sent)) (content.Node n (promising b e votes))
     stands_there =
-        reports (λ vs. StandsAt new x (suc (length old.sent)) (content.Node n (promising b e vs))) (
-          datagram_of n (letter_to s.start (promising b e (kept s.start e)) x),
-          there,
-          refl,
-          subst (λ (g : Genesis). Spells (record {
-            cluster = g.cluster;
-            content = content.Node n (promising b e (kept s.start e));
-          }) (spelling (saying s.start.header (promising b e (kept s.start e))))) (sym s.genesis)
-              (subst (λ (w : HeaderValue). Spells (record {
-                cluster = w.cluster;
-                content = content.Node w.node (promising b e (kept s.start e));
-              }) (spelling (saying s.start.header (promising b e (kept s.start e))))) header (first.fits, refl)),
-        )
+        reports (λ vs. StandsAt new x (suc (length old.sent)) (content.Node n (promising b e vs)))
+        (reply_stands m IsText n x (content.Node x (kinds.Prepare b (e + 1))) (promising b e (kept s.start e)) old new s
+        header first)
 
     -- another node may promise as before
     pub may_still : (k : ℕ) (others : List Vote) → (k ≡ n → ⊥) → MayPromise old b e k others

@@ -38,7 +38,7 @@ use Rattle.lk_healing.specs.Halts.{AreOnTheirWay, IsOnItsWay}
 use Rattle.lk_healing.specs.Serving.{IsReadyFor, TakesRequest}
 use Rattle.lk_healing.specs.declared.asking.Asking.{Asking}
 
-member_there : (set : List Member) (n : ℕ) → is_member n set ≡ true → Contains (nodes_of set) n
+pub member_there : (set : List Member) (n : ℕ) → is_member n set ≡ true → Contains (nodes_of set) n
 member_there [] n is = absurd (cc is)
 member_there (m ∷ set) n is = elim (cases_Bool (m.node == n)) [
   | inl same ↦ (0, omega arith, eqb-true m.node n same)

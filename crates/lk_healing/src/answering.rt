@@ -13,9 +13,7 @@ use lk_replica::Replica;
 use lk_sim::World;
 use lk_state::Machine;
 use lk_types::{NodeNo, Request};
-use lk_world_leftovers::laws::{
-    a_fixed_world_has_leftovers, fresh_requests_are_new, nodes_know_their_members,
-};
+use lk_world_leftovers::laws::{fresh_requests_are_new, nodes_know_their_members};
 use std::alloc::Global;
 
 /// Lets the first of these nodes, a majority that is quiet, begin a ballot, lead and answer the request of a client.
@@ -30,7 +28,6 @@ pub fn answer<M: Machine>(
     ensures ok { OnOk result (IsAnswered M.meaning world.new candidate request.now) }
     ensures err { IfErr result (λ h. HaltsFor h world.new) }
 {
-    a_fixed_world_has_leftovers::<M>();
     fresh_requests_are_new::<M>();
     a_filled_leader_is_ready();
     nodes_know_their_members::<M>();

@@ -31,8 +31,8 @@ fn add_place(places: &mut Vec<usize>, place: usize) -> Result<(), NoMemory>
     Ok(())
 }
 
-// Delivers a message to each of these nodes, in order. Returns at which place stands what each has sent first for it.
-fn poll<M: Machine>(
+/// Delivers a message to each of these nodes, in order. Returns at which place stands what each has sent first for it.
+pub fn poll<M: Machine>(
     alloc: Global,
     world: &mut World<Replica<M, MemoryDisk>>,
     nodes: &[NodeNo],
@@ -53,8 +53,8 @@ fn poll<M: Machine>(
     Ok(places)
 }
 
-// Delivers the datagrams at these places to the node, in order.
-fn deliver_all<M: Machine>(
+/// Delivers the datagrams at these places to the node, in order.
+pub fn deliver_all<M: Machine>(
     world: &mut World<Replica<M, MemoryDisk>>,
     node: NodeNo,
     places: &[usize],

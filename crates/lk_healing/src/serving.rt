@@ -25,8 +25,8 @@ use lk_wire::{Content, Message, NodeMessage};
 use lk_world_leftovers::laws::a_ready_leader_answers;
 use std::alloc::Global;
 
-// Delivers the replies of these nodes to the leader, which have accepted the vote.
-fn hand_replies<M: Machine>(
+/// Delivers the replies of these nodes to the leader, which have accepted the vote.
+pub fn hand_replies<M: Machine>(
     alloc: Global,
     world: &mut World<Replica<M, MemoryDisk>>,
     cluster: u64,

@@ -12,20 +12,20 @@ pub collect-requires : goal.collect-requires
 collect-requires g c =
     begun_as g.M.Machine.meaning g.M.Machine.IsText c.args.world.now c.args.candidate c.args.nodes.now
     c.args.request.now c.requires c.begin_ballot.new.world c.in_ok-asking.asking c.in_ok-asking.ensures.ok
-    c.a_fixed_world_has_leftovers.ensures c.requires.e (omega arith) (omega (arith, c.requires.room))
+    c.requires.e (omega arith) (omega (arith, c.requires.room))
     c.requires.contends
 
 pub serve-requires : goal.serve-requires
 serve-requires g c =
-    ready_then g.M.Machine.meaning g.M.Machine.IsText c.a_fixed_world_has_leftovers.ensures
-    c.a_filled_leader_is_ready.ensures c.fresh_requests_are_new.ensures c.args.world.now c.args.candidate
+    ready_then g.M.Machine.meaning g.M.Machine.IsText c.a_filled_leader_is_ready.ensures
+    c.fresh_requests_are_new.ensures c.args.world.now c.args.candidate
     c.args.nodes.now c.args.request.now c.requires c.begin_ballot.new.world c.collect.new.world c.in_ok-asking.asking
     c.in_ok-asking.ensures.ok c.in_ok-collect.ensures.ok
 
 pub returns-clause-ok : goal.returns-clause-ok
 returns-clause-ok g c =
-    let ready = ready_then g.M.Machine.meaning g.M.Machine.IsText c.a_fixed_world_has_leftovers.ensures
-    c.a_filled_leader_is_ready.ensures c.fresh_requests_are_new.ensures c.args.world.now c.args.candidate
+    let ready = ready_then g.M.Machine.meaning g.M.Machine.IsText c.a_filled_leader_is_ready.ensures
+    c.fresh_requests_are_new.ensures c.args.world.now c.args.candidate
     c.args.nodes.now c.args.request.now c.requires c.begin_ballot.new.world c.collect.new.world c.in_ok-asking.asking
     c.in_ok-asking.ensures.ok c.in_ok-collect.ensures.ok in
     on_ok_weaker c.serve.result
