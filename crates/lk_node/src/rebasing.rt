@@ -1,8 +1,9 @@
 // What a node writes as the Base of the other file, and how it then drops what the Base's snapshot replaces.
-ghost use Rattle.std.specs.Prelude.{◌≡◌, ◌↔◌, IsTrue, IfOk};
+ghost use Rattle.std.specs.Prelude.{◌≡◌, ◌+◌, ◌≤◌, ◌↔◌, IsTrue, IfOk};
+ghost use Rattle.lk_learner.specs.Learners.{executed};
 ghost use Rattle.lk_log.specs.Stores.{FitsBase};
 ghost use Rattle.lk_state.specs.Packed.{packed};
-ghost use Rattle.lk_node.specs.NewBases.{standing_of, with_snapshot, IsSnapshotOld};
+ghost use Rattle.lk_node.specs.NewBases.{standing_of, with_snapshot};
 ghost use Rattle.lk_node.specs.Reaching.{HoldsNear};
 
 use crate::node::Node;
@@ -35,14 +36,12 @@ impl<M: Machine> Node<M> {
         })
     }
 
-    /// Whether so many positions are executed above the snapshot that a rebase is due: 256, or 16 times alpha if that
-    /// is more.
+    /// Whether 256 positions or more are executed above the snapshot, so that a rebase is due.
     pub fn is_snapshot_old(&self) -> bool
-        ensures { IsTrue result ↔ IsSnapshotOld self.now }
+        ensures { IsTrue result ↔ (self.now.acceptor.state.snapshot_position + 256 ≤ executed self.now.learner) }
     {
         let snapshot = self.acceptor.snapshot_position().get();
-        let span = 16 * u64::from(self.header.genesis().alpha);
-        self.learner.whole().executed().get() >= snapshot + span.max(256)
+        self.learner.whole().executed().get() >= snapshot + 256
     }
 
     /// Replaces the votes and commands of executed positions by a snapshot of the state, of this packed text. Call it

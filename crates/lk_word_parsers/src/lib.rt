@@ -2,7 +2,6 @@
 //! operation.
 #![tactic(auto)]
 
-pub mod alpha;
 pub mod command_line;
 pub mod genesis;
 pub mod member;
