@@ -10,7 +10,8 @@ use Rattle.lk_agreement_laws.proofs.Histories.{contains_more}
 use Rattle.lk_agreement_laws.specs.Datagrams.{Datagram}
 use Rattle.lk_state.specs.Meanings.{Meaning}
 use Rattle.lk_node_interface.specs.declared.input.Input.{Input}
-use Rattle.lk_node_interface.specs.declared.input.Input.TheVariants.{Tick, Datagram as Heard}
+use Rattle.lk_node_interface.specs.declared.input.Input.TheVariants.{Tick, Nudge, Datagram as Heard}
+use Rattle.lk_node_interface.specs.declared.nudge_reason.NudgeReason.TheVariants.{TicksWithheld}
 use Rattle.lk_node_interface.specs.declared.note.Note.{Note}
 use Rattle.lk_node_interface.specs.declared.note.Note.TheVariants as note
 use Rattle.lk_node.specs.BorneOut.{IsOfNode}
@@ -29,7 +30,7 @@ pub use Rattle.lk_healing.specs.Contending.{AsksNothing}
 
 -- ---- notes
 
-asked_both : (xs ys : List Note) → asked_in (xs ++ ys) ≡ asked_in xs ++ asked_in ys
+pub asked_both : (xs ys : List Note) → asked_in (xs ++ ys) ≡ asked_in xs ++ asked_in ys
 asked_both [] ys = refl
 asked_both (x ∷ xs) ys =
     ap (λ (l : List RequestValue). asked_by x ++ l) (asked_both xs ys)
@@ -42,7 +43,7 @@ own_note (note.Ran node i v) own = refl
 own_note (note.Answered node client number answer) own = refl
 own_note (note.Told node client number last) own = refl
 
-own_notes : (xs : List Note) → AreOfNodes xs → asked_in xs ≡ []
+pub own_notes : (xs : List Note) → AreOfNodes xs → asked_in xs ≡ []
 own_notes [] own = refl
 own_notes (x ∷ xs) own =
     ap (λ (l : List RequestValue). l ++ asked_in xs) (own_note x (own x (0, omega arith, refl)))
@@ -104,6 +105,14 @@ module _ (m : Meaning) (IsText : List ℕ → Type 0) where
   tick_asks old new n goes = record {
     asked = given_asks old new n Tick goes.done.1;
     genesis = (event_steps m IsText old new (event.Tick n) n Tick goes (refl, refl)).genesis;
+  }
+
+  pub nudge_asks : (old new : Scene ReplicaValue) (n : ℕ) → GoesWell m IsText old (event.Nudge n TicksWithheld) new
+      → AsksNothing old new
+  nudge_asks old new n goes = record {
+    asked = given_asks old new n (Nudge TicksWithheld) goes.done.1;
+    genesis =
+        (event_steps m IsText old new (event.Nudge n TicksWithheld) n (Nudge TicksWithheld) goes (refl, refl)).genesis;
   }
 
   pub hears_asks : (n : ℕ) (x : Content) (old new : Scene ReplicaValue) → Hears m IsText n x old new

@@ -36,7 +36,7 @@ pub is_up : (w : Scene ReplicaValue) (n : ℕ) (r : ReplicaValue) → IsUpAs w n
 is_up w n r c = (r, (c.0, record { number = n; life = Up r }, (c.1, c.2), refl, refl))
 
 module _ (m : Meaning) (IsText : List ℕ → Type 0) (w : Scene ReplicaValue) (holds : Holds m IsText w) where
-  not_down : (n : ℕ) → IsUp w.seats n → IsDown w.seats n → ⊥
+  pub not_down : (n : ℕ) → IsUp w.seats n → IsDown w.seats n → ⊥
   not_down n up down =
       up_or_down up.0 down.0 (one_life m IsText w holds n (Up up.0) (Down down.0) (up_of w n up)
       (lives_of w n (Down down.0) down.1))

@@ -54,7 +54,7 @@ some_number m IsText w holds n r up =
     h.1.0
 
 -- whoever passes is listed
-all_above : (is : ℕ → Bool) (low : ℕ) (ns : List ℕ) (k : ℕ) → AreAllAbove is low ns → low < k → is k ≡ true
+pub all_above : (is : ℕ → Bool) (low : ℕ) (ns : List ℕ) (k : ℕ) → AreAllAbove is low ns → low < k → is k ≡ true
     → Contains ns k
 all_above is low [] k none above passes = absurd (cc (sym passes ∙ none k above))
 all_above is low (n ∷ ns) k all above passes =

@@ -6,3 +6,9 @@ pub mod Answers
 pub mod Contending
 pub mod Standing
 pub mod Fills
+pub mod Tellings
+pub mod Feeds
+pub mod Gaps
+pub mod Levels
+pub mod Restarts
+pub mod Heals

@@ -1,5 +1,6 @@
 // Events that go well, or tell why not.
 ghost use Rattle.std.specs.Prelude.{IfErr, OnOk};
+ghost use Rattle.lk_node_interface.specs.declared.nudge_reason.NudgeReason.TheVariants.{TicksWithheld as withheld};
 ghost use Rattle.lk_sim.specs.declared.event.Event.TheVariants as event;
 ghost use Rattle.lk_sim_nodes.specs.Seats.{IsUp};
 ghost use Rattle.lk_world_progress.specs.Stepping.{GoesWell};
@@ -7,6 +8,7 @@ ghost use Rattle.lk_healing.specs.Halts.{HaltsFor, MayBeTaken, NeedsRoomAlone};
 
 use crate::halt::Halt;
 use lk_memory_disk::MemoryDisk;
+use lk_node_interface::NudgeReason;
 use lk_replica::Replica;
 use lk_sim::{Event, Refused, World};
 use lk_state::Machine;
@@ -43,6 +45,19 @@ pub fn tick<M: Machine>(world: &mut World<Replica<M, MemoryDisk>>, node: NodeNo)
 {
     world.facts();
     carry_out(world, Event::Tick(node))
+}
+
+/// Nudges a node that is up, as one whose ticks are withheld.
+pub fn nudge<M: Machine>(
+    world: &mut World<Replica<M, MemoryDisk>>,
+    node: NodeNo,
+) -> Result<(), Halt>
+    requires up { IsUp world.old.seats node }
+    ensures ok { OnOk result (GoesWell M.meaning M.IsText world.old (event.Nudge node withheld) world.new) }
+    ensures err { IfErr result (λ h. HaltsFor h world.new) }
+{
+    world.facts();
+    carry_out(world, Event::Nudge(node, NudgeReason::TicksWithheld))
 }
 
 /// Delivers the datagram at this place to its node, which is up.

@@ -23,8 +23,8 @@ use lk_world_leftovers::laws::a_candidate_fills_in_a_world;
 use lk_world_progress::laws::a_due_tick_begins_a_ballot;
 use std::alloc::Global;
 
-// Appends a place.
-fn add_place(places: &mut Vec<usize>, place: usize) -> Result<(), NoMemory>
+/// Appends a place.
+pub fn add_place(places: &mut Vec<usize>, place: usize) -> Result<(), NoMemory>
     ensures { OnOk result (places.new.items ≡ places.old.items ++ place ∷ []) }
 {
     places.push(place)?;
