@@ -5,9 +5,9 @@ import sys
 TOP = os.path.dirname(os.path.dirname(os.path.abspath(__file__)))
 sys.path[:0] = [TOP, os.path.join(TOP, "clients", "python")]
 import locks_client  # noqa: E402
-from harness.cluster import Cluster, built, free_ports  # noqa: E402
+from harness.cluster import Cluster, built, free_ports, genesis_text  # noqa: E402
 
-__all__ = ["Cluster", "built", "free_ports", "locks_client"]
+__all__ = ["Cluster", "built", "free_ports", "genesis_text", "locks_client"]
 
 
 if __name__ == "__main__":

@@ -16,7 +16,7 @@ import time
 import urllib.error
 import urllib.request
 
-from cluster import TOP, free_ports, locks_client
+from cluster import TOP, free_ports, genesis_text, locks_client
 
 LOAD = pathlib.Path(TOP) / "bench" / "load"
 ZOOKEEPER = pathlib.Path("/usr/share/java/zookeeper.jar")
@@ -165,7 +165,7 @@ class Locks(System):
         return str(self.folder / "keys" / name)
 
     def words(self, node):
-        genesis = f"{self.cluster},{self.alpha}," + ",".join(f"{it}:{port}" for it, port in self.ports.items())
+        genesis = genesis_text(self.cluster, self.alpha, self.ports)
         place = ["--number", str(node), "--port", str(self.ports[node]), "--dir", str(self.folder / str(node))]
         keys = ["--key", self.key("nodes"), "--client-key", self.key("master")] if self.is_sealed else []
         return [self.program, "node", "--genesis", genesis, *place, *keys, *self.options]

@@ -3,7 +3,7 @@ import os
 import socket
 import subprocess
 
-from harness.cluster import free_ports
+from harness.cluster import free_ports, genesis_text
 
 
 PROBE = b"LP\1\x09"  # what a probe of form 1 begins with
@@ -30,7 +30,7 @@ class Node:
 
     def __init__(self, program, folder, alpha=1, address="127.0.0.1", ports=None):
         self.program, self.folder, self.address, self.ports = program, folder, address, ports or free_ports(3)
-        self.genesis = f"5,{alpha}," + ",".join(f"{node}:{port}" for node, port in enumerate(self.ports, 1))
+        self.genesis = genesis_text(5, alpha, dict(enumerate(self.ports, 1)))
         self.process, self.runs, self.words = None, [], ()
         self.socket, self.third = self.bound(self.ports[0]), self.bound(self.ports[2])
 

@@ -34,6 +34,12 @@ def free_ports(count):
     return list(found)
 
 
+def genesis_text(cluster, alpha, ports):
+    """The text of a genesis with these ports by node. An alpha above 16 is that of a wide one, and ends in a `w`."""
+    members = ",".join(f"{node}:{port}" for node, port in ports.items())
+    return f"{cluster},{alpha}{'w' * (alpha > 16)},{members}"
+
+
 class Cluster:
     """Processes of `locks node`, numbered from 1, whose stores stand in folders below the one that is given.
 
@@ -42,7 +48,7 @@ class Cluster:
     def __init__(self, program, folder, nodes=3, alpha=8, cluster=5, options=(), logs=False):
         self.program, self.folder, self.cluster, self.options, self.logs = program, folder, cluster, options, logs
         self.ports = dict(enumerate(free_ports(nodes), 1))
-        self.genesis = f"{cluster},{alpha}," + ",".join(f"{node}:{port}" for node, port in self.ports.items())
+        self.genesis = genesis_text(cluster, alpha, self.ports)
         self.processes = {}
 
     def __enter__(self):

@@ -23,7 +23,7 @@ KINDS = {
 }
 # A line of a script, and what it does. The words of the line fill the sentence.
 EVENTS = (
-    (r"genesis (\d+) (\d+) (.*)", "Cluster {0} begins with alpha {1} and the members {2}, each as node:port."),
+    (r"genesis (\d+) (\d+)w? (.*)", "Cluster {0} begins with alpha {1} and the members {2}, each as node:port."),
     (r"start (\d+)", "Node {0} starts on two empty disks."),
     (r"restart (\d+)", "Node {0} restarts on the disks that it left."),
     (r"tick (\d+)", "Some time passes at node {0}: one tick."),

@@ -77,7 +77,7 @@ above_rises low i vs e =
     (rising_filter (λ (w : Vote). nat_lt i w.position) low vs e) (above_is_above i vs)
 
 -- the votes from a position on that lie near it fit into a promise
-pub from_fits : (low i alpha : ℕ) (vs : List Vote) → 1 ≤ i → alpha ≤ 16 → are_votes_above low vs ≡ true
+pub from_fits : (low i alpha : ℕ) (vs : List Vote) → 1 ≤ i → alpha ≤ 32 → are_votes_above low vs ≡ true
     → ((v : Vote) → Contains vs v → v.position < i + 2 * alpha) → are_votes_from i (votes_from i vs) ≡ true
 from_fits low i alpha vs some small e near =
     let rise : are_votes_above (i - 1) (votes_from i vs) ≡ true =
@@ -86,7 +86,7 @@ from_fits low i alpha vs some small e near =
     let count : length (votes_from i vs) ≤ 2 * alpha =
     rising_count (i - 1) (2 * alpha) (votes_from i vs) rise
     (λ v h. let k = near v (filter_from (λ (w : Vote). nat_le i w.position) vs v h) in omega arith) in
-    and_from (leb (length (votes_from i vs)) 32) (are_votes_above (i - 1) (votes_from i vs))
+    and_from (leb (length (votes_from i vs)) 64) (are_votes_above (i - 1) (votes_from i vs))
     (le-leb _ _ (omega arith)) rise
 
 -- ---- the votes with one more

@@ -4,7 +4,7 @@ ghost use Rattle.std.specs.Prelude.{codes};
 ghost use Rattle.lk_command_line.specs.Arguments.{word_of, Names};
 
 use clap::ArgMatches;
-use lk_types::limits::MAX_ALPHA;
+use lk_word_parsers::alpha::read_alpha;
 use lk_word_parsers::member::{member_of, read_members};
 use lk_word_parsers::number::read_number;
 use lk_word_parsers::word::split_once;
@@ -104,13 +104,22 @@ fn wanted_members(words: &[u8]) -> &'static str {
     }
 }
 
+// Returns what an invalid alpha has to be.
+fn wanted_alpha(word: &[u8]) -> &'static str {
+    if word.contains(&b'w') {
+        "a wide ALPHA must be 1w to 32w"
+    } else {
+        "ALPHA must be 1 to 16"
+    }
+}
+
 // Returns what alpha or the members of an invalid genesis have to be. `words` is its text after the cluster.
 fn wanted_behind(words: &[u8]) -> &'static str {
     let Some((alpha, members)) = split_once(words, b',') else {
         return "must be CLUSTER,ALPHA,NODE:PORT,..";
     };
-    match read_number(alpha, u64::from(MAX_ALPHA)) {
-        None | Some(0) => "ALPHA must be 1 to 16",
+    match read_alpha(alpha) {
+        None => wanted_alpha(alpha),
         Some(_) => wanted_members(members),
     }
 }

@@ -18,17 +18,18 @@ use crate::received_promise::ReceivedPromise;
 use crate::waiting::Waiting;
 use arrayvec::ArrayVec;
 use lk_members::{Roster, is_majority};
+use lk_types::limits::MAX_WINDOW;
 use lk_types::{Command, Executed, Members, NoMemory, NodeNo, Position, RealBallot};
 use std::alloc::Global;
 use std::marker::Model;
 
 // A ballot in progress: the first promise of each node, and what was proposed at the positions of the window, of which
-// there are at most 16.
+// there are at most 32.
 #[derive(Drop)]
 pub(crate) struct Term {
     ballot: RealBallot,
     received: Vec<ReceivedPromise>,
-    proposals: ArrayVec<Proposal, 16>,
+    proposals: ArrayVec<Proposal, MAX_WINDOW>,
 }
 
 impl Model for Term {

@@ -181,11 +181,11 @@ impl<M: Machine> Learner<M> {
         Ok(Some(ran))
     }
 
-    /// Packs the state after the executed commands. It needs memory for the text, at most 42,087 bytes.
+    /// Packs the state after the executed commands. It needs memory for the text, at most 37,406 bytes.
     pub fn pack_now(&self) -> Result<BytesMut, NoMemory>
         ensures text { IfOk result (λ t. t.items ≡ packed self.now.whole) }
         ensures some { IfOk result (λ t. 1 ≤ length t.items) }
-        ensures room { IfOk result (λ t. length t.items ≤ 42087) }
+        ensures room { IfOk result (λ t. length t.items ≤ 37406) }
     {
         self.whole.facts();
         let mut text = BytesMut::new(self.alloc);

@@ -333,8 +333,8 @@ short bytes t =
     let some : length es ≤ 512 = subst (λ (n : ℕ). n ≤ 512) (map.len-entries t.0.names) t.1.0 in
     omega (arith, packed_length t.0.raised es some t.1.1, ap length t.2)
 
-pub at_most_36000 : (bytes : List ℕ) → IsTableText bytes → length bytes ≤ 36000
-at_most_36000 bytes t = omega (arith, short bytes t)
+pub at_most_30631 : (bytes : List ℕ) → IsTableText bytes → length bytes ≤ 30631
+at_most_30631 bytes t = omega (arith, short bytes t)
 
 -- ---- what keeps a table one
 

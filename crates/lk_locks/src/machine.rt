@@ -82,7 +82,7 @@ impl Machine for LockTable {
     ghost use Rattle.lk_locks.specs.Packed.{table_text, IsTableText};
     ghost use Rattle.lk_locks.specs.Meaning.{table_meaning};
     ghost use Rattle.lk_state.specs.Meanings.{Running};
-    ghost use Rattle.lk_locks.specs.PackedLaws.{empty_is_text, at_most_36000};
+    ghost use Rattle.lk_locks.specs.PackedLaws.{empty_is_text, at_most_30631};
     ghost use Rattle.lk_locks.specs.NextLaws.{next_is_text, answer_is_answer};
 
     ghost text = { table_text };
@@ -136,5 +136,5 @@ impl Machine for LockTable {
 
     ghost answer_is_answer = { answer_is_answer };
 
-    ghost short = { at_most_36000 };
+    ghost short = { at_most_30631 };
 }

@@ -73,9 +73,9 @@ KeepsOtherDisk old new result =
 
 -- ---- a rebase
 
--- bytes of a snapshot that leave room in a Base for a header, 32 votes and 32 pairs
+-- bytes of a snapshot that leave room in a Base for a header, 64 votes and 64 pairs
 abbrev pub max_snapshot : ℕ
-max_snapshot = 43230
+max_snapshot = 37406
 
 -- a standing that may be written: its snapshot leaves room in a Base for all votes and pairs, and these are few and in
 -- order

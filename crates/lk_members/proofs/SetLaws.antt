@@ -5,6 +5,7 @@ use Rattle.std.proofs.Common.{length-append}
 use Rattle.std.specs.List.{list_all, AllByRecursion}
 use Rattle.std.proofs.lemmas.Bool.{and_parts, and_from, cases_Bool, ltb-true, lt-ltb, leb-true, le-leb}
 use Rattle.std.proofs.lemmas.List.Folds.{list_all-append}
+use Rattle.lk_types.specs.Limits.{max_window}
 use Rattle.lk_types.specs.Ranges.{IsTotal, IsNode}
 use Rattle.lk_types.specs.Rosters.{members_rise, AreMembers}
 use Rattle.lk_members.specs.Rosters.{Member, greatest_node, others, is_nobody}
@@ -68,8 +69,8 @@ length-behind : {X : Type 0} (xs : List X) → length (drop 1 xs) ≤ length xs 
 length-behind [] = omega arith
 length-behind (x ∷ xs) = omega arith
 
-pub IsWindow-push : (sets : List (List Member)) (set : List Member) → length sets < 16 → IsWindow sets → IsSet set
-    → IsWindow (sets ++ set ∷ [])
+pub IsWindow-push : (sets : List (List Member)) (set : List Member) → length sets < max_window → IsWindow sets
+    → IsSet set → IsWindow (sets ++ set ∷ [])
 IsWindow-push sets set room h members =
     (simp length-append (omega arith), AllByRecursion-push IsSet sets set h.1 members)
 

@@ -1,6 +1,7 @@
 -- The sets of members of the next positions, the nearest first.
 use Rattle.std.specs.Prelude.{◌≡◌, ℕ, ◌-◌, ◌<◌, ◌≤◌, Bool, nat_le, List, [], length, slice_index_or}
 use Rattle.std.specs.List.{AllByRecursion, list_all}
+use Rattle.lk_types.specs.Limits.{max_window}
 use Rattle.lk_types.specs.Rosters.{AreMembers, IsMember}
 use Rattle.lk_types.specs.declared.member.Member.{Member}
 
@@ -8,9 +9,9 @@ use Rattle.lk_types.specs.declared.member.Member.{Member}
 abbrev pub IsSet : List Member → Type 0
 IsSet set = AreMembers set × AllByRecursion IsMember set
 
--- at most 16 sets
+-- at most 32 sets
 abbrev pub IsWindow : List (List Member) → Type 0
-IsWindow sets = (length sets ≤ 16) × AllByRecursion IsSet sets
+IsWindow sets = (length sets ≤ max_window) × AllByRecursion IsSet sets
 
 -- the set of the last position that the roster knows
 abbrev pub newest : List (List Member) → List Member

@@ -1,12 +1,14 @@
 ghost use Rattle.std.specs.Prelude.{◌≡◌, ◌+◌, ◌<◌, ◌≤◌, ◌↔◌, [], ◌∷◌, ◌++◌, length, drop, slice_get, nat_le, IsTrue};
 ghost use Rattle.std.specs.Prelude.{IsSome, IfSome};
 ghost use Rattle.std.specs.List.{list_all};
+ghost use Rattle.lk_types.specs.Limits.{max_window};
 ghost use Rattle.lk_members.specs.Rosters.{is_member as is_one};
 ghost use Rattle.lk_members.specs.Sets.{IsWindow, AreAlike, newest, are_at_most};
 ghost use Rattle.lk_members.specs.Ports.{is_named, port_of, IsNextAbove};
 
 use crate::set::{are_same, facts_of, is_member, lesser, next_above, port_in};
 use arrayvec::ArrayVec;
+use lk_types::limits::MAX_WINDOW;
 use lk_types::{Member, Members, NodeNo, Port};
 use std::marker::Model;
 
@@ -61,10 +63,10 @@ impl WindowSet {
     }
 }
 
-/// The sets of members of the next positions, the nearest first: at most 16. No call takes memory.
+/// The sets of members of the next positions, the nearest first: at most 32. No call takes memory.
 #[derive(Drop)]
 pub struct Window {
-    sets: ArrayVec<WindowSet, 16>,
+    sets: ArrayVec<WindowSet, MAX_WINDOW>,
     // all sets are the same
     is_alike: bool,
 }
@@ -184,7 +186,7 @@ impl Window {
 
     /// Appends the set of one more position, after the last.
     pub fn push(&mut self, set: Members)
-        requires { length self.old < 16 }
+        requires { length self.old < max_window }
         ensures { self.new ≡ self.old ++ set ∷ [] }
     {
         facts_of(&set);

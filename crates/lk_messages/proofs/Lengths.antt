@@ -71,14 +71,14 @@ flat_map_is_short s F most short (x ∷ xs) f =
 
 -- ---- messages
 
-pub few_votes : (first : ℕ) (vs : List Vote) → are_votes_from first vs ≡ true → length vs ≤ 32
+pub few_votes : (first : ℕ) (vs : List Vote) → are_votes_from first vs ≡ true → length vs ≤ 64
 few_votes first vs e = grind (arith, nat_tests)
 
 pub few_commands : (first : ℕ) (cs : List Command) → are_commands_from first cs ≡ true → length cs ≤ 16
 few_commands first cs e = grind (arith, nat_tests)
 
 votes_are_short : (first : ℕ) (vs : List Vote) → AllByRecursion IsVote vs → are_votes_from first vs ≡ true
-    → length (flat_map vote vs) ≤ 3104
+    → length (flat_map vote vs) ≤ 6208
 votes_are_short first vs f e = omega (arith, flat_map_is_short vote IsVote 97 vote_is_short vs f, few_votes first vs e)
 
 commands_are_short : (first : ℕ) (cs : List Command) → AllByRecursion IsCommand cs → are_commands_from first cs ≡ true
@@ -86,8 +86,8 @@ commands_are_short : (first : ℕ) (cs : List Command) → AllByRecursion IsComm
 commands_are_short first cs f e =
     omega (arith, flat_map_is_short command IsCommand 77 command_is_short cs f, few_commands first cs e)
 
--- thirty-two votes are the longest
-node_fields_are_short : (m : NodeMessage) → IsNodeMessage m → length (node_fields m) ≤ 3125
+-- sixty-four votes are the longest
+node_fields_are_short : (m : NodeMessage) → IsNodeMessage m → length (node_fields m) ≤ 6229
 node_fields_are_short (kinds.Prepare b first) f = simp (length-append, length-four, length-eight) (omega arith)
 node_fields_are_short (kinds.Promise p) f =
     simp (length-append, length-four, length-eight) (omega (arith, votes_are_short p.first p.votes f.2 f.3))
@@ -107,14 +107,14 @@ node_fields_are_short (kinds.Elsewhere e) f = simp (length-append, length-two, l
 node_fields_are_short (kinds.Passed p) f = simp (length-append, length-two, length-eight) (omega arith)
 node_fields_are_short (kinds.Lead b executed) f = simp (length-append, length-four, length-eight) (omega arith)
 
-fields_are_short : (c : Content) → IsContent c → length (fields c) ≤ 3125
+fields_are_short : (c : Content) → IsContent c → length (fields c) ≤ 6229
 fields_are_short (content.Request r) f = omega (arith, request_is_short r f)
 fields_are_short (content.Node node m) f = node_fields_are_short m f.1
 
 length-header : (k cluster from : ℕ) → length (header k cluster from) ≡ 16
 length-header k cluster from = simp (length-append, length-four, length-eight)
 
-pub message_is_short : (m : Message) → IsMessage m → length (spelling m) ≤ 3141
+pub message_is_short : (m : Message) → IsMessage m → length (spelling m) ≤ 6245
 message_is_short m f = omega (
   arith,
   length-append (header (kind m.content) m.cluster (sender m.content)) (fields m.content),

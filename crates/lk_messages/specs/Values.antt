@@ -16,7 +16,7 @@ pub record PromiseValue : Type 0 where
   pub first : ℕ
   pub votes : List Vote
 
--- at most 32 votes, strictly rising by position, all at first or above
+-- at most 64 votes, strictly rising by position, all at first or above
 abbrev pub are_votes_from : ℕ → List Vote → Bool
 are_votes_from first vs = nat_le (length vs) max_votes && are_votes_above (first - 1) vs
 

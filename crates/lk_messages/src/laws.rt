@@ -28,12 +28,12 @@ pub fn prefix_free()
         → (m ≡ n) × (rest ≡ []) }
 {}
 
-/// Upper bounds of spellings, in bytes. That of a datagram is the length of a Promise with 32 of the longest votes.
+/// Upper bounds of spellings, in bytes. That of a datagram is the length of a Promise with 64 of the longest votes.
 pub fn lengths()
     ensures of_request { (r : Request) → IsRequest r → length (request r) ≤ 76 }
     ensures of_command { (c : Command) → IsCommand c → length (command c) ≤ 77 }
     ensures of_vote { (v : Vote) → IsVote v → length (vote v) ≤ 97 }
     ensures of_pair { (p : ℕ × Command) → IsCommand p.1 → length (pair p) ≤ 85 }
     ensures of_answer { (a : Answer) → length (answer a) ≤ 11 }
-    ensures of_datagram { (m : Message) → IsMessage m → length (spelling m) ≤ 3141 }
+    ensures of_datagram { (m : Message) → IsMessage m → length (spelling m) ≤ 6245 }
 {}

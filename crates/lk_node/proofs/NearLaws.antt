@@ -94,7 +94,7 @@ same_above low (p ∷ ps) = ap (λ (t : Bool). ltb low p.0 && t) (same_above p.0
 -- what a node holds above what it has executed fits into a Base
 pub may_begin : (node : NodeValue) → IsAcceptor node.acceptor → IsLearner node.learner
     → AreNear node.acceptor node.learner → 1 ≤ length (packed node.learner.whole)
-    → length (packed node.learner.whole) ≤ 42087
+    → length (packed node.learner.whole) ≤ 37406
     → FitsBase (standing_of node)
 may_begin node a l n some room = record {
   some = some;

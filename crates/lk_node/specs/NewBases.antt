@@ -1,4 +1,5 @@
 -- What a node writes as the Base of another file.
+use Rattle.std.specs.Prelude.{ℕ, ◌+◌, ◌*◌, ◌≤◌, max}
 use Rattle.lk_store_format.specs.Values.{StandingValue}
 use Rattle.lk_state.specs.Packed.{packed}
 use Rattle.lk_acceptor.specs.States.{without_votes_to, with_state}
@@ -23,3 +24,12 @@ with_snapshot node = record node {
   acceptor = with_state node.acceptor (without_votes_to node.acceptor.state (executed node.learner));
   learner = learners.with_snapshot node.learner;
 }
+
+-- so many positions are executed between two snapshots: 16 times alpha, or 256 if that is more
+abbrev pub snapshot_span : ℕ → ℕ
+snapshot_span alpha = max (16 * alpha) 256
+
+-- so many are executed above its snapshot
+abbrev pub IsSnapshotOld : NodeValue → Type 0
+IsSnapshotOld node =
+    node.acceptor.state.snapshot_position + snapshot_span node.header.alpha ≤ executed node.learner

@@ -1,9 +1,8 @@
 // What a node writes as the Base of the other file, and how it then drops what the Base's snapshot replaces.
-ghost use Rattle.std.specs.Prelude.{◌≡◌, ◌+◌, ◌≤◌, ◌↔◌, IsTrue, IfOk};
-ghost use Rattle.lk_learner.specs.Learners.{executed};
+ghost use Rattle.std.specs.Prelude.{◌≡◌, ◌↔◌, IsTrue, IfOk};
 ghost use Rattle.lk_log.specs.Stores.{FitsBase};
 ghost use Rattle.lk_state.specs.Packed.{packed};
-ghost use Rattle.lk_node.specs.NewBases.{standing_of, with_snapshot};
+ghost use Rattle.lk_node.specs.NewBases.{standing_of, with_snapshot, IsSnapshotOld};
 ghost use Rattle.lk_node.specs.Reaching.{HoldsNear};
 
 use crate::node::Node;
@@ -36,12 +35,14 @@ impl<M: Machine> Node<M> {
         })
     }
 
-    /// Whether 256 positions or more are executed above the snapshot, so that a rebase is due.
+    /// Whether so many positions are executed above the snapshot that a rebase is due: 256, or 16 times alpha if that
+    /// is more.
     pub fn is_snapshot_old(&self) -> bool
-        ensures { IsTrue result ↔ (self.now.acceptor.state.snapshot_position + 256 ≤ executed self.now.learner) }
+        ensures { IsTrue result ↔ IsSnapshotOld self.now }
     {
         let snapshot = self.acceptor.snapshot_position().get();
-        self.learner.whole().executed().get() >= snapshot + 256
+        let span = 16 * u64::from(self.header.genesis().alpha);
+        self.learner.whole().executed().get() >= snapshot + span.max(256)
     }
 
     /// Replaces the votes and commands of executed positions by a snapshot of the state, of this packed text. Call it

@@ -104,10 +104,12 @@ fn write_damage<D: LogDisk, E: Write>(alloc: Global, device: &mut D, folder: &st
     write_advice(folder, err);
 }
 
-// Writes a genesis as `--genesis` takes it: CLUSTER,ALPHA,NODE:PORT,...
+// Writes a genesis as `--genesis` takes it: CLUSTER,ALPHA,NODE:PORT,.., with a `w` behind the alpha of a wide
+// one.
 fn write_genesis<E: Write>(header: &Header, err: &mut E) -> io::Result<()> {
     let genesis = header.genesis();
-    write!(err, "{},{}", genesis.cluster, genesis.alpha)?;
+    let width = if genesis.is_wide() { "w" } else { "" };
+    write!(err, "{},{}{}", genesis.cluster, genesis.alpha, width)?;
     for member in genesis.members.as_slice() {
         write!(err, ",{}:{}", member.node.get(), member.port.get())?;
     }

@@ -14,6 +14,7 @@ use Rattle.lk_log.specs.declared.fault.StoreFault.TheVariants as store
 use Rattle.lk_log.specs.declared.fault.OpenFault.{OpenFault}
 use Rattle.lk_log.specs.declared.fault.OpenFault.TheVariants as opening
 use Rattle.lk_learner.specs.Learners.{executed}
+use Rattle.lk_node.specs.NewBases.{snapshot_span}
 use Rattle.lk_node.specs.NodeValue.{NodeValue}
 use Rattle.lk_recovery.specs.Compacting.{AreSame, AreLeft, IsDue, IsSameStore, KeepsOrSwitchesFiles, RebasesWhereDue}
 use Rattle.lk_node_interface.specs.Faults.{IsStoreFault, fault_number, fault_of, open_fault, IfSpared}
@@ -112,14 +113,23 @@ same_files old new same s i = pick (same.live i) (same.live_disk i) (same.other_
 pub then_same : (old mid new : Side → Disk) → AreSame old mid → AreSame mid new → AreSame old new
 then_same old mid new a b s = b s ∙ a s
 
+not_both : (m n : ℕ) → m < n → n ≤ m → ⊥
+not_both m n less least = omega (arith, less, least)
+
 either_due : (node : NodeValue) (store : StoreValue) → IsDue node store ⊎ (IsDue node store → ⊥)
-either_due node store = elim (cases_lt (length (contents store.live_disk)) 131072) [
-  | inl short ↦ elim (cases_lt (executed node.learner) (node.acceptor.state.snapshot_position + 256)) [
-    | inl near ↦ inr (λ due. elim due [ inl long ↦ omega (arith, short, long) | inr far ↦ omega (arith, near, far) ])
-    | inr far ↦ inl (inr far)
-  ]
-  | inr long ↦ inl (inl long)
-]
+either_due node store =
+    let old = node.acceptor.state.snapshot_position + snapshot_span node.header.alpha in
+    let long = length (contents store.live_disk) in
+    elim (cases_lt long 131072) [
+      | inl short ↦ elim (cases_lt (executed node.learner) old) [
+        | inl near ↦ inr (λ due. elim due [
+          | inl most ↦ not_both long 131072 short most
+          | inr far ↦ not_both (executed node.learner) old near far
+        ])
+        | inr far ↦ inl (inr far)
+      ]
+      | inr most ↦ inl (inl most)
+    ]
 
 -- a refusal after what was due was done
 pub left_after : (node mid : NodeValue) (old between new : StoreValue) → RebasesWhereDue node old mid between

@@ -11,7 +11,7 @@ use Rattle.lk_log.specs.StoreValue.{StoreValue, disks}
 use Rattle.lk_log.specs.Stores.{HoldsEntries, KeepsItsFile, next_base}
 use Rattle.lk_learner.specs.Learners.{executed}
 use Rattle.lk_node.specs.NodeValue.{NodeValue}
-use Rattle.lk_node.specs.NewBases.{standing_of, with_snapshot}
+use Rattle.lk_node.specs.NewBases.{standing_of, with_snapshot, IsSnapshotOld}
 use Rattle.lk_state.specs.Meanings.{Meaning}
 use Rattle.lk_node.specs.Histories.{Genesis, Command}
 use Rattle.lk_node.specs.Leavings.{header_of, StandsAs}
@@ -24,10 +24,10 @@ AllStandAt m genesis n disks position done = (image : Image) → MayLeaveBoth di
     → (s : StandingValue) × StandsAs (header_of genesis n) (text m genesis []) image s × (s.position ≡ position)
     × (length done ≡ s.position) × (s.snapshot ≡ text m genesis done)
 
--- the live file has grown to half of its maximum, or 256 positions are executed above the snapshot
+-- the live file has grown to half of its maximum, or so many positions are executed above the snapshot
 abbrev pub IsDue : NodeValue → StoreValue → Type 0
 IsDue node store =
-    (131072 ≤ length (contents store.live_disk)) ⊎ (node.acceptor.state.snapshot_position + 256 ≤ executed node.learner)
+    (131072 ≤ length (contents store.live_disk)) ⊎ IsSnapshotOld node
 
 -- the store has the same files and knows the same of them
 pub record IsSameStore (old new : StoreValue) : Type 0 where

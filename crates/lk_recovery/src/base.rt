@@ -53,8 +53,8 @@ pub fn write_base<M: Machine, D: LogDisk + Drop>(
     Ok(())
 }
 
-/// Returns whether a rebase is due: the live file has 131,072 bytes, half of its maximum, or more, or 256 positions are
-/// executed above the snapshot.
+/// Returns whether a rebase is due: the live file has 131,072 bytes, half of its maximum, or more, or so many
+/// positions are executed above the snapshot: 256, or 16 times alpha if that is more.
 pub fn is_rebase_due<M: Machine, D: LogDisk + Drop>(
     node: &Node<M>,
     store: &mut Store<D>,

@@ -38,7 +38,7 @@ use std::alloc::Global;
 fn zero_text<M: Machine>(alloc: Global, genesis: &Genesis) -> Result<BytesMut, NoMemory>
     ensures text { IfOk result (λ t. t.items ≡ text M.meaning genesis.now []) }
     ensures some { IfOk result (λ t. 1 ≤ length t.items) }
-    ensures room { IfOk result (λ t. length t.items ≤ 42087) }
+    ensures room { IfOk result (λ t. length t.items ≤ 37406) }
 {
     let whole: Whole<M> = Whole::begin(alloc, genesis);
     whole.facts();

@@ -58,7 +58,7 @@ length-set set h =
     length-pieces IsMember member 6 (λ m _. omega (arith, length-member m)) set h.1 in
     omega (arith, length-append (one (length set)) (flat_map member set))
 
-length-roster : (r : RosterValue) → IsRoster r → length (roster_text r) ≤ 709
+length-roster : (r : RosterValue) → IsRoster r → length (roster_text r) ≤ 1397
 length-roster r h =
     let few = h.sets.0 in
     let pieces : length (flat_map members r.sets) ≤ length r.sets * 43 =
@@ -81,9 +81,9 @@ length-sessions l h =
     length-pieces IsSession session_text 21 (λ s _. length-session s) l h.0 in
     omega (arith, length-append (two (length l)) (flat_map session_text l), length-two (length l))
 
--- so it has at most 42,087 bytes, of which the machine's are 36,000
-pub length-packed : (IsText : List ℕ → Type 0) → ((t : List ℕ) → IsText t → length t ≤ 36000) → (w : WholeValue)
-    → IsWhole IsText w → length (packed w) ≤ 42087
+-- so it has at most 37,406 bytes, of which the machine's are 30,631
+pub length-packed : (IsText : List ℕ → Type 0) → ((t : List ℕ) → IsText t → length t ≤ 30631) → (w : WholeValue)
+    → IsWhole IsText w → length (packed w) ≤ 37406
 length-packed IsText short w h =
     omega (
       arith,

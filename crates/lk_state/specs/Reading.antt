@@ -1,5 +1,6 @@
 -- Reading the start of a packed state: everything before the machine's text.
 use Rattle.std.specs.Prelude.{ℕ, nat_le, List, Option}
+use Rattle.lk_types.specs.Limits.{max_wide_alpha}
 use Rattle.lk_types.specs.declared.member.Member.{Member}
 use Rattle.lk_codec.specs.Parser.{read_byte, both, made, tested, counted}
 use Rattle.lk_codec.specs.FieldReading.{is_from_1_to, read_two, read_node, read_client, read_count, read_total}
@@ -9,7 +10,7 @@ use Rattle.lk_members.specs.Windows.{RosterValue}
 use Rattle.lk_state.specs.Sessions.{Session, are_sessions_above}
 
 unfoldable pub read_sets : List ℕ → Option (List (List Member) × List ℕ)
-read_sets = counted (tested (is_from_1_to 16) read_byte) read_members
+read_sets = counted (tested (is_from_1_to max_wide_alpha) read_byte) read_members
 
 unfoldable pub read_roster : List ℕ → Option (RosterValue × List ℕ)
 read_roster =

@@ -111,6 +111,6 @@ pub trait Machine: Sized + Drop {
     ghost answer_is_answer: { (client : ℕ) (task : Task) (before : List ℕ) → IsClient client → IsText before
         → IsAnswer (meaning.answer client task before) };
 
-    // a packed text has at most 36,000 bytes
+    // a packed text has at most 30,631 bytes
     ghost short: { (bytes : List ℕ) → IsText bytes → length bytes ≤ max_machine };
 }

@@ -65,12 +65,12 @@ fn put_sessions(out: &mut BytesMut, sessions: &[Session]) -> Result<(), AllocErr
 }
 
 impl<M: Machine> Whole<M> {
-    /// Shows the prover that each part is in its range, and that the packed text has 1 to 42,087 bytes. Does nothing at
+    /// Shows the prover that each part is in its range, and that the packed text has 1 to 37,406 bytes. Does nothing at
     /// run time.
     pub fn facts(&self)
         ensures fits { IsWhole M.IsText self.now }
         ensures some { 1 ≤ length (packed self.now) }
-        ensures short { length (packed self.now) ≤ 42087 }
+        ensures short { length (packed self.now) ≤ 37406 }
     {
         let _ = &self.roster;
     }

@@ -1,7 +1,7 @@
 //! Unpacks a state: the roster, the sessions, and the machine's text up to the last byte.
 
 ghost use Rattle.std.specs.Prelude.{◌≡◌, ◌<◌, ◌≤◌, length, IfSome};
-ghost use Rattle.lk_types.specs.Limits.{max_alpha, max_client};
+ghost use Rattle.lk_types.specs.Limits.{max_wide_alpha, max_client};
 ghost use Rattle.lk_codec.specs.Parser.{Finds, many};
 ghost use Rattle.lk_codec.specs.FieldReading.{read_members};
 ghost use Rattle.lk_state.specs.Reading.{read_sets, read_roster, read_session, read_sessions, read_front};
@@ -15,12 +15,12 @@ use lk_codec::{
     read_u16,
 };
 use lk_members::{Roster, Window};
-use lk_types::limits::{MAX_ALPHA, MAX_CLIENT};
+use lk_types::limits::{MAX_CLIENT, MAX_WIDE_ALPHA};
 use std::alloc::Global;
 
 // Reads this many sets of members, one after the other.
 fn many_sets(count: u8, bytes: &[u8]) -> Option<(Window, &[u8])>
-    requires { count ≤ max_alpha }
+    requires { count ≤ max_wide_alpha }
     ensures read { Finds (λ x. (x.0, x.1.now)) result (many read_members count bytes.now) }
     ensures count { IfSome result (λ x. length x.0 ≡ count) }
 {
@@ -36,14 +36,14 @@ fn many_sets(count: u8, bytes: &[u8]) -> Option<(Window, &[u8])>
     Some((window, rest))
 }
 
-// Reads how many sets there are, 1 to 16, and then each.
+// Reads how many sets there are, 1 to 32, and then each.
 #[tactic(auto, unfolding(crate::specs::Reading::read_sets))]
 fn read_window(bytes: &[u8]) -> Option<(Window, &[u8])>
     ensures read { Finds (λ x. (x.0, x.1.now)) result (read_sets bytes.now) }
     ensures some { IfSome result (λ x. 0 < length x.0) }
 {
     let (count, rest) = read_u8(bytes)?;
-    if count < 1 || count > MAX_ALPHA {
+    if count < 1 || count > MAX_WIDE_ALPHA {
         return None;
     }
     many_sets(count, rest)

@@ -45,7 +45,7 @@ use Rattle.lk_store_format.specs.declared.stored.Stored.TheVariants.{Base, Plain
 
 alpha_reads : Reads read_alpha one IsAlpha
 unfolding read_alpha
-alpha_reads = ranged_reads 16 256 (omega arith) read_byte one byte_reads
+alpha_reads = ranged_reads 32 256 (omega arith) read_byte one byte_reads
 
 AreAll : List Member → Type 0
 AreAll ms = AreMembers ms × AllByRecursion IsMember ms
@@ -75,23 +75,23 @@ unfolding read_snapshot
 snapshot_reads = sized_reads (tested (is_from_1_to 49152) read_four) four (λ n. (1 ≤ n) × (n ≤ 49152))
     (ranged_reads 49152 (2 ^ 32) (omega arith) read_four four four_reads)
 
-few_reads : Reads read_few two (λ n. n ≤ 32)
+few_reads : Reads read_few two (λ n. n ≤ 64)
 unfolding read_few
-few_reads = limited_reads 32 (2 ^ 16) (omega arith) read_two two two_reads
+few_reads = limited_reads 64 (2 ^ 16) (omega arith) read_two two two_reads
 
 AreVotes : List VoteValue → Type 0
-AreVotes vs = (length vs ≤ 32) × AllByRecursion IsVote vs
+AreVotes vs = (length vs ≤ 64) × AllByRecursion IsVote vs
 
 ArePairs : List (ℕ × Command) → Type 0
-ArePairs ps = (length ps ≤ 32) × AllByRecursion IsPair ps
+ArePairs ps = (length ps ≤ 64) × AllByRecursion IsPair ps
 
 votes_reads : Reads read_votes votes AreVotes
 unfolding read_votes AreVotes
-votes_reads = counted_reads read_few two (λ n. n ≤ 32) few_reads read_vote vote IsVote vote_reads
+votes_reads = counted_reads read_few two (λ n. n ≤ 64) few_reads read_vote vote IsVote vote_reads
 
 pairs_reads : Reads read_pairs pairs ArePairs
 unfolding read_pairs ArePairs
-pairs_reads = counted_reads read_few two (λ n. n ≤ 32) few_reads read_pair pair IsPair pair_reads
+pairs_reads = counted_reads read_few two (λ n. n ≤ 64) few_reads read_pair pair IsPair pair_reads
 
 standing_of : BallotValue × (ℕ × (List ℕ × (List VoteValue × List (ℕ × Command)))) → StandingValue
 standing_of s = record { promised = s.0; position = s.1.0; snapshot = s.1.1.0; votes = s.1.1.1.0; pairs = s.1.1.1.1 }

@@ -78,7 +78,7 @@ abbrev pub are_pairs_above : ℕ → List (ℕ × Command) → Bool
 are_pairs_above low [] = true
 are_pairs_above low (p ∷ ps) = nat_lt low p.0 && are_pairs_above p.0 ps
 
--- a snapshot, and above it at most 32 votes and at most 32 pairs, each strictly rising by position
+-- a snapshot, and above it at most 64 votes and at most 64 pairs, each strictly rising by position
 abbrev pub IsStanding : StandingValue → Type 0
 IsStanding s = IsBallot s.promised × IsTotal s.position
     × (1 ≤ length s.snapshot) × (length s.snapshot ≤ max_base)

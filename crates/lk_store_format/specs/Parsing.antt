@@ -1,6 +1,6 @@
 -- Reading the entries of a file from the start of a list.
 use Rattle.std.specs.Prelude.{◌≡◌, ℕ, Bool, List, Option, Some, None, Result, Ok, Err, nat_le, ◌&&◌, ◌-◌}
-use Rattle.lk_types.specs.Limits.{max_votes, max_base}
+use Rattle.lk_types.specs.Limits.{max_wide_alpha, max_votes, max_base}
 use Rattle.lk_types.specs.declared.command.Command.{Command}
 use Rattle.lk_types.specs.declared.entry.Entry.TheVariants.{Promise, Vote, Decided}
 use Rattle.lk_types.specs.declared.vote.Vote.{Vote as VoteValue}
@@ -26,7 +26,7 @@ Gives shown (Ok x) read = read ≡ Some (shown x)
 Gives shown (Err e) read = Fails e read
 
 unfoldable pub read_alpha : List ℕ → Option (ℕ × List ℕ)
-read_alpha = tested (is_from_1_to 16) read_byte
+read_alpha = tested (is_from_1_to max_wide_alpha) read_byte
 
 unfoldable pub read_format : List ℕ → Option (ℕ × List ℕ)
 read_format = tested (is_from_1_to 2) read_byte

@@ -21,7 +21,7 @@ use lk_codec::{
     read_any_ballot, read_ballot, read_command, read_executed, read_members, read_node,
     read_position, read_u8, read_u16, read_u32, read_u64, read_vote,
 };
-use lk_types::limits::{MAX_BASE, MAX_VOTES};
+use lk_types::limits::{MAX_BASE, MAX_VOTES, MAX_WIDE_ALPHA};
 use lk_types::{Command, Entry, Genesis, Position, Vote};
 use std::alloc::Global;
 
@@ -31,7 +31,7 @@ fn read_alpha(bytes: &[u8]) -> Option<(u8, &[u8])>
     ensures in_range { IfSome result (λ x. IsAlpha x.0) }
 {
     let (alpha, rest) = read_u8(bytes)?;
-    if alpha < 1 || alpha > 16 {
+    if alpha < 1 || alpha > MAX_WIDE_ALPHA {
         return None;
     }
     Some((alpha, rest))
@@ -84,7 +84,7 @@ fn read_snapshot(alloc: Global, bytes: &[u8]) -> Result<(Vec<u8>, &[u8]), EntryF
     Ok((text.to_vec(alloc)?, rest))
 }
 
-// Reads the length of a list of votes or pairs: 0 to 32.
+// Reads the length of a list of votes or pairs: 0 to 64.
 #[tactic(auto, unfolding(crate::specs::Parsing::read_few))]
 fn read_few(bytes: &[u8]) -> Option<(u16, &[u8])>
     ensures { Finds (λ x. (x.0, x.1.now)) result (read_few bytes.now) }

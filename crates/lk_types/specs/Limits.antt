@@ -17,9 +17,17 @@ max_client = 256
 abbrev pub max_port : ℕ
 max_port = 65535
 
--- how many positions ahead the members are known
+-- how many positions ahead the members are known, unless the genesis is wide
 abbrev pub max_alpha : ℕ
 max_alpha = 16
+
+-- and if it is
+abbrev pub max_wide_alpha : ℕ
+max_wide_alpha = 32
+
+-- positions whose members are known
+abbrev pub max_window : ℕ
+max_window = max_wide_alpha
 
 -- members of a position
 abbrev pub max_members : ℕ
@@ -43,11 +51,11 @@ max_name = 32
 
 -- votes, or decided commands, above a snapshot
 abbrev pub max_votes : ℕ
-max_votes = 2 * max_alpha
+max_votes = 2 * max_window
 
 -- commands of one Decided
 abbrev pub max_commands : ℕ
-max_commands = max_alpha
+max_commands = 16
 
 -- bytes of a snapshot in one Part
 abbrev pub max_part : ℕ
@@ -59,7 +67,7 @@ max_datagram = 8192
 
 -- bytes of a packed machine
 abbrev pub max_machine : ℕ
-max_machine = 36000
+max_machine = 30631
 
 -- bytes of a Base including its length field, and so of the snapshot in it
 abbrev pub max_base : ℕ

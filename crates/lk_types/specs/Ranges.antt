@@ -1,6 +1,7 @@
 -- The ranges of numbers: of nodes, clients, ports, positions, fences and alpha.
 use Rattle.std.specs.Prelude.{ℕ, ◌≤◌}
-use Rattle.lk_types.specs.Limits.{max_count, max_node, max_client, max_port, max_alpha, max_sharers}
+use Rattle.lk_types.specs.Limits.{max_count, max_node, max_client, max_port, max_wide_alpha}
+use Rattle.lk_types.specs.Limits.{max_sharers}
 
 -- a node's number: 1 to 2^31
 abbrev pub IsNode : ℕ → Type 0
@@ -26,6 +27,6 @@ IsTotal n = n ≤ max_count
 abbrev pub IsSharerCount : ℕ → Type 0
 IsSharerCount n = (1 ≤ n) × (n ≤ max_sharers)
 
--- how many positions ahead the members are known: 1 to 16
+-- how many positions ahead the members are known: 1 to 32
 abbrev pub IsAlpha : ℕ → Type 0
-IsAlpha n = (1 ≤ n) × (n ≤ max_alpha)
+IsAlpha n = (1 ≤ n) × (n ≤ max_wide_alpha)

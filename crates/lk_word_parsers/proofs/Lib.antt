@@ -1,4 +1,5 @@
 pub mod Splits
+pub mod AlphaWords
 pub mod MemberWords
 mod Numerals
 mod GenesisWords

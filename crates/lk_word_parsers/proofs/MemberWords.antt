@@ -7,7 +7,7 @@ use Rattle.std.proofs.lemmas.Fmt.{decimal_injective}
 use Rattle.std.proofs.lemmas.List.{length-append}
 use Rattle.std.proofs.lemmas.List.Folds.{list_any-append}
 use Rattle.std.proofs.lemmas.Grind.{common_steps}
-use Rattle.lk_types.specs.Genesis.{genesis_fault}
+use Rattle.lk_types.specs.Genesis.{fault_up_to}
 use Rattle.lk_types.specs.declared.member.Member.{Member}
 use Rattle.lk_word_parsers.specs.Words.{HasNo}
 use Rattle.lk_word_parsers.specs.Geneses.{IsMemberWord, SpellsMembers}
@@ -15,8 +15,8 @@ use Rattle.lk_word_parsers.specs.Geneses.SpellsMembers.{one, more}
 use Rattle.lk_word_parsers.proofs.Splits.{one_parting, has_sign, number_has_no, number_has_no_colon}
 
 -- a genesis that is not refused has at most seven members
-pub at_most_seven : (alpha : ℕ) (ms : List Member) → genesis_fault alpha ms ≡ None → length ms ≤ 7
-at_most_seven alpha ms fine = grind (arith, common_steps, fine)
+pub at_most_seven : (most alpha : ℕ) (ms : List Member) → fault_up_to most alpha ms ≡ None → length ms ≤ 7
+at_most_seven most alpha ms fine = grind (arith, common_steps, fine)
 
 abbrev member : ℕ → ℕ → Member
 member node port = record { node = node; port = port }

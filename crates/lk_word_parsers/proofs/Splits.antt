@@ -68,6 +68,12 @@ number_has_no_colon = decimal_by_steps (λ _ ds. HasNo 58 ds)
     (λ n small. last 58 [] (48 + n) (grind (arith, common_steps)) refl)
     (λ n ds large h. last 58 ds (48 + n % 10) (grind (arith, common_steps)) h)
 
+-- nor a `w`
+pub number_has_no_w : (n : ℕ) → n < 2 ^ 64 → HasNo 119 (decimal n)
+number_has_no_w = decimal_by_steps (λ _ ds. HasNo 119 ds)
+    (λ n small. last 119 [] (48 + n) (grind (arith, common_steps)) refl)
+    (λ n ds large h. last 119 ds (48 + n % 10) (grind (arith, common_steps)) h)
+
 -- two numbers with a space after them, in front of the same text, are one
 pub one_number_behind : (text : List ℕ) (m n : ℕ) (a b : List ℕ) → m < 2 ^ 64 → n < 2 ^ 64 → text ≡ decimal m ++ 32 ∷ a
     → text ≡ decimal n ++ 32 ∷ b → (m ≡ n) × (a ≡ b)

@@ -2,6 +2,7 @@
 //! operation.
 #![tactic(auto)]
 
+pub mod alpha;
 pub mod command_line;
 pub mod genesis;
 pub mod member;

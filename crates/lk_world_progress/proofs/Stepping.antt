@@ -1,7 +1,7 @@
 -- An event that goes well is a step of its node.
 use Rattle.std.proofs.Common.{◌≡◌, ◌∙◌, ◌⊎◌, inl, inr, ℕ, ◌+◌, ◌<◌, ◌++◌, List, [], Some, None, Contains, length, set}
 use Rattle.std.specs.Prelude.{⊤}
-use Rattle.std.proofs.Common.{refl, ap, sym, subst, arith}
+use Rattle.std.proofs.Common.{◌≤◌, refl, ap, sym, subst, arith}
 use Rattle.std.proofs.lemmas.Bool.{cases_lt}
 use Rattle.std.proofs.lemmas.List.{get_or-set_other, length-set}
 use Rattle.std.proofs.lemmas.Grind.{get_or-set_at}
@@ -21,7 +21,7 @@ use Rattle.lk_node.specs.Holdings.{Holding}
 use Rattle.lk_node.specs.Keeping.{ReplicaHolds}
 use Rattle.lk_node.specs.Leavings.{header_of}
 use Rattle.lk_learner.specs.Learners.{executed}
-use Rattle.lk_node.specs.NewBases.{with_snapshot}
+use Rattle.lk_node.specs.NewBases.{snapshot_span, with_snapshot}
 use Rattle.lk_node.specs.NodeValue.{NodeValue}
 use Rattle.lk_recovery.specs.Compacting.{IsDue}
 use Rattle.lk_replica.specs.Behaviours.{Behaviour, disks_by}
@@ -129,14 +129,22 @@ module _ (m : Meaning) (IsText : List ℕ → Type 0) (w : Scene ReplicaValue) (
 
 -- ---- what a step finds
 
+not_both : (m n : ℕ) → m < n → n ≤ m → ⊥
+not_both m n less least = omega (arith, less, least)
+
 due_or_not : (r : ReplicaValue) → IsDue r.node r.store ⊎ (IsDue r.node r.store → ⊥)
 due_or_not r =
-    elim (cases_lt (length (contents r.store.live_disk)) 131072) [
-      | inl short ↦ elim (cases_lt (executed r.node.learner) (r.node.acceptor.state.snapshot_position + 256)) [
-        | inl few ↦ inr (λ d. elim d [ inl long ↦ omega (arith, short, long) | inr many ↦ omega (arith, few, many) ])
+    let old = r.node.acceptor.state.snapshot_position + snapshot_span r.node.header.alpha in
+    let long = length (contents r.store.live_disk) in
+    elim (cases_lt long 131072) [
+      | inl short ↦ elim (cases_lt (executed r.node.learner) old) [
+        | inl few ↦ inr (λ d. elim d [
+          | inl most ↦ not_both long 131072 short most
+          | inr many ↦ not_both (executed r.node.learner) old few many
+        ])
         | inr many ↦ inl (inr many)
       ]
-      | inr long ↦ inl (inl long)
+      | inr most ↦ inl (inl most)
     ]
 
 pub found_is : (r : ReplicaValue) (node : NodeValue) → IsFound r node

@@ -1,5 +1,5 @@
 use Rattle.std.proofs.Common.{rules, ◌≡◌, ◌∙◌, ℕ, List, Some, None, refl, sym, ap, subst, arith}
-use Rattle.lk_types.specs.Genesis.{genesis_fault}
+use Rattle.lk_types.specs.Genesis.{wide_fault}
 use Rattle.lk_types.specs.declared.member.Member.{Member}
 use Rattle.lk_word_parsers.specs.Geneses.{SpellsMembers}
 use Rattle.lk_word_parsers.proofs.MemberWords.{members_once, at_most_seven}
@@ -15,7 +15,7 @@ returns-in_err-members-clause-none c = λ _ cluster alpha ms spelled fine.
     let same = numbers_once c.args.words.now c.in_ok-cluster.cluster c.in_ok-cluster.alpha c.in_ok-cluster.words.now
     c.in_ok-cluster.ensures.some cluster alpha ms spelled in
     c.in_err-members.ensures.none refl ms
-    (subst (λ (t : List ℕ). SpellsMembers 32 t ms) (sym same.1) spelled.members_are) (at_most_seven alpha ms fine)
+    (subst (λ (t : List ℕ). SpellsMembers 32 t ms) (sym same.1) spelled.members_are) (at_most_seven 32 alpha ms fine)
 
 pub returns-in-Err-clause-none : goal.returns-in-Err-clause-none
 returns-in-Err-clause-none c = λ _ cluster alpha ms spelled fine.
@@ -24,10 +24,10 @@ returns-in-Err-clause-none c = λ _ cluster alpha ms spelled fine.
     let members : c.in_ok-members.members.items ≡ ms =
     members_once 32 (omega arith) c.in_ok-cluster.words.now c.in_ok-members.members.items ms
     c.in_ok-members.ensures.some (subst (λ (t : List ℕ). SpellsMembers 32 t ms) (sym same.1) spelled.members_are) in
-    let fault : genesis_fault c.in_ok-cluster.alpha c.in_ok-members.members.items
+    let fault : wide_fault c.in_ok-cluster.alpha c.in_ok-members.members.items
     ≡ Some c.in-Err.field-0 = search rules in
-    let none : genesis_fault c.in_ok-cluster.alpha c.in_ok-members.members.items ≡ None =
-    ap (λ (k : ℕ). genesis_fault k c.in_ok-members.members.items) same.0
-    ∙ ap (λ (xs : List Member). genesis_fault alpha xs) members ∙ fine in
+    let none : wide_fault c.in_ok-cluster.alpha c.in_ok-members.members.items ≡ None =
+    ap (λ (k : ℕ). wide_fault k c.in_ok-members.members.items) same.0
+    ∙ ap (λ (xs : List Member). wide_fault alpha xs) members ∙ fine in
     let bad : None ≡ Some c.in-Err.field-0 = sym none ∙ fault in
     absurd cc
