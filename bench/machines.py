@@ -23,7 +23,7 @@ import tempfile
 import threading
 import time
 
-from cluster import TOP
+from cluster import TOP, genesis_text
 from harness import frames
 from harness.holders import faults
 from harness.relay import Relay
@@ -248,7 +248,7 @@ class Cluster:
             it.write(text)
 
     def start(self, node, *more):
-        genesis = f"{CLUSTER},{self.alpha}," + ",".join(f"{it}:{PORT}" for it in self.nodes)
+        genesis = genesis_text(CLUSTER, self.alpha, dict.fromkeys(self.nodes, PORT))
         folder = f"{self.folder}/d{node}"
         os.makedirs(folder, exist_ok=True)
         words = ["node", "--genesis", genesis, "--number", str(node), "--port", str(PORT)]

@@ -11,6 +11,7 @@ import subprocess
 import tempfile
 import time
 
+from cluster import genesis_text
 from cuts import Probing, silence
 from harness.switch import Switch, open_tap
 from machines import CLUSTER, PORT, Cluster, Namespaces, Score, Work, faults, run, until
@@ -67,7 +68,7 @@ class Operated(Cluster):
         self.write(name or f"client{client}", run(*words))
 
     def genesis(self, cluster=CLUSTER, alpha=None, members=None, port=PORT):
-        return f"{cluster},{alpha or self.alpha}," + ",".join(f"{it}:{port}" for it in members or self.members)
+        return genesis_text(cluster, alpha or self.alpha, dict.fromkeys(members or self.members, port))
 
     def words(self, node, genesis=None, key="key", folder=None, port=PORT, hosts=None, master="master", ticks=None):
         """The options of a node."""
