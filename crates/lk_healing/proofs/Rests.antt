@@ -2,9 +2,9 @@
 use Rattle.std.proofs.Common.{◌≡◌, ◌∙◌, ◌⊎◌, inl, inr, ℕ, ◌+◌, ◌++◌, false, List, [], ◌∷◌, length, Some, None}
 use Rattle.std.proofs.Common.{ap, sym, subst, arith, append-nil}
 use Rattle.std.specs.Prelude.{⊤}
-use Rattle.std.proofs.lemmas.Bool.{cases_lt}
 use Rattle.std.proofs.lemmas.List.{length-append}
 use Rattle.lk_types.specs.declared.entry.Entry.{Entry}
+use Rattle.lk_types.specs.declared.genesis.Genesis.{Genesis}
 use Rattle.lk_disk.specs.Disk.{Disk, contents}
 use Rattle.lk_disk.specs.declared.trap.Trap.{Trap}
 use Rattle.lk_disk.specs.declared.trap.Trap.TheVariants.{Off, Fail, Arm}
@@ -29,7 +29,7 @@ use Rattle.lk_node_interface.specs.declared.input.Input.TheVariants.{Nudge, Data
 use Rattle.lk_node_interface.specs.declared.nudge_reason.NudgeReason.TheVariants.{TicksWithheld}
 use Rattle.lk_node.specs.Keeping.{StoreKeeps}
 use Rattle.lk_node.specs.Leavings.{header_of}
-use Rattle.lk_node.specs.NewBases.{standing_of}
+use Rattle.lk_node.specs.NewBases.{snapshot_span, standing_of}
 use Rattle.lk_node.specs.NodeValue.{NodeValue}
 use Rattle.lk_node.specs.Steps.{Steps}
 use Rattle.lk_progress.specs.Hearing.{Takes}
@@ -42,7 +42,8 @@ use Rattle.lk_sim.specs.Scenes.{Scene}
 use Rattle.lk_sim.specs.declared.event.Event.TheVariants as event
 use Rattle.lk_sim_nodes.specs.Sends.{after_sends, counting}
 use Rattle.lk_sim_nodes.specs.declared.seat.Life.TheVariants.{Up}
-use Rattle.lk_world_progress.proofs.Stepping.{found_header, has_header, is_there, one_replica, shown, was_there}
+use Rattle.lk_world_progress.proofs.Stepping.{counted, due_or_not, found_header, has_header, is_there, one_replica}
+use Rattle.lk_world_progress.proofs.Stepping.{shown, was_there}
 use Rattle.lk_world_progress.specs.Delivering.{Hears, IsRested}
 use Rattle.lk_world_progress.specs.Stepping.{behaviour, GoesWell, Holds, IsFound, IsUpAs}
 
@@ -59,16 +60,6 @@ pub record WritesNothing (start last : NodeValue) (out : OutboxValue) : Type 0 w
   pub rebase : out.rebase ≡ false
   pub reach : executed last.learner ≡ executed start.learner
   pub snapshot : last.acceptor.state.snapshot_position ≡ start.acceptor.state.snapshot_position
-
-due_or_not : (r : ReplicaValue) → IsDue r.node r.store ⊎ (IsDue r.node r.store → ⊥)
-due_or_not r =
-    elim (cases_lt (length (contents r.store.live_disk)) 131072) [
-      | inl short ↦ elim (cases_lt (executed r.node.learner) (r.node.acceptor.state.snapshot_position + 256)) [
-        | inl few ↦ inr (λ d. elim d [ inl long ↦ omega (arith, short, long) | inr many ↦ omega (arith, few, many) ])
-        | inr many ↦ inl (inr many)
-      ]
-      | inr long ↦ inl (inl long)
-    ]
 
 -- the bytes of a disk
 long_as : (d : Disk) (xs ys : List ℕ) → d.synced ≡ xs → d.unsynced ≡ ys
@@ -111,7 +102,8 @@ module _ (m : Meaning) (IsText : List ℕ → Type 0) where
     kept : StoreKeeps (header_of old.genesis n) k.replica.store k.replica.node.acceptor.state
     kept = (shown m IsText old holds n k.replica was).1.keeps
 
-    module _ (w : WritesNothing taken.mid taken.stepped taken.out) where
+    module _ (w : WritesNothing taken.mid taken.stepped taken.out)
+        (alpha : g.replica.node.header.alpha ≡ k.replica.node.header.alpha) where
       put : (ks ls : List Stored) → HoldsEntries taken.between ks ls → HoldsEntries g.replica.store ks ls
       put ks ls h = subst (λ (es : List Stored). HoldsEntries g.replica.store ks es) (append-nil ls)
           (subst (λ (es : List Entry). HoldsEntries g.replica.store ks (ls ++ plain es)) w.entries
@@ -172,7 +164,7 @@ module _ (m : Meaning) (IsText : List ℕ → Type 0) where
           ap (λ (node : NodeValue). executed node.learner) rests.0 in
           none (elim due [
             | inl long ↦ inl (omega (arith, long, bytes, before))
-            | inr many ↦ inr (omega (arith, many, reach, snapshot, position, as_much))
+            | inr many ↦ inr (omega (arith, many, reach, snapshot, position, as_much, ap snapshot_span alpha))
           ])
 
       not_due : IsDue g.replica.node g.replica.store → ⊥
@@ -187,9 +179,16 @@ module _ (m : Meaning) (IsText : List ℕ → Type 0) where
         let is : IsUpAs new n (after_sends b (length g.batch) g.replica) = is_there old new n k.seat k.next k.number
         k.replaces (Up (after_sends b (length g.batch) g.replica)) g.up in
         let t = taken old new n i before k g in
+        let trap : Trap = (b.memory g.replica).meter.trap in
+        let header : g.replica.node.header ≡ k.replica.node.header =
+        ap (λ (x : NodeValue). x.header) (sym (counted m IsText trap (length g.batch) g.replica))
+        ∙ has_header m IsText new after n (after_sends b (length g.batch) g.replica) is
+        ∙ ap (λ (genesis : Genesis). header_of genesis n) g.adds.genesis
+        ∙ sym (has_header m IsText old before n k.replica (was old new n i before k g)) in
         not_due old new n i before k g
         (quiet t.mid t.stepped t.out
         (record { due = λ d. (t.rebases.due d).becomes; rests = λ d. (t.rebases.rests d).0 }) t.steps)
+        (ap (λ (h : HeaderValue). h.alpha) header)
         (counted_due (b.memory g.replica).meter.trap (length g.batch) g.replica
         (subst (λ (r : ReplicaValue). IsDue r.node r.store)
         (one_replica m IsText new after n q (after_sends b (length g.batch) g.replica) up is) due))

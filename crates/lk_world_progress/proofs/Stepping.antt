@@ -132,7 +132,7 @@ module _ (m : Meaning) (IsText : List ℕ → Type 0) (w : Scene ReplicaValue) (
 not_both : (m n : ℕ) → m < n → n ≤ m → ⊥
 not_both m n less least = omega (arith, less, least)
 
-due_or_not : (r : ReplicaValue) → IsDue r.node r.store ⊎ (IsDue r.node r.store → ⊥)
+pub due_or_not : (r : ReplicaValue) → IsDue r.node r.store ⊎ (IsDue r.node r.store → ⊥)
 due_or_not r =
     let old = r.node.acceptor.state.snapshot_position + snapshot_span r.node.header.alpha in
     let long = length (contents r.store.live_disk) in
@@ -163,7 +163,7 @@ module _ (m : Meaning) (IsText : List ℕ → Type 0) where
   abbrev b : Behaviour ReplicaValue
   b = behaviour m IsText
 
-  counted : (t : Trap) (sends : ℕ) (r : ReplicaValue) → (counting b t sends r).node ≡ r.node
+  pub counted : (t : Trap) (sends : ℕ) (r : ReplicaValue) → (counting b t sends r).node ≡ r.node
   counted Off sends r = refl
   counted (Fail count) sends r = refl
   counted (Arm count bytes) sends r = refl
