@@ -45,6 +45,8 @@ class Cluster:
 
     All get the same further options. With `logs`, what node N tells on standard error goes to the file N.log there."""
 
+    environment = None  # of the processes, if it is another one than that of this process
+
     def __init__(self, program, folder, nodes=3, alpha=8, cluster=5, options=(), logs=False):
         self.program, self.folder, self.cluster, self.options, self.logs = program, folder, cluster, options, logs
         self.ports = dict(enumerate(free_ports(nodes), 1))
@@ -60,14 +62,18 @@ class Cluster:
         for node in list(self.processes):
             self.kill(node)
 
+    def command(self, node):
+        """The command line of a node."""
+        folder = os.path.join(self.folder, str(node))
+        words = ["--genesis", self.genesis, "--number", str(node), "--port", str(self.ports[node]), "--dir", folder]
+        return [self.program, "node", *words, *self.options]
+
     def start(self, node):
         """Starts a node, on what its folder holds."""
-        folder = os.path.join(self.folder, str(node))
-        os.makedirs(folder, exist_ok=True)
-        words = ["--genesis", self.genesis, "--number", str(node), "--port", str(self.ports[node]), "--dir", folder]
-        command = [self.program, "node", *words, *self.options]
+        os.makedirs(os.path.join(self.folder, str(node)), exist_ok=True)
         with open(self.log(node), "ab") if self.logs else contextlib.nullcontext() as told:
-            self.processes[node] = subprocess.Popen(command, stdin=subprocess.DEVNULL, stderr=told)
+            piped = {"stdin": subprocess.DEVNULL, "stderr": told, "env": self.environment}
+            self.processes[node] = subprocess.Popen(self.command(node), **piped)
 
     def log(self, node):
         """The file of what a node tells on standard error."""

@@ -96,10 +96,8 @@ class Alone(Cluster):
     def start_to_stop(self, at, more):
         """Starts it so that it stops at its change of that number."""
         told = {"LD_PRELOAD": self.library, "STOP_AT": str(at), "STOP_BYTES": str(more)}
-        words = ["--genesis", self.genesis, "--number", "1", "--port", str(self.ports[1])]
-        command = [self.program, "node", *words, "--dir", os.path.join(self.folder, "1"), *self.options]
         piped = {"stdin": subprocess.DEVNULL, "stderr": subprocess.DEVNULL, "env": {**os.environ, **told}}
-        self.processes[1] = subprocess.Popen(command, **piped)
+        self.processes[1] = subprocess.Popen(self.command(1), **piped)
 
     def pair(self):
         """A release, if the client holds the name, and an acquire."""

@@ -58,6 +58,18 @@ def frames(name, data):
     return found
 
 
+def entries(data):
+    """The whole entries that bytes of format 2 begin with."""
+    found, at = [], 0
+    while at + FIELD <= len(data):
+        end = at + FIELD + int.from_bytes(data[at : at + FIELD], "big")
+        if end > len(data):
+            break
+        found.append(data[at:end])
+        at = end
+    return found
+
+
 def of_generation(generation, name, entries):
     """The file of that name with these pieces, but for the generation of its Base."""
     base, *rest = entries

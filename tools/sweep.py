@@ -1,5 +1,5 @@
 #!/usr/bin/env python3
-"""Stops and fails nodes at every call and every send of the world scripts of examples/.
+"""Stops and fails nodes at every call and every send of the world scripts of examples/, and stops nodes with sums.
 
 Each event that makes a node work (a tick, a datagram that it takes, a restart, a compaction) of each world script that
 sets no trap of its own is preceded by `arm NODE COUNT BYTES`, in a run for each COUNT 1, 2, .. until the event no
@@ -14,10 +14,24 @@ node writes its snapshot, after 256 executed requests, is swept in the same way,
 its next request runs at position 257, so all 256 are executed. Whatever has run at a position, and whatever a request
 was answered, is the same at each node and each time.
 
-The last line is `N passed, M failed`, of scripts, and the status is 1 if one failed."""
-import concurrent.futures, itertools, os, re, subprocess, sys
+Worlds keep stores of format 2, in memory. So two nodes with files are stopped too, each a cluster by itself: one has
+sums from its first Base on, and one gets them with its next snapshot, since it is restarted with --sums.
+tools/recording.c, compiled by `cc` and loaded in front of the C library, records each write, sync and cut of their
+files, and each answer, in their first 24 requests, and from a start on a torn rest over a snapshot. After each of these
+calls, what a stop may leave is put into a folder: each file with 0, 1, 7 and all of its unsynced bytes, and as it was
+before a cut that is not synced. `scrub` has to find no damage there, `dump` a vote for each request that was answered
+and the right format, and `inspect` a state of the run that is no later than what was asked. tools/forking.c lets one
+process read them all. On what the last run may leave the node is restarted: it has to answer the next request as in the
+run, and to leave no damage.
 
-from scripting import TOP, with_program
+The last line is `N passed, M failed`, of scripts and of these stores, and the status is 1 if one failed."""
+import concurrent.futures, itertools, os, re, subprocess, sys, tempfile
+
+from scripting import TOP, need, with_program
+
+sys.path[:0] = [str(TOP), str(TOP / "clients/python")]
+from harness.forking import FAST, Reader, library  # noqa: E402
+from harness.recorded import Recorded  # noqa: E402
 
 ALL = 1 << 48
 TRAPS = ("arm {node} {count} 0", "arm {node} {count} 1", f"arm {{node}} {{count}} {ALL}", "fail {node} {count}")
@@ -34,6 +48,11 @@ NEXT = [
     *(f"deliver {k}" for k in range(1029, 1034)),
 ]
 NEXT_RAN = "ran 1 257 256 2\nanswered 1 256 2 held 1 1\n"
+# Of each store of a node that runs: the options of its runs, and the formats that it may have. The calls of its first
+# and of its last run are swept. The last one writes a snapshot, after 256 requests.
+SUMS = ("--sums",)
+STORES = (("a store with sums", (SUMS, SUMS, SUMS), "3"), ("a store that gets sums", ((), (), SUMS), "23"))
+REQUESTS = (24, 224, 16)
 
 
 def printed(program, lines):
@@ -160,18 +179,63 @@ def scripts(program):
     yield "256 requests", lines, len(lines) - 1, NEXT
 
 
+def fields(told):
+    """The lines of a subcommand by their first words."""
+    return dict(line.split(" ", 1) for line in told[1].decode().splitlines())
+
+
+def misread(answered, formats, scrubbed, dumped, inspected):
+    """What is wrong with what `scrub`, `dump` and `inspect` print of a store that a stop left after so many answers, as
+    status, output and standard error of each; an empty text if nothing is."""
+    if scrubbed[0] or scrubbed[2] or dumped[2] or inspected[2]:
+        return "damage"
+    if dumped[:2] == (1, b"no store\n"):
+        return "no store" if answered else ""
+    store, state = fields(dumped), fields(inspected)
+    voted, executed = int(store["snapshot"]) + int(store["votes"]), int(state["executed"])
+    if not answered <= voted <= answered + 1:
+        return f"{answered} requests were answered, and {voted} have votes"
+    held = f"db 7 {executed // 2 + 1}" if executed % 2 else None
+    if executed > voted or state.get("held") != held or store["format"] not in formats:
+        return "another state"
+    return ""
+
+
+def store_sweep(program, options, formats):
+    """How many stops of a store were tried, on how many stores a node was restarted, and what was wrong, as texts."""
+    with tempfile.TemporaryDirectory(dir=FAST) as folder, Reader(program, ("scrub", "dump", "inspect")) as reader:
+        node = Recorded(program, folder, library(folder, "recording"))
+        first, _ = (node.run(*how) for how in zip(options[:-1], REQUESTS))
+        node.tear()
+        last = node.run(options[-1], REQUESTS[-1])
+        found, again = sorted({*first, *last}), sorted(set(last))
+        told = zip(*(reader.read(command, (store for _, store in found)) for command in reader.processes))
+        wrong = [misread(answered, formats, *it) for (answered, _), it in zip(found, told)]
+        known, left = zip(*(node.restarted(options[-1], *it) for it in again))
+        wrong += ["another answer after a restart" * (not it) for it in known]
+        wrong += ["damage after a restart" * bool(it[0]) for it in reader.read("scrub", left)]
+    texts = [f"{answered} answers, {[*map(len, it)]} bytes: " for answered, it in [*found, *again, *again]]
+    return len(found), len(again), [text + it for text, it in zip(texts, wrong) if it]
+
+
 def main():
     program = with_program(__doc__).parse_args().program
+    need("cc")
     stops = failures = failed = 0
     chosen = [*scripts(program)]
     with concurrent.futures.ThreadPoolExecutor(os.cpu_count()) as pool:
+        of_stores = [pool.submit(store_sweep, program, *how) for _, *how in STORES]
         results = pool.map(lambda script: sweep(program, *script[1:]), chosen)
         for (name, *_), (stopped, faulted, wrong) in zip(chosen, results):
             stops, failures, failed = stops + stopped, failures + faulted, failed + bool(wrong)
             for text in wrong:
                 print(f"{name}: {text}", flush=True)
     print(f"{stops} stops and {failures} failures of {len(chosen)} scripts")
-    print(f"{len(chosen) - failed} passed, {failed} failed", flush=True)
+    for (name, *_), it in zip(STORES, of_stores):
+        stops, restarts, wrong = it.result()
+        print(f"{name}: {stops} stops, {restarts} restarts", *wrong, sep="\n  ", flush=True)
+        failed += bool(wrong)
+    print(f"{len(chosen) + len(STORES) - failed} passed, {failed} failed", flush=True)
     sys.exit(failed > 0)
 
 
