@@ -6,7 +6,8 @@ import subprocess
 import tempfile
 import time
 
-from harness.cluster import TOP, Cluster
+from harness.cluster import Cluster
+from harness.forking import library
 from harness.summed import one_before
 from locks_client import Client, Held
 
@@ -14,14 +15,6 @@ STOPPED = 99  # the status of a node that tools/stopping.c has stopped
 ALL = 1 << 30
 PAIRS = 6  # of a release and an acquire, until a node counts as not stopped
 SECONDS = 60  # at most for these
-
-
-def library(folder):
-    """Compiles tools/stopping.c into a folder. Its path."""
-    path = os.path.join(folder, "stopping.so")
-    source = os.path.join(TOP, "tools", "stopping.c")
-    subprocess.run(["cc", "-O2", "-shared", "-fPIC", "-o", path, source, "-ldl"], check=True)
-    return path
 
 
 class Wrong(Exception):
@@ -150,7 +143,7 @@ def swept(program, before, after, requests, numbers, left, spoilt):
     """One worker's part of a sweep."""
     count, wrong = 0, []
     with tempfile.TemporaryDirectory() as folder:
-        node = Alone(program, folder, library(folder))
+        node = Alone(program, folder, library(folder, "stopping"))
         node.prepare(before, requests)
         if spoilt:
             node.spoil()
