@@ -7,7 +7,7 @@ import tempfile
 import unittest
 
 from harness.by_bytes import Node, bytes_of
-from harness.summed import pieces
+from harness.summed import MAGIC, pieces
 
 HERE = os.path.dirname(os.path.abspath(__file__))
 PAGE = os.path.join(HERE, "..", "docs", "FORMATS.md")
@@ -61,7 +61,7 @@ class FormatPageTest(unittest.TestCase):
     def test_the_page_has_each_example(self):
         count = {kind: len(texts(kind)) for kind, _ in examples()}
         exchanges = {"asked": 3, "answered": 3, "row": 5, "sealed": 2}
-        self.assertEqual(count, {**exchanges, "file": 1, "summed": 1, "state": 2, "inspected": 2})
+        self.assertEqual(count, {**exchanges, "file": 1, "summed": 1, "older": 1, "state": 2, "inspected": 2})
 
     def test_a_node_answers_and_writes_these_bytes(self):
         node = self.node()
@@ -80,6 +80,25 @@ class FormatPageTest(unittest.TestCase):
                     file.write(held)
             told = self.ran("dump", "--dir", folder)
         self.assertEqual(told.split(), "generation 1 promised 3 1 snapshot 0 votes 1 decided 0 format 3".split())
+
+    def test_an_older_program_takes_a_file_with_sums_for_damage(self):
+        """The page has what such a program wrote. A file that begins with another letter is read as it read all."""
+        [file], [summed], [told] = texts("file"), texts("summed"), texts("older")
+        for magic in MAGIC.values():
+            self.assertEqual(int.from_bytes(magic[:4], "big"), 1_819_239_275)
+        data = b"k" + bytes_of(digits(summed))[1:]
+        self.assertEqual(self.read_of(data, b""), told)
+        # Beside a file without sums it does not matter, and the votes in it are lost.
+        self.assertTrue(self.read_of(bytes_of(digits(file)), data).endswith("format 2\n"))
+
+    def read_of(self, a, b):
+        """What `dump` prints of such files."""
+        with tempfile.TemporaryDirectory() as folder:
+            for name, data in (("a", a), ("b", b)):
+                with open(os.path.join(folder, name), "wb") as file:
+                    file.write(data)
+            run = subprocess.run([PROGRAM, "dump", "--dir", folder], capture_output=True, text=True, timeout=60)
+            return (run.stdout + run.stderr).replace(folder, "FOLDER")
 
     def test_each_row_is_one_of_the_proved_table_and_of_a_node(self):
         with open(TABLE, encoding="utf-8") as table:
