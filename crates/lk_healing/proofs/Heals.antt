@@ -31,8 +31,10 @@ use Rattle.lk_world_leftovers.specs.Restarted.{EndsBy, RestartedNodesEnd}
 use Rattle.lk_healing.proofs.Asks.{asked_both, own_notes}
 use Rattle.lk_healing.proofs.Feeds.{nobody_changes}
 use Rattle.lk_healing.proofs.Gains.{round_low}
+use Rattle.lk_healing.proofs.Lengths.{chosen_is_short}
 use Rattle.lk_healing.proofs.Promises.{all_promised, turn_holds}
 use Rattle.lk_healing.proofs.Questions.{state_executed}
+use Rattle.lk_healing.proofs.Stands.{header_valid}
 use Rattle.lk_healing.specs.Contending.{MayContendFor, MayStand}
 use Rattle.lk_healing.specs.Feeds.{MayGain}
 use Rattle.lk_healing.specs.Heals.{MayHeal}
@@ -199,9 +201,9 @@ module _ (m : Meaning) (IsText : List ℕ → Type 0) (node_law : NodeRestarts m
     near = omega (arith, top_reach (in_nodes tops.top tops.among));
   }
 
-  -- positions are left after the last one
-  last_low : last < 281474976710656
-  last_low =
+  -- positions are left after the last one, as each executed command was accepted in a datagram of its own
+  last_low : length start.sent ≤ 99000 → last < 281474976710656
+  last_low few =
       let u = up_fits m IsText now now_holds tops.top tops.reaches.0 tops.reaches.1 in
       let done : List Command = u.holding.paxos.done in
       let reach : executed tops.reaches.0.node.learner ≡ length done =
@@ -209,9 +211,9 @@ module _ (m : Meaning) (IsText : List ℕ → Type 0) (node_law : NodeRestarts m
       let chosen : Chosen start.genesis start.sent done =
       subst (λ (g : Genesis). Chosen g start.sent done) has.genesis
       (subst (λ (ds : List Datagram). Chosen now.genesis ds done) has.sent u.fits.paxos.stems.done) in
-      let room = k.positions done chosen in
-      let same : now.genesis.alpha ≡ start.genesis.alpha = ap (λ (g : Genesis). g.alpha) has.genesis in
-      omega (arith, room, reach, tops.reaches.2, same)
+      let short = chosen_is_short start.genesis start.sent done chosen in
+      let valid = header_valid m IsText now now_holds tops.top tops.reaches.0 tops.reaches.1 in
+      omega (arith, short, few, reach, tops.reaches.2, valid.2.1)
 
   -- ---- once all have executed as much
 
@@ -265,8 +267,8 @@ module _ (m : Meaning) (IsText : List ℕ → Type 0) (node_law : NodeRestarts m
       distinct = subst AreDistinct k.are k.distinct;
     }
 
-    stands : MayStand m IsText new x nodes
-    stands = record {
+    stands : length start.sent ≤ 99000 → MayStand m IsText new x nodes
+    stands few = record {
       others = k.others;
       are = k.are;
       e = e.e;
@@ -282,12 +284,12 @@ module _ (m : Meaning) (IsText : List ℕ → Type 0) (node_law : NodeRestarts m
         named = subst (λ (g : Genesis). is_member x g.members ≡ true) (sym genesis) k.fixed.named;
         majority = subst (λ (g : Genesis). IsMajority (x ∷ k.others) g.members) (sym genesis) k.fixed.majority;
       };
-      room = omega (arith, is_last, last_low);
+      room = omega (arith, is_last, last_low few);
     }
 
-    pub may_contend : MayContendFor m IsText new x nodes request
-    may_contend = record {
-      stands = stands;
+    pub may_contend : length start.sent ≤ 99000 → MayContendFor m IsText new x nodes request
+    may_contend few = record {
+      stands = stands few;
       fresh = λ q c same. k.fresh q (subst (λ (l : List RequestValue). Contains l q) all_asked c) same;
     }
 

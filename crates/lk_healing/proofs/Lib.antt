@@ -36,4 +36,5 @@ mod Levels
 mod Rises
 mod Restarts
 mod Promises
+mod Lengths
 mod Heals

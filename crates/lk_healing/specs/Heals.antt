@@ -1,12 +1,10 @@
 -- A majority of a world whose members never changed is restarted, and answers a request.
-use Rattle.std.specs.Prelude.{◌≡◌, ℕ, ◌+◌, ◌*◌, ◌<◌, List, ◌∷◌, length, Contains}
+use Rattle.std.specs.Prelude.{◌≡◌, ℕ, ◌<◌, List, ◌∷◌, Contains}
 use Rattle.lk_types.specs.Limits.{max_count}
-use Rattle.lk_types.specs.declared.command.Command.{Command}
 use Rattle.lk_types.specs.declared.command.Request.{Request as RequestValue}
 use Rattle.lk_memory_disk.specs.Memory.{Memory, disk_of}
 use Rattle.lk_store_format.specs.Values.{StandingValue}
 use Rattle.lk_log.specs.Images.{seen}
-use Rattle.lk_agreement_laws.specs.Chosen.{Chosen}
 use Rattle.lk_node.specs.Leavings.{StandsAs, header_of}
 use Rattle.lk_replica.specs.ReplicaValue.{ReplicaValue}
 use Rattle.lk_sim.specs.Scenes.{Scene}
@@ -26,15 +24,10 @@ pub record HasRoundOnDisks (w : Scene ReplicaValue) (n : ℕ) : Type 0 where
   pub down : (d : Memory) → Lives w n (Down d) → (zero_text : List ℕ) (s : StandingValue)
       → StandsAs (header_of w.genesis n) zero_text (seen (disk_of d)) s → s.promised.round < max_count
 
--- whatever commands are chosen, 2 alpha positions are left after them
-abbrev pub HasPositionsLeft : Scene ReplicaValue → Type 0
-HasPositionsLeft w =
-    (L : List Command) → Chosen w.genesis w.sent L → length L + 2 * w.genesis.alpha < max_count
-
 -- ---- who heals
 
 -- The first of these nodes and the others are a majority of the members, which nobody has asked to change. Each of them
--- was started, whether it is up or down, and has a round left. Positions are left, and the request is fresh.
+-- was started, whether it is up or down, and has a round left. The request is fresh.
 pub record MayHeal (w : Scene ReplicaValue) (x : ℕ) (nodes : List ℕ) (r : RequestValue) : Type 0 where
   pub others : List ℕ
   pub are : nodes ≡ x ∷ others
@@ -42,5 +35,4 @@ pub record MayHeal (w : Scene ReplicaValue) (x : ℕ) (nodes : List ℕ) (r : Re
   pub fixed : AreFixed w x others
   pub started : AreStarted w nodes
   pub rounds : (n : ℕ) → Contains nodes n → HasRoundOnDisks w n
-  pub positions : HasPositionsLeft w
   pub fresh : IsFresh w r

@@ -17,6 +17,9 @@ use lk_world_leftovers::laws::restarted_nodes_end;
 use lk_world_progress::laws::{a_restart_is_fresh, restarts_are_fresh};
 use std::alloc::Global;
 
+// No event begins once more datagrams were sent.
+const MOST_DATAGRAMS: usize = 99_000;
+
 /// Restarts these nodes, a majority of members that never changed, lets them feed one another until all have executed
 /// as much, and lets the first of them lead and answer the request of a client.
 pub fn heal<M: Machine>(
@@ -36,6 +39,9 @@ pub fn heal<M: Machine>(
     a_restart_is_fresh::<M>();
     restarts_are_fresh::<M>();
     restarted_nodes_end::<M>();
+    if world.datagrams().len() > MOST_DATAGRAMS {
+        return Err(Halt::Full);
+    }
     restart_each(world, nodes)?;
     level(alloc, world, candidate, nodes)?;
     contend(alloc, world, alpha, candidate, nodes, request)

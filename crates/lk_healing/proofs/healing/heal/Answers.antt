@@ -1,3 +1,4 @@
+use Rattle.std.proofs.Common.{rules, ◌≤◌, length}
 use Rattle.lk_healing.proofs.Heals.{alpha_still, may_contend, restarted_level}
 use Rattle.lk_healing.proofs.healing.heal.Goals as goal
 
@@ -20,10 +21,11 @@ contend-requires-clause-alpha g c =
 
 pub contend-requires-clause-contends : goal.contend-requires-clause-contends
 contend-requires-clause-contends g c =
+    let few : length c.args.world.now.sent ≤ 99000 = search rules in
     may_contend g.M.Machine.meaning g.M.Machine.IsText c.a_restart_is_fresh.ensures c.restarts_are_fresh.ensures
     c.restarted_nodes_end.ensures c.args.candidate c.args.nodes.now c.args.request.now c.args.world.now
     c.restart_each.new.world c.facts.ensures.keeps c.requires.heals c.in_ok-restart_each.ensures.ok c.level.new.world
     (c.in_ok-level.ensures.ok
     (restarted_level g.M.Machine.meaning g.M.Machine.IsText c.a_restart_is_fresh.ensures c.restarts_are_fresh.ensures
     c.restarted_nodes_end.ensures c.args.candidate c.args.nodes.now c.args.request.now c.args.world.now
-    c.restart_each.new.world c.facts.ensures.keeps c.requires.heals c.in_ok-restart_each.ensures.ok))
+    c.restart_each.new.world c.facts.ensures.keeps c.requires.heals c.in_ok-restart_each.ensures.ok)) few
