@@ -8,6 +8,7 @@ mod Polls
 mod Leads
 mod Quiet
 mod News
+mod Starters
 mod Letters
 mod Rejected
 mod Begun

@@ -8,8 +8,10 @@ use Rattle.lk_node.specs.Beginning.{greatest_round}
 use Rattle.lk_replica.specs.ReplicaValue.{ReplicaValue}
 use Rattle.lk_sim.specs.Scenes.{Scene}
 use Rattle.lk_sim.specs.Traces.{asked_in}
+use Rattle.lk_world_progress.specs.Beginning.{IsNewWorld}
+use Rattle.lk_world_progress.specs.Exchanging.{number_of}
 use Rattle.lk_world_progress.specs.Stepping.{IsUpAs}
-use Rattle.lk_world_leftovers.specs.Fixed.{IsFresh}
+use Rattle.lk_world_leftovers.specs.Fixed.{IsFresh, NobodyChanges}
 use Rattle.lk_world_leftovers.specs.Persisting.{AreFixed, Contends}
 
 -- a round is left for the next ballot of the node
@@ -41,6 +43,12 @@ pub record MayContendFor (m : Meaning) (IsText : List ℕ → Type 0) (w : Scene
     (r : RequestValue) : Type 0 where
   pub stands : MayStand m IsText w x nodes
   pub fresh : IsFresh w r
+
+-- The nodes of a new cluster meet the premises.
+abbrev pub NewWorldsMayContendFor : Meaning → (List ℕ → Type 0) → Type 0
+NewWorldsMayContendFor m IsText = (w : Scene ReplicaValue) (candidate : ReplicaValue) (index ticks : ℕ)
+    (others : List ℕ) (r : RequestValue) → IsNewWorld m IsText w candidate index ticks others → NobodyChanges w
+    → IsFresh w r → MayContendFor m IsText w (number_of candidate) (number_of candidate ∷ others) r
 
 -- the requests that were asked are the same, and so is the genesis
 pub record AsksNothing (old new : Scene ReplicaValue) : Type 0 where

@@ -5,13 +5,16 @@ use Rattle.lk_types.specs.declared.command.Request.{Request as RequestValue}
 use Rattle.lk_memory_disk.specs.Memory.{Memory, disk_of}
 use Rattle.lk_store_format.specs.Values.{StandingValue}
 use Rattle.lk_log.specs.Images.{seen}
+use Rattle.lk_state.specs.Meanings.{Meaning}
 use Rattle.lk_node.specs.Leavings.{StandsAs, header_of}
 use Rattle.lk_replica.specs.ReplicaValue.{ReplicaValue}
 use Rattle.lk_sim.specs.Scenes.{Scene}
 use Rattle.lk_sim_nodes.specs.declared.seat.Life.TheVariants.{Down}
+use Rattle.lk_world_progress.specs.Beginning.{IsNewWorld}
 use Rattle.lk_world_progress.specs.Delivering.{AreDistinct}
+use Rattle.lk_world_progress.specs.Exchanging.{number_of}
 use Rattle.lk_world_progress.specs.Stepping.{IsUpAs, Lives}
-use Rattle.lk_world_leftovers.specs.Fixed.{IsFresh}
+use Rattle.lk_world_leftovers.specs.Fixed.{IsFresh, NobodyChanges}
 use Rattle.lk_world_leftovers.specs.Persisting.{AreFixed}
 use Rattle.lk_healing.specs.Restarts.{AreStarted}
 
@@ -36,3 +39,9 @@ pub record MayHeal (w : Scene ReplicaValue) (x : ℕ) (nodes : List ℕ) (r : Re
   pub started : AreStarted w nodes
   pub rounds : (n : ℕ) → Contains nodes n → HasRoundOnDisks w n
   pub fresh : IsFresh w r
+
+-- The nodes of a new cluster meet the premises.
+abbrev pub NewWorldsMayHeal : Meaning → (List ℕ → Type 0) → Type 0
+NewWorldsMayHeal m IsText = (w : Scene ReplicaValue) (candidate : ReplicaValue) (index ticks : ℕ) (others : List ℕ)
+    (r : RequestValue) → IsNewWorld m IsText w candidate index ticks others → NobodyChanges w → IsFresh w r
+    → MayHeal w (number_of candidate) (number_of candidate ∷ others) r

@@ -5,7 +5,9 @@ use Rattle.lk_learner.specs.Learners.{executed}
 use Rattle.lk_replica.specs.ReplicaValue.{ReplicaValue}
 use Rattle.lk_sim.specs.Scenes.{Scene}
 use Rattle.lk_sim.specs.Traces.{asked_in}
+use Rattle.lk_world_progress.specs.Beginning.{IsNewWorld}
 use Rattle.lk_world_progress.specs.Delivering.{AreDistinct}
+use Rattle.lk_world_progress.specs.Exchanging.{number_of}
 use Rattle.lk_world_progress.specs.Stepping.{IsUpAs}
 use Rattle.lk_world_leftovers.specs.Fixed.{NobodyChanges}
 use Rattle.lk_healing.specs.Feeds.{MayGain}
@@ -28,6 +30,12 @@ pub record MayLevel (m : Meaning) (IsText : List ℕ → Type 0) (w : Scene Repl
   pub top : ℕ
   pub among : Contains nodes top
   pub near : last ≤ executed (each top among).0.node.learner + 2 * w.genesis.alpha
+
+-- The nodes of a new cluster meet the premises.
+abbrev pub NewWorldsMayLevel : Meaning → (List ℕ → Type 0) → Type 0
+NewWorldsMayLevel m IsText = (w : Scene ReplicaValue) (candidate : ReplicaValue) (index ticks : ℕ) (others : List ℕ)
+    → IsNewWorld m IsText w candidate index ticks others → NobodyChanges w
+    → MayLevel m IsText w (number_of candidate) (number_of candidate ∷ others)
 
 -- Each of them has executed as many positions, and nothing was asked.
 pub record AreEqual (m : Meaning) (IsText : List ℕ → Type 0) (x : ℕ) (nodes : List ℕ) (old new : Scene ReplicaValue)

@@ -1,10 +1,15 @@
-//! A law about the premises of `answer`: the contract of a function that does nothing but call the laws on which it
-//! rests.
+//! Laws about the premises of `answer`, `contend`, `level` and `heal`, and about the worlds that meet them: each is the
+//! contract of a function that does nothing but call the laws on which it rests.
 ghost use Rattle.lk_healing.specs.Answers.{NewWorldsAreQuietFor};
+ghost use Rattle.lk_healing.specs.Contending.{NewWorldsMayContendFor};
+ghost use Rattle.lk_healing.specs.Heals.{NewWorldsMayHeal};
+ghost use Rattle.lk_healing.specs.Levels.{NewWorldsMayLevel};
 
 use lk_progress::laws::new_clusters_are_quiet;
 use lk_state::Machine;
 use lk_world_leftovers::laws::new_worlds_contend;
+
+// ---- new worlds
 
 /// The nodes of a new cluster, one of which is due, meet the premises of `answer`.
 pub fn new_worlds_are_quiet_for_a_request<M: Machine>()
@@ -12,4 +17,26 @@ pub fn new_worlds_are_quiet_for_a_request<M: Machine>()
 {
     new_clusters_are_quiet();
     new_worlds_contend::<M>();
+}
+
+/// They meet those of `contend`.
+pub fn new_worlds_may_contend_for_a_request<M: Machine>()
+    ensures { NewWorldsMayContendFor M.meaning M.IsText }
+{
+    new_clusters_are_quiet();
+    new_worlds_contend::<M>();
+}
+
+/// They meet those of `level`.
+pub fn new_worlds_may_level<M: Machine>()
+    ensures { NewWorldsMayLevel M.meaning M.IsText }
+{
+    new_clusters_are_quiet();
+}
+
+/// They meet those of `heal`.
+pub fn new_worlds_may_heal<M: Machine>()
+    ensures { NewWorldsMayHeal M.meaning M.IsText }
+{
+    new_clusters_are_quiet();
 }
