@@ -67,7 +67,7 @@ content_tells : (x : Content) → asked_in (told_by x) ≡ []
 content_tells (content.Request r) = refl
 content_tells (content.Node n x) = node_tells n x
 
-replies_ask_nothing : (ds : List Datagram) (notes : List Note) → NotesReplies ds notes → asked_in notes ≡ []
+pub replies_ask_nothing : (ds : List Datagram) (notes : List Note) → NotesReplies ds notes → asked_in notes ≡ []
 replies_ask_nothing [] notes none = ap asked_in none
 replies_ask_nothing (d ∷ ds) notes k =
     ap asked_in k.3 ∙ asked_both (told_by k.0.content) k.1

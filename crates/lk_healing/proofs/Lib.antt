@@ -39,3 +39,4 @@ mod Restarts
 mod Promises
 mod Lengths
 mod Heals
+mod Histories

@@ -12,3 +12,4 @@ pub mod Gaps
 pub mod Levels
 pub mod Restarts
 pub mod Heals
+pub mod Histories

@@ -3,6 +3,7 @@
 ghost use Rattle.lk_healing.specs.Answers.{NewWorldsAreQuietFor};
 ghost use Rattle.lk_healing.specs.Contending.{NewWorldsMayContendFor};
 ghost use Rattle.lk_healing.specs.Heals.{NewWorldsMayHeal};
+ghost use Rattle.lk_healing.specs.Histories.{RunsAreHistories, UnchangedWorldsMayHeal};
 ghost use Rattle.lk_healing.specs.Levels.{NewWorldsMayLevel};
 
 use lk_progress::laws::new_clusters_are_quiet;
@@ -40,3 +41,16 @@ pub fn new_worlds_may_heal<M: Machine>()
 {
     new_clusters_are_quiet();
 }
+
+// ---- worlds with a history
+
+/// What `run` does comes of some of its events, executed or rejected one after another.
+pub fn runs_are_histories<M: Machine>()
+    ensures { RunsAreHistories M.meaning M.IsText }
+{}
+
+/// Whatever events have brought a world about from a new one, any majority of its members meets the premises of `heal`,
+/// unless one of the events has asked to change the members.
+pub fn unchanged_worlds_may_heal<M: Machine>()
+    ensures { UnchangedWorldsMayHeal M.meaning M.IsText }
+{}
