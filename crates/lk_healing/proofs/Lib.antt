@@ -10,6 +10,7 @@ mod Quiet
 mod News
 mod Starters
 mod Letters
+mod Prepared
 mod Rejected
 mod Begun
 mod Stands
