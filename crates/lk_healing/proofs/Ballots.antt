@@ -1,9 +1,8 @@
--- What one ballot of a candidate that stands comes to.
-use Rattle.std.proofs.Common.{◌≡◌, ◌∙◌, inl, inr, ℕ, ◌+◌, ◌<◌, ◌≤◌, List, [], ◌∷◌, map, Contains, refl, ap, sym, subst}
+-- What one ballot of a candidate that stands comes to, and how it ends with a rejection.
+use Rattle.std.proofs.Common.{◌≡◌, ◌∙◌, inl, inr, ℕ, ◌<◌, ◌≤◌, List, [], ◌∷◌, Contains, refl, ap, sym, subst}
 use Rattle.std.proofs.Common.{arith}
 use Rattle.lk_types.specs.BallotValue.{BallotValue}
 use Rattle.lk_types.specs.Ballots.{IsBelow}
-use Rattle.lk_types.specs.declared.genesis.Genesis.{Genesis}
 use Rattle.lk_messages.specs.declared.message.Content.{Content}
 use Rattle.lk_messages.specs.declared.message.Content.TheVariants as content
 use Rattle.lk_messages.specs.declared.message.Message.{Message}
@@ -28,28 +27,25 @@ use Rattle.lk_world_progress.proofs.Balloting.{tick_begins}
 use Rattle.lk_world_progress.proofs.Stepping.{one_replica}
 use Rattle.lk_world_progress.specs.Balloting.{BeginsIn}
 use Rattle.lk_world_progress.specs.Delivering.{Hears, HearsEach}
-use Rattle.lk_world_progress.specs.Exchanging.{number_of}
 use Rattle.lk_world_progress.specs.Overtaking.{IsRival}
 use Rattle.lk_world_progress.specs.Stepping.{GoesWell, IsUpAs}
 use Rattle.lk_world_leftovers.proofs.Fixed.{nodes_know}
 use Rattle.lk_world_leftovers.proofs.Retrying.{HasWaited, waited}
-use Rattle.lk_world_leftovers.specs.Filling.{IsFilling}
 use Rattle.lk_world_leftovers.specs.Fixed.{KnowsMembers}
 use Rattle.lk_world_leftovers.specs.Persisting.{AreFixed, Contends, IsNoRival}
 use Rattle.lk_healing.proofs.Asks.{asks_both, each_asks, hears_asks, tick_asks, waits_ask}
-use Rattle.lk_healing.proofs.Begun.{has_begun, has_candidate, has_due, still_fixed}
+use Rattle.lk_healing.proofs.Begun.{still_fixed}
 use Rattle.lk_healing.proofs.Carrying.{is_up}
 use Rattle.lk_healing.proofs.Hands.{sent_to}
 use Rattle.lk_healing.proofs.Polls.{each_of, hears_there}
-use Rattle.lk_healing.proofs.Quiet.{led_asks}
 use Rattle.lk_healing.proofs.Rejected as rejected
-use Rattle.lk_healing.proofs.Stands.{MayReply, Replies, promise_stands, rejection_stands, rival_told}
+use Rattle.lk_healing.proofs.Stands.{MayReply, Replies, promise_stands}
 use Rattle.lk_healing.proofs.Stands.{waits_leave, who_replied}
 use Rattle.lk_healing.proofs.Waits.{some_number}
 use Rattle.lk_healing.specs.Contending.{AsksNothing, HasExecuted, HasRoundLeft, MayStand}
 use Rattle.lk_healing.specs.Halts.{AreOnTheirWay, MayBeTaken}
-use Rattle.lk_healing.specs.Polls.{HasBegun, HearsAt, LeadsNow, StandsAt}
-use Rattle.lk_healing.specs.Standing.{AreThere, IsRejectedBy, IsRejectionAt, LeadsAfter}
+use Rattle.lk_healing.specs.Polls.{HearsAt, StandsAt}
+use Rattle.lk_healing.specs.Standing.{AreThere, IsRejectedBy, IsRejectionAt}
 use Rattle.lk_healing.specs.Waits.{BeginsAfter}
 use Rattle.lk_healing.specs.declared.asking.Asking.{Asking}
 
@@ -66,22 +62,22 @@ module _ (m : Meaning) (IsText : List ℕ → Type 0) (w now : Scene ReplicaValu
 
   -- ---- it is due
 
-  same : AsksNothing w b.due
+  pub same : AsksNothing w b.due
   same = waits_ask m IsText x b.ticks w b.due b.waits
 
   due_waited : HasWaited m IsText x k.e k.e k.others k.last w b.due
   due_waited = waited m IsText x k.e k.e k.others k.last b.ticks w b.due k.contends b.waits
 
-  ready : Contends m IsText b.due x k.e k.e k.others k.last
+  pub ready : Contends m IsText b.due x k.e k.e k.others k.last
   ready = due_waited.contends
 
-  fixed : AreFixed b.due x k.others
+  pub fixed : AreFixed b.due x k.others
   fixed = still_fixed w b.due x k.others same k.fixed
 
-  knows : KnowsMembers b.due.genesis b.candidate.node
+  pub knows : KnowsMembers b.due.genesis b.candidate.node
   knows = nodes_know m IsText b.due x b.candidate ready.holds fixed.changes b.up
 
-  reach : executed b.candidate.node.learner ≡ k.e
+  pub reach : executed b.candidate.node.learner ≡ k.e
   reach = subst (λ (q : ReplicaValue). executed q.node.learner ≡ k.e)
       (one_replica m IsText b.due ready.holds x ready.candidate b.candidate ready.up b.up) ready.reach
 
@@ -100,7 +96,7 @@ module _ (m : Meaning) (IsText : List ℕ → Type 0) (w now : Scene ReplicaValu
       ]) n (0, omega arith, refl)
 
   module _ (n : ℕ) (o : Contains k.others n) where
-    apart : n ≡ x → ⊥
+    pub apart : n ≡ x → ⊥
     apart is = k.contends.distinct.0 (subst (λ (j : ℕ). Contains k.others j) is o)
 
     voter_same : (ready.others_may n o).replica ≡ (k.contends.others_may n o).replica
@@ -114,7 +110,7 @@ module _ (m : Meaning) (IsText : List ℕ → Type 0) (w now : Scene ReplicaValu
         (k.rounds n (in_nodes n (contains_more x k.others n o)) (k.contends.others_may n o).replica
         (k.contends.others_may n o).up)
 
-    their_reach : executed (ready.others_may n o).replica.node.learner ≡ k.e
+    pub their_reach : executed (ready.others_may n o).replica.node.learner ≡ k.e
     their_reach = ap (λ (q : ReplicaValue). executed q.node.learner) voter_same
         ∙ k.level n o (k.contends.others_may n o).replica (k.contends.others_may n o).up
 
@@ -193,10 +189,10 @@ module _ (m : Meaning) (IsText : List ℕ → Type 0) (w now : Scene ReplicaValu
 
   module _ (polled : Scene ReplicaValue) (places : List ℕ)
       (run : HearsAt m IsText (content.Node x (prepare_by b.candidate.node)) nodes places now polled) where
-    run_them : HearsAt m IsText prepare (x ∷ k.others) places now polled
+    pub run_them : HearsAt m IsText prepare (x ∷ k.others) places now polled
     run_them = subst (λ (ns : List ℕ). HearsAt m IsText prepare ns places now polled) k.are run
 
-    polls : HearsEach m IsText prepare (x ∷ k.others) now polled
+    pub polls : HearsEach m IsText prepare (x ∷ k.others) now polled
     polls = each_of m IsText prepare (x ∷ k.others) places now polled run_them
 
     candidate_there : IsUp polled.seats x
@@ -356,86 +352,3 @@ module _ (m : Meaning) (IsText : List ℕ → Type 0) (w now : Scene ReplicaValu
             t.n is_rival tells n o (settled n o none);
         asks = then_asks;
       }
-
-    -- ---- nobody does
-
-    module _ (none : (p : ℕ) → Contains places p → IsRejectionAt polled.sent p → ⊥) where
-      no_rival : (n : ℕ) → Contains k.others n → IsNoRival b.due x n
-      no_rival n o q up rival =
-          let above : IsBelow ballot rival.replica.node.acceptor.state.promised =
-          subst (λ (r : ReplicaValue). IsBelow (next_ballot r.node) rival.replica.node.acceptor.state.promised)
-          (one_replica m IsText b.due ready.holds x q b.candidate up b.up) rival.above in
-          let told = rival_told m IsText x e ballot (x ∷ k.others) places now polled b.begins.after k.contends.distinct
-          run_them n (contains_more x k.others n o) rival.replica
-          (rejected.others_stay m IsText x b.candidate k.others b.due now k.e k.e k.last ready b.up b.is_due
-          knows.unchanged b.begins n (Up rival.replica)
-          (apart n o) rival.up) above in
-          none told.0 told.1 (rejection_stands polled x told.0 n (refusal ballot rival.replica.node) told.2)
-
-      pub begun : HasBegun m IsText x nodes asking now
-      begun = has_begun m IsText x nodes k.others k.are b.due now asking b.candidate b.up b.is_due b.begins b.cluster
-          b.ballot b.first k.e k.last k.within k.room ready no_rival fixed
-
-      pub same_prepare : prepare_by begun.candidate.node ≡ prepare_by b.candidate.node
-      unfolding begun
-      same_prepare = has_candidate m IsText x nodes k.others k.are b.due now asking b.candidate b.up b.is_due b.begins
-          b.cluster b.ballot b.first k.e k.last k.within k.room ready no_rival fixed
-
-      begun_due : begun.due ≡ b.due
-      unfolding begun
-      begun_due = has_due m IsText x nodes k.others k.are b.due now asking b.candidate b.up b.is_due b.begins b.cluster
-          b.ballot b.first k.e k.last k.within k.room ready no_rival fixed
-
-      others_are : map number_of begun.others ≡ k.others
-      others_are = tail_same (number_of begun.candidate) x (map number_of begun.others) k.others
-          (sym begun.are ∙ k.are)
-        where
-          tail_same : (i j : ℕ) (is js : List ℕ) → i ∷ is ≡ j ∷ js → is ≡ js
-          tail_same i j is js eq = cc eq
-
-      module _ (last : Scene ReplicaValue) (l : LeadsNow m IsText x nodes asking now last begun)
-          (turn : (n : ℕ) (q : ReplicaValue) → (n ≡ x → ⊥) → IsUpAs polled n q → IsUpAs last n q) where
-        filling : IsFilling m IsText last x l.has.leader l.has.term begun.set k.others begun.highest
-        filling = subst (λ (ns : List ℕ). IsFilling m IsText last x l.has.leader l.has.term begun.set ns begun.highest)
-            others_are
-            (subst (λ (n : ℕ). IsFilling m IsText last n l.has.leader l.has.term begun.set (map number_of begun.others)
-            begun.highest) begun.number l.has.fills)
-
-        begun_same : AsksNothing b.due last
-        begun_same = subst (λ (v : Scene ReplicaValue). AsksNothing v last) begun_due
-            (led_asks m IsText x nodes asking now last begun l)
-
-        last_level : (n : ℕ) → Contains k.others n → (q : ReplicaValue) → IsUpAs last n q
-            → executed q.node.learner + 1 ≡ asking.first
-        last_level n o q up =
-            let took = rejected.took m IsText x b.candidate k.others b.due now k.e k.e k.last ready b.up b.is_due
-            knows.unchanged b.begins polled polls n o in
-            let is : executed q.node.learner ≡ executed b.candidate.node.learner =
-            ap (λ (r : ReplicaValue). executed r.node.learner)
-            (one_replica m IsText last filling.holds n q took.after up (turn n took.after (apart n o) took.is))
-            ∙ ap (λ (v : WholeValue). v.roster.executed)
-            (rejected.took_lasts m IsText x b.candidate k.others b.due now k.e k.e k.last ready b.up b.is_due
-            knows.unchanged b.begins polled polls n o).whole
-            ∙ their_reach n o ∙ sym reach in
-            ap (λ (i : ℕ). i + 1) is ∙ sym b.first
-
-        pub leads : LeadsAfter m IsText x nodes w last asking
-        leads = record {
-          fills = record {
-            others = k.others;
-            are = k.are;
-            leader = l.has.leader;
-            term = l.has.term;
-            set = begun.set;
-            last = begun.highest;
-            fills = filling;
-            cluster = begun.cluster ∙ ap (λ (g : Genesis). g.cluster)
-                (sym (begun_same.genesis ∙ sym (tick_asks m IsText b.due now x b.begins).genesis));
-            ballot = begun.ballot ∙ sym l.has.ballot;
-            next_is = begun.first ∙ ap (λ (i : ℕ). i + 1) (sym l.has.executed_is);
-            level = last_level;
-            reach = omega arith;
-            told = inl refl;
-          };
-          asks = asks_both w b.due last same begun_same;
-        }

@@ -15,6 +15,7 @@ mod Rejected
 mod Begun
 mod Stands
 mod Ballots
+mod Elected
 mod Persists
 mod Fronts
 mod Offers

@@ -8,8 +8,8 @@ use Rattle.lk_progress.proofs.Electing.{due_asks}
 use Rattle.lk_progress.proofs.Rejecting.{prepare_has_cause}
 use Rattle.lk_progress.specs.Exchanges.{prepare_by}
 use Rattle.lk_sim_nodes.specs.declared.seat.Life.TheVariants.{Up}
-use Rattle.lk_healing.proofs.Ballots.{are_there, begun as has_stood, leads, loses, may_take, prepare_is}
-use Rattle.lk_healing.proofs.Ballots.{prepares_on_their_way, same_prepare}
+use Rattle.lk_healing.proofs.Ballots.{are_there, loses, may_take, prepare_is, prepares_on_their_way}
+use Rattle.lk_healing.proofs.Elected.{begun as has_stood, leads, same_prepare}
 use Rattle.lk_healing.proofs.Leads.{candidate_up, contents, leads_now, promises_there}
 use Rattle.lk_healing.proofs.Stands.{may_begin_at, turn_leaves}
 use Rattle.lk_healing.proofs.standing.stand.Goals as goal
