@@ -32,6 +32,7 @@ mod Replies
 mod Turns
 mod Posts
 mod Questions
+mod Servings
 mod Exchanges
 mod Feeds
 mod Gaps
