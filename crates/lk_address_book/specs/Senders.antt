@@ -1,5 +1,5 @@
 -- Whose address a message of the cluster makes known.
-use Rattle.std.specs.Prelude.{◌≡◌, ◌≢◌, ℕ, Bool, true, false, List, [], ◌∷◌, Some}
+use Rattle.std.specs.Prelude.{◌≡◌, ◌≢◌, ℕ, Bool, true, false, List, [], ◌∷◌, Option, Some, None}
 use Rattle.std.specs.declared.net.socket_addr.SocketAddr.{SocketAddr}
 use Rattle.lk_types.specs.Ranges.{IsClient}
 use Rattle.lk_messages.specs.Grammar.{Spells}
@@ -25,6 +25,17 @@ is_binding (message.Answer a) = false
 is_binding (message.Elsewhere e) = false
 is_binding (message.Passed p) = false
 is_binding (message.Lead ballot executed) = true
+
+-- the node that sent a message of this content, if one did
+abbrev pub node_in : Content → Option ℕ
+node_in (content.Request r) = None
+node_in (content.Node n m) = Some n
+
+-- these bytes were sent by that node of the cluster, by what their message says; `None` if they spell no message of a
+-- node of the cluster
+pub record IsSentBy (cluster : ℕ) (bytes : List ℕ) (sender : Option ℕ) : Type 0 where
+  pub message : (m : Message) → Spells m bytes → m.cluster ≡ cluster → sender ≡ node_in m.content
+  pub other : ((m : Message) → Spells m bytes → m.cluster ≡ cluster → ⊥) → sender ≡ None
 
 -- that client's address replaces its last one, and no other address changes
 pub record RecordsClient (client : ℕ) (from : SocketAddr) (old new : AddressBook) : Type 0 where

@@ -1,10 +1,11 @@
 //! What arrived at a server, for its log.
 
-ghost use Rattle.std.specs.Prelude.{◌≡◌};
+ghost use Rattle.std.specs.Prelude.{◌≡◌, Some};
 ghost use Rattle.lk_address_book.specs.Arrivals.{sender};
+ghost use Rattle.lk_address_book.specs.Senders.{IsSentBy};
 
 use lk_types::{ClientNo, NodeNo};
-use lk_wire::{ContentRef, Datagram, MessageRef, NodeMessageRef};
+use lk_wire::{ContentRef, Datagram, NodeMessageRef};
 use std::fmt;
 
 /// What arrived at a server, as far as it could be parsed.
@@ -43,16 +44,19 @@ pub fn name_of(message: &NodeMessageRef<'_>) -> &'static str {
 }
 
 impl Arrival {
-    /// Classifies a letter of the node to itself; `Bad` if it is no message of a node.
-    pub fn of_letter(datagram: &Datagram<'_>) -> Arrival {
-        match datagram.message() {
-            Ok(
-                MessageRef {
-                    content: ContentRef::Node(node, said),
-                    ..
-                },
-            ) => Arrival::said(*node, said),
-            _ => Arrival::Bad,
+    /// Classifies a letter of a node of that cluster to itself; `Bad` if it is no message of a node.
+    pub fn of_letter(cluster: u64, datagram: &Datagram<'_>) -> Arrival
+        ensures sent { IsSentBy cluster datagram.now (sender result) }
+    {
+        let Ok(message) = datagram.message() else {
+            return Arrival::Bad;
+        };
+        if message.cluster != cluster {
+            return Arrival::Foreign;
+        }
+        match &message.content {
+            ContentRef::Request(_) => Arrival::Bad,
+            ContentRef::Node(node, said) => Arrival::said(*node, said),
         }
     }
 
@@ -67,7 +71,9 @@ impl Arrival {
     }
 
     /// Classifies a message of a node.
-    pub fn said(node: NodeNo, message: &NodeMessageRef<'_>) -> Arrival {
+    pub fn said(node: NodeNo, message: &NodeMessageRef<'_>) -> Arrival
+        ensures { sender result ≡ Some node }
+    {
         match message {
             NodeMessageRef::Want(_) => Arrival::Want(node),
             _ => Arrival::Said(name_of(message), node),

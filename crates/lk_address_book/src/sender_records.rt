@@ -3,7 +3,8 @@
 ghost use Rattle.std.specs.Prelude.{◌≡◌};
 ghost use Rattle.lk_wire.specs.Shown.{shown_node};
 ghost use Rattle.lk_address_book.specs.Addresses.{IsSameFilter};
-ghost use Rattle.lk_address_book.specs.Senders.{RecordsSender, is_binding};
+ghost use Rattle.lk_address_book.specs.Arrivals.{sender};
+ghost use Rattle.lk_address_book.specs.Senders.{IsSentBy, RecordsSender, is_binding};
 
 use crate::addresses::Addresses;
 use crate::arrival::Arrival;
@@ -33,6 +34,7 @@ impl Addresses {
         from: SocketAddr,
     ) -> Arrival
         ensures heard { RecordsSender cluster datagram.now from self.old self.new }
+        ensures sent { IsSentBy cluster datagram.now (sender result) }
         ensures network { IsSameFilter self.old self.new }
     {
         let Ok(message) = datagram.message() else {

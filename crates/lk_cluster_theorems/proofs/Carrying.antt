@@ -42,7 +42,7 @@ use Rattle.lk_transport.specs.declared.received_probe.ReceivedProbe.{ReceivedPro
 use Rattle.lk_server.specs.Premises.{IsNoNodeMessage}
 use Rattle.lk_server.specs.ProbeHandling.{HandlesProbes, ListensFor}
 use Rattle.lk_server.specs.WatchHandling.{HandlesWatches}
-use Rattle.lk_server_replica.specs.Tables.{table_of}
+use Rattle.lk_server_replica.specs.Tables.{members_of, table_of}
 use Rattle.lk_transport.specs.Watches.{SendsNotice, SendsNotices, notice_by}
 use Rattle.lk_transport.specs.declared.received_watch.ReceivedWatch.{ReceivedWatch}
 use Rattle.lk_watch.specs.Grammar.{SpellsNotice}
@@ -261,17 +261,17 @@ module _ (observable : Type 0) (shown : observable) where
 
   listens_posts : (letters : List LetterValue) (told : Option Reported) (old : ServerValue ReplicaValue)
       (book new : AddressBook) (before after : SendState) (pace : Pace) → HasNoKey book.seals
-      → ListensFor IsShown observable told old book new before after pace → PostsOnly letters before.sent after.sent
+      → ListensFor members_of observable told old book new before after pace → PostsOnly letters before.sent after.sent
   listens_posts letters told old book new before after Datagrams none l =
       posts_none letters before.sent after.sent (ap (λ (s : SendState). s.sent) l.1)
   listens_posts letters told old book new before after Clock none l =
-      round_posts letters (is_round_due (periods old) l.2.heard.hearing) old.node (periods old) l.0.members l.2.heard
-      l.2.probed before after
-      (subst HasNoKey (sym (heard_keys (periods old) told book l.2.heard l.2.hears)) none) l.2.probes
+      round_posts letters (is_round_due (periods old) l.heard.hearing) old.node (periods old)
+      (members_of old.replica) l.heard l.probed before after
+      (subst HasNoKey (sym (heard_keys (periods old) told book l.heard l.hears)) none) l.probes
 
   handled_posts : (letters : List LetterValue) (asked : Option ReceivedProbe) (told : Option Reported)
       (old new : ServerValue ReplicaValue) → HasNoKey old.addresses.seals
-      → HandlesProbes IsShown observable asked told old new → PostsOnly letters old.sent new.sent
+      → HandlesProbes IsShown members_of observable asked told old new → PostsOnly letters old.sent new.sent
   handled_posts letters asked told old new none h =
       posts_both letters old.sent h.replied.sent new.sent
       (reply_posts letters asked old h.replied none h.replies)

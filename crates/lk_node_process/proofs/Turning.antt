@@ -23,7 +23,7 @@ use Rattle.lk_server.specs.Servers.{ServerValue, HasReceived, TurnOrIdle as Serv
 use Rattle.lk_server.specs.ProbeHandling.{HandlesProbes}
 use Rattle.lk_server.specs.WatchHandling.{HandlesWatches}
 use Rattle.lk_server_replica.specs.Showing.{IsShown}
-use Rattle.lk_server_replica.specs.Tables.{greatest_of, table_of}
+use Rattle.lk_server_replica.specs.Tables.{greatest_of, members_of, table_of}
 use Rattle.lk_node_setup.specs.HostWatches.{AreHosts, FindsHosts}
 use Rattle.lk_node_setup.specs.Named.{AreHostsIn}
 use Rattle.lk_probe.specs.declared.reported.Reported.{Reported}
@@ -108,7 +108,7 @@ turn_taken After frames kept left old mid new received turn keeps news acts netw
 module _ (observable : Type 0) (news : HostNews) (asked : Option ReceivedProbe) (reported : Option Reported)
     (kept left : Option ReceivedWatch) (old probed told noted hosted new : ServerValue ReplicaValue)
     (same : new ≡ hosted) where
-  pub acts_beside : HandlesProbes IsShown observable asked reported old probed → left ≡ kept
+  pub acts_beside : HandlesProbes IsShown members_of observable asked reported old probed → left ≡ kept
       → HandlesWatches table_of IsShown observable left probed told → KnowsJoined told noted
       → TakesHosts news noted hosted → ActsBeside observable news asked reported kept old new
   acts_beside probes is_kept watches joined hosts =

@@ -14,7 +14,7 @@ use Rattle.lk_node_setup.specs.HostWatches.{AreHosts}
 use Rattle.lk_server.specs.ProbeHandling.{HandlesProbes}
 use Rattle.lk_server.specs.WatchHandling.{HandlesWatches}
 use Rattle.lk_server_replica.specs.Showing.{IsShown}
-use Rattle.lk_server_replica.specs.Tables.{greatest_of, table_of}
+use Rattle.lk_server_replica.specs.Tables.{greatest_of, members_of, table_of}
 use Rattle.lk_server.specs.Servers.{ServerValue, HasReceived, Turn, LastTurn, IsIdle}
 use Rattle.lk_transport.specs.Askers.{BringsProbe}
 use Rattle.lk_transport.specs.Inquiring.{IsReportedBy}
@@ -57,7 +57,7 @@ AreHostsKept is_text path old new = AreHosts is_text path old.addresses.hosts ne
 pub record ActsBeside (observable : Type 0) (news : HostNews) (asked : Option ReceivedProbe)
     (reported : Option Reported) (watched : Option ReceivedWatch) (old new : ServerValue ReplicaValue) : Type 0 where
   pub probed : ServerValue ReplicaValue
-  pub probes : HandlesProbes IsShown observable asked reported old probed
+  pub probes : HandlesProbes IsShown members_of observable asked reported old probed
   pub told : ServerValue ReplicaValue
   pub watches : HandlesWatches table_of IsShown observable watched probed told
   pub noted : ServerValue ReplicaValue

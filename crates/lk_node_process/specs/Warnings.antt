@@ -8,7 +8,7 @@ use Rattle.lk_server_replica.specs.declared.probed_state.ProbedState.{ProbedStat
 use Rattle.lk_server.specs.Probes.{ReportsStatus}
 use Rattle.lk_server.specs.Servers.{ServerValue, periods}
 use Rattle.lk_transport.specs.Chains.{Repeats}
-use Rattle.lk_node_setup.specs.Reminders.{IsDue, Reminds, having_warned}
+use Rattle.lk_node_setup.specs.Reminders.{IsDue, IsNoneDue, Reminds, having_warned}
 use Rattle.lk_node_setup.specs.declared.port_reminder.PortReminder.{PortReminder}
 use Rattle.lk_node_process.specs.Turns.{DoesTurn, EndsByStranger, EndsTurn}
 
@@ -28,14 +28,27 @@ IsStatusOf s status =
     (shown : ProbedState) × IsShown s.replica shown
     × ReportsStatus s.addresses.seals.genesis (periods s) s.withheld s.quiet shown status
 
--- by the server's own status, the line of the node of that number, which listens at that port, is written if a warning
--- is due, and else nothing is; the next one is due a minute later, also where the line could not be written
-pub record Warns (node port : ℕ) (s : ServerValue ReplicaValue) (old new : PortReminder)
+-- by no status of the server a warning is due, and nothing is written
+pub record WarnsOfNothing (s : ServerValue ReplicaValue) (old new : PortReminder)
+    (before after : Option (List ℕ)) : Type 0 where
+  pub none : (status : Status) → IsStatusOf s status → IsNoneDue old status
+  pub same : new ≡ old
+  pub written : after ≡ before
+
+-- by this status of the server, the line of the node of that number, which listens at that port, is written if a
+-- warning is due, and else nothing is; the next one is due a minute later, also where the line could not be written
+pub record WarnsByStatus (node port : ℕ) (s : ServerValue ReplicaValue) (old new : PortReminder)
     (before after : Option (List ℕ)) : Type 0 where
   pub status : Status
   pub told : IsStatusOf s status
   pub reminds : Reminds node port status old new before after
       ⊎ ((named : ℕ) × IsDue old status named × (new ≡ having_warned old status))
+
+-- a warning is written exactly if one is due by the server's own status
+abbrev pub Warns : ℕ → ℕ → ServerValue ReplicaValue → PortReminder → PortReminder → Option (List ℕ)
+    → Option (List ℕ) → Type 0
+Warns node port s old new before after =
+    WarnsOfNothing s old new before after ⊎ WarnsByStatus node port s old new before after
 
 module _ (Says : ReplicaValue → List (Option (List ℕ)) → List LetterValue → ReplicaValue → Type 0)
     (observable : Type 0) (node port : ℕ) where

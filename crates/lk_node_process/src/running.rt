@@ -1,6 +1,6 @@
 //! Runs a node: starts its server from a device, and does its turns.
 
-ghost use Rattle.std.specs.Prelude.{◌≡◌, ◌<◌, ◌≤◌, ◌^◌, ◌⊎◌, None, IfOk, IfErr, IsOkAnd, OnOk, OnErr};
+ghost use Rattle.std.specs.Prelude.{◌≡◌, ◌<◌, ◌≤◌, ◌^◌, ◌⊎◌, None, false, IfOk, IfErr, IsOkAnd, OnOk, OnErr};
 ghost use Rattle.lk_disk.specs.declared.device.Side.{Side as SideValue};
 ghost use Rattle.lk_node_interface.specs.Faults.{fault_number};
 ghost use Rattle.lk_replica.specs.Revived.{MayGoOn};
@@ -10,6 +10,7 @@ ghost use Rattle.lk_transport.specs.Chains.{Repeats};
 ghost use Rattle.lk_program_fault.specs.Faults.{replica_fault};
 ghost use Rattle.lk_node_setup.specs.HostWatches.{AreHosts, FindsHosts, host_path};
 ghost use Rattle.lk_node_setup.specs.KeysOfNode.{AreSealsOf};
+ghost use Rattle.lk_node_setup.specs.Reminders.{IsNoneDue};
 ghost use Rattle.lk_node_setup.specs.SelfProbes.{socket_value};
 ghost use Rattle.lk_node_process.specs.Revivals.{ComesUp, IsServerStarted, IsRestartRefused};
 ghost use Rattle.lk_node_process.specs.Revivals.{StartsOn, RestsOn, surroundings};
@@ -17,7 +18,8 @@ ghost use Rattle.lk_node_process.specs.Turns.{ActsBeside, AreHostsKept, DoesTurn
 ghost use Rattle.lk_node_process.specs.Turns.{HasFollowedStranger};
 ghost use Rattle.lk_node_process.specs.Turns.{EndsTurn, BreaksOff, BreaksOffByStranger};
 ghost use Rattle.lk_node_process.specs.Turns.{RunsTurns, EndsBefore, TellsFailure};
-ghost use Rattle.lk_node_process.specs.Warnings.{DoesTurnAndWarns, Warns, WarnsUntil, reminded};
+ghost use Rattle.lk_node_process.specs.Warnings.{DoesTurnAndWarns, IsStatusOf, Warns, WarnsUntil, reminded};
+ghost use Rattle.lk_probe.specs.declared.status.Status.{Status};
 
 use crate::another_genesis::write_other_genesis;
 use crate::node_end::{NodeEnd, NodeServer, RefusedStart, status_after};
@@ -308,6 +310,20 @@ fn do_turn<
     }
 }
 
+// Whether a warning may be due: no probe came back from the port that the genesis names, and a minute has passed since
+// the last warning or the start. It needs no status of the server.
+fn may_warn<M: TableMachine, D: LogDisk + Drop, S: DatagramSocket + Drop>(
+    server: &NodeServer<M, D, S>,
+    reminder: &PortReminder,
+) -> bool
+    ensures { result ≡ false → (status : Status) → IsStatusOf server.now status → IsNoneDue reminder.now status }
+{
+    if reminder.unheard.is_none() {
+        return false;
+    }
+    reminder.due <= server.count_periods()
+}
+
 // Warns after a turn if a warning is due, by the server's own status. A warning that cannot be written is lost.
 fn warn_if_due<M: TableMachine, D: LogDisk + Drop, S: DatagramSocket + Drop, E: Write>(
     server: &NodeServer<M, D, S>,
@@ -318,6 +334,9 @@ fn warn_if_due<M: TableMachine, D: LogDisk + Drop, S: DatagramSocket + Drop, E: 
     ensures { Warns plan.now.header.node plan.now.port server.now reminder.old reminder.new
         (E.contents err.old) (E.contents err.new) }
 {
+    if !may_warn(server, reminder) {
+        return;
+    }
     let status = server.status();
     let _ = reminder.remind(&status, plan, err);
 }

@@ -1,5 +1,6 @@
 -- How a server handles probes and reports, one step after another.
-use Rattle.std.proofs.Common.{◌≡◌, ◌∙◌, ℕ, Option, Some, None, ap, subst, subst₂}
+use Rattle.std.proofs.Common.{◌≡◌, ◌∙◌, ℕ, List, Option, Some, None, ap, subst, subst₂}
+use Rattle.lk_types.specs.declared.member.Member.{Member}
 use Rattle.lk_probe.specs.declared.reported.Reported.{Reported}
 use Rattle.lk_address_book.specs.Addresses.{AddressBook, Filter, IsSameFilter, IsSameNetwork}
 use Rattle.lk_transport.specs.Inquiring.{AsksOne}
@@ -25,8 +26,9 @@ answer_still : {R : Type 0} (Shows : R → ProbedState → Type 0) (observable :
 answer_still {R} Shows observable None old new same t = ap (λ (s : ServerValue R). s.incoming) same
 answer_still Shows observable (Some a) old new one t = one.still t
 
-module _ {R : Type 0} (Shows : R → ProbedState → Type 0) (observable : Type 0) (asked : Option ReceivedProbe)
-    (reported : Option Reported) (now : ℕ) (old replied readmitted learned questioned new : ServerValue R) where
+module _ {R : Type 0} (Shows : R → ProbedState → Type 0) (members : R → List Member) (observable : Type 0)
+    (asked : Option ReceivedProbe) (reported : Option Reported) (now : ℕ)
+    (old replied readmitted learned questioned new : ServerValue R) where
   -- it answers, readmits, learns and asks
   pub acted : RepliesToKept Shows observable asked old replied
       → replied ≡ record old {
@@ -50,7 +52,7 @@ module _ {R : Type 0} (Shows : R → ProbedState → Type 0) (observable : Type 
         socket_failures = questioned.socket_failures;
         incoming = questioned.incoming;
       }
-      → ListensIf Shows observable reported questioned new
+      → ListensIf members observable reported questioned new
       → IsSameNetwork questioned.addresses new.addresses
       → (observable → new.incoming ≡ questioned.incoming)
       → new ≡ record questioned {
@@ -59,7 +61,7 @@ module _ {R : Type 0} (Shows : R → ProbedState → Type 0) (observable : Type 
         socket_failures = new.socket_failures;
         incoming = new.incoming;
       }
-      → HandlesProbes Shows observable asked reported old new
+      → HandlesProbes Shows members observable asked reported old new
   acted replies answered_so readmits heard readmitted_so learns known learned_so loopback asks kept still asked_so
       listens held quiet new_so =
       let book : replied.addresses ≡ old.addresses = ap (λ (s : ServerValue R). s.addresses) answered_so in
@@ -109,7 +111,7 @@ module _ {R : Type 0} (Shows : R → ProbedState → Type 0) (observable : Type 
         asks = subst₂ (λ (n : ℕ) (t : SendState). AsksOne observable (periods old) n learned.addresses
             questioned.addresses t (send_state_at questioned.loopback questioned)) node tray asked_at;
         keys = kept.1 ∙ known.1 ∙ heard.1 ∙ ap (λ (b : AddressBook). b.seals) book;
-        listens = subst (λ (s : ServerValue R). ListensFor Shows observable reported s questioned.addresses
+        listens = subst (λ (s : ServerValue R). ListensFor members observable reported s questioned.addresses
             new.addresses (send_state_at questioned.loopback questioned) (send_state_at new.loopback new) s.pace)
             then listens;
         network = (

@@ -3,7 +3,7 @@ use Rattle.std.specs.Prelude.{◌≡◌, ◌≢◌, ◌≤◌, ℕ, true, List, 
 use Rattle.std.specs.declared.net.socket_addr.SocketAddr.{SocketAddr}
 use Rattle.lk_replica.specs.Groups.{GroupValue}
 use Rattle.lk_server_replica.specs.Groups.{Sayings, Gatherings, GathersMore, SaysNoMore}
-use Rattle.lk_server_replica.specs.Silences.{quiet_after, quiet_withheld}
+use Rattle.lk_server_replica.specs.Silences.{quiet_withheld}
 use Rattle.lk_server_replica.specs.declared.replica_status.ReplicaStatus.{ReplicaStatus}
 use Rattle.lk_pacing.specs.declared.turn_input.TurnInput.{TurnInput}
 use Rattle.lk_pacing.specs.declared.turn_input.TurnInput.TheVariants.{Nothing, Filtered, Something}
@@ -128,14 +128,6 @@ ChangesInTurn old new =
 -- ---- the periods without a leader that a server counts beside its replica
 
 module _ {R : Type 0} (HasStatus : R → ReplicaStatus → Type 0) where
-  -- at an input that this node sent, if one did, the count goes on, or begins anew if the replica's does
-  pub record HearsQuiet (sender : Option ℕ) (old new : ServerValue R) : Type 0 where
-    pub before : ReplicaStatus
-    pub was : HasStatus old.replica before
-    pub after : ReplicaStatus
-    pub is : HasStatus new.replica after
-    pub quiet : new.quiet ≡ quiet_after sender before after old.quiet
-
   -- a tick was withheld: a period more counts, unless the replica has a term
   pub record WithholdsQuiet (old new : ServerValue R) : Type 0 where
     pub status : ReplicaStatus

@@ -1,5 +1,6 @@
 -- How a server handles probes and reports, after the letters of a turn.
-use Rattle.std.specs.Prelude.{◌≡◌, ℕ, Option, Some, None}
+use Rattle.std.specs.Prelude.{◌≡◌, ℕ, List, Option, Some, None}
+use Rattle.lk_types.specs.declared.member.Member.{Member}
 use Rattle.lk_probe.specs.declared.reported.Reported.{Reported}
 use Rattle.lk_address_book.specs.Addresses.{AddressBook, IsSameNetwork}
 use Rattle.lk_transport.specs.Inquiring.{AsksOne, ReadmitsKept}
@@ -14,21 +15,20 @@ use Rattle.lk_transport.specs.Listening.{Listens}
 use Rattle.lk_transport.specs.Posts.{SendState}
 use Rattle.lk_server_replica.specs.declared.probed_state.ProbedState.{ProbedState}
 
--- where ticks go by the clock: the report that was kept counts as a reply, the members that the replica shows are
--- probed if that is due, and then the server is deaf exactly if it does not hear a majority of them; by datagrams
+-- where ticks go by the clock: the report that was kept counts as a reply, the members of the replica's next position
+-- are probed if that is due, and then the server is deaf exactly if it does not hear a majority of them; by datagrams
 -- nothing happens
-abbrev pub ListensFor : {R : Type 0} (Shows : R → ProbedState → Type 0) (observable : Type 0)
+abbrev pub ListensFor : {R : Type 0} (members : R → List Member) (observable : Type 0)
     (reported : Option Reported) (old : ServerValue R) → AddressBook → AddressBook → SendState → SendState → Pace
     → Type 0
-ListensFor Shows observable reported old book new before after Datagrams = (new ≡ book) × (after ≡ before)
-ListensFor Shows observable reported old book new before after Clock =
-    (shown : ProbedState) × Shows old.replica shown
-    × Listens observable old.node (periods old) reported shown.members book new before after
+ListensFor members observable reported old book new before after Datagrams = (new ≡ book) × (after ≡ before)
+ListensFor members observable reported old book new before after Clock =
+    Listens observable old.node (periods old) reported (members old.replica) book new before after
 
-abbrev pub ListensIf : {R : Type 0} (Shows : R → ProbedState → Type 0) (observable : Type 0)
+abbrev pub ListensIf : {R : Type 0} (members : R → List Member) (observable : Type 0)
     (reported : Option Reported) → ServerValue R → ServerValue R → Type 0
-ListensIf Shows observable reported old new =
-    ListensFor Shows observable reported old old.addresses new.addresses (send_state_at old.loopback old)
+ListensIf members observable reported old new =
+    ListensFor members observable reported old old.addresses new.addresses (send_state_at old.loopback old)
     (send_state_at new.loopback new) old.pace
 
 -- the address of a probe is recorded if it names one of the members after all joins and leaves that the replica has
@@ -48,9 +48,10 @@ Welcomes Shows (Some a) replica own old new =
 -- the probe that was kept is answered, and a node of the same genesis that asks by it is heard again; what the report
 -- tells that was kept is learned; then one question is sent where one is due in this period; and last it listens.
 -- Nothing else is sent, and nothing else changes; nor does what is to come, if the socket tells that. `Shows` is what a
--- replica shows
-pub record HandlesProbes {R : Type 0} (Shows : R → ProbedState → Type 0) (observable : Type 0)
-    (asked : Option ReceivedProbe) (reported : Option Reported) (old new : ServerValue R) : Type 0 where
+-- replica shows, and `members` are those of its next position
+pub record HandlesProbes {R : Type 0} (Shows : R → ProbedState → Type 0) (members : R → List Member)
+    (observable : Type 0) (asked : Option ReceivedProbe) (reported : Option Reported)
+    (old new : ServerValue R) : Type 0 where
   pub replied : ServerValue R
   pub replies : RepliesToKept Shows observable asked old replied
   pub readmitted : AddressBook
@@ -62,7 +63,7 @@ pub record HandlesProbes {R : Type 0} (Shows : R → ProbedState → Type 0) (ob
   pub asks : AsksOne observable (periods old) old.node learned questioned
       (send_state_at replied.loopback replied) between
   pub keys : questioned.seals ≡ old.addresses.seals
-  pub listens : ListensFor Shows observable reported old questioned new.addresses between
+  pub listens : ListensFor members observable reported old questioned new.addresses between
       (send_state_at new.loopback new) old.pace
   pub network : IsSameNetwork old.addresses new.addresses
   pub still : observable → new.incoming ≡ old.incoming

@@ -126,32 +126,45 @@ abbrev pub all_ticks : ℕ → List (Option (List ℕ)) → ℕ
 all_ticks ticks [] = ticks
 all_ticks ticks (one ∷ more) = all_ticks (ticks_behind ticks one) more
 
--- how many periods have ended, which no count of 64 bits exceeds: each ended with a tick, given or withheld
+-- how many periods have ended by these counts, which no count of 64 bits exceeds: each ended with a tick, given or
+-- withheld
+abbrev pub periods_by : ℕ → ℕ → ℕ
+periods_by ticks withheld = min (ticks + withheld) 18446744073709551615
+
+-- how many have ended since the server's start
 abbrev pub periods : {R : Type 0} → ServerValue R → ℕ
-periods s = min (s.ticks + s.withheld) 18446744073709551615
+periods s = periods_by s.ticks s.withheld
 
 -- how many of these members it hears in this period, itself included; nothing where ticks go by datagrams
 abbrev pub heard_by : {R : Type 0} → List Member → ServerValue R → Option ℕ
 heard_by ms s =
     if is_clock s.pace then Some (count_heard s.node (periods s) s.addresses.hearing.asked ms) else None
 
--- it withholds ticks: they go by the clock, and it is deaf
-pub record WithholdsTicks {R : Type 0} (s : ServerValue R) : Type 0 where
-  pub clock : s.pace ≡ Clock
-  pub deaf : s.addresses.deaf ≡ true
+-- ticks are withheld: they go by the clock, and the server is deaf or not, as this says
+pub record AreWithheld (pace : Pace) (is_deaf : Bool) : Type 0 where
+  pub clock : pace ≡ Clock
+  pub deaf : is_deaf ≡ true
+
+-- it withholds ticks
+abbrev pub WithholdsTicks : {R : Type 0} → ServerValue R → Type 0
+WithholdsTicks s = AreWithheld s.pace s.addresses.deaf
 
 -- it may withhold what ends this period: it withholds ticks, and the period is no 31st, which ends with a nudge
 pub record MayWithhold {R : Type 0} (s : ServerValue R) : Type 0 where
   pub withholds : WithholdsTicks s
   pub no_nudge : one_more_tick (periods s) % 31 ≢ 0
 
--- what ends the period that was just counted: in each 31st a nudge that says whether ticks are withheld, else a tick
+-- what ends the period of that number: in each 31st a nudge that says whether ticks are withheld, else a tick
+abbrev pub EndsPeriodOf : ℕ → Type 0 → Input → Type 0
+EndsPeriodOf number withheld Tick = number % 31 ≢ 0
+EndsPeriodOf number withheld (Nudge Period) = (number % 31 ≡ 0) × (withheld → ⊥)
+EndsPeriodOf number withheld (Nudge TicksWithheld) = (number % 31 ≡ 0) × withheld
+EndsPeriodOf number withheld (Nudge Fed) = ⊥
+EndsPeriodOf number withheld (Datagram bytes) = ⊥
+
+-- what ends the period that was just counted
 abbrev pub EndsPeriod : {R : Type 0} → ServerValue R → Input → Type 0
-EndsPeriod s Tick = periods s % 31 ≢ 0
-EndsPeriod s (Nudge Period) = (periods s % 31 ≡ 0) × (WithholdsTicks s → ⊥)
-EndsPeriod s (Nudge TicksWithheld) = (periods s % 31 ≡ 0) × WithholdsTicks s
-EndsPeriod s (Nudge Fed) = ⊥
-EndsPeriod s (Datagram bytes) = ⊥
+EndsPeriod s input = EndsPeriodOf (periods s) (WithholdsTicks s) input
 
 -- a period is counted, and the replica has taken what ends it, as its `gather` takes it
 pub record TakesPeriodEnd {R : Type 0} (Takes : R → GroupValue → Input → R → GroupValue → Type 0)

@@ -12,9 +12,10 @@ ghost use Rattle.lk_node.specs.Calls.{heard_by};
 ghost use Rattle.lk_server_replica.specs.Groups.{GathersMore, SaysNoMore};
 ghost use Rattle.lk_server.specs.Gatherings.{Finds, AddsAll, EndsWithin, AddsLoopback, EndsLoopback, AddsWaiting};
 ghost use Rattle.lk_address_book.specs.Arrivals.{sender};
-ghost use Rattle.lk_server.specs.Gatherings.{AddsGroup, ChangesAtInput, ChangesInTurn, GathersNudge, HearsQuiet};
+ghost use Rattle.lk_address_book.specs.Senders.{IsSentBy};
+ghost use Rattle.lk_server.specs.Gatherings.{AddsGroup, ChangesAtInput, ChangesInTurn, GathersNudge};
 ghost use Rattle.lk_server.specs.Gatherings.{WithholdsQuiet};
-ghost use Rattle.lk_server.specs.StepNotes.{NotesAll, NotesInput, NudgesIfFed, noted};
+ghost use Rattle.lk_server.specs.StepNotes.{NotesAll, NotesInput, NotesNone, NudgesIfFed, noted, one_period_more};
 ghost use Rattle.lk_server.specs.Gatherings.{EndsGroup, ChangesAtDatagram, ChangesAtLetter, ChangesInGroup};
 ghost use Rattle.lk_transport.specs.Kept.{KeepsOf};
 ghost use Rattle.lk_server.specs.Servers.{EndsPeriod, HasReceived, IsIdle, MayWithhold, TakesPeriodEnd};
@@ -77,12 +78,10 @@ impl<R: ServerReplica, S: DatagramSocket + Drop> Server<R, S> {
             (R.Takes self.old.replica group.old input.entry self.new.replica group.new) }
         ensures silent { OnErr result
             (SaysNoMore R.Says R.Gathers (heard_by input.entry ∷ []) group.old self.old.replica self.new.replica) }
-        // However it ends, the digest of the state is taken then, if one is due, and it is noted whether the input has
-        // fed the replica.
-        ensures notes { NotesInput
-            R.KeepsDigest R.HasStatus self.old.replica self.new.replica (noted self.old) (noted self.new) }
-        // And the count of silence goes on or begins anew.
-        ensures quiet { HearsQuiet R.HasStatus (sender came.now) self.old self.new }
+        // However it ends, the digest of the state is taken then, if one is due, it is noted whether the input has fed
+        // the replica, and the count of silence goes on or begins anew.
+        ensures notes { NotesInput R.KeepsDigest R.HasStatus (sender came.now) self.old.replica self.new.replica
+            (noted self.old) (noted self.new) }
         ensures others { ChangesAtInput self.old self.new }
         ensures broken { OnErr result (self.new.failed ≡ true) }
     {
@@ -134,8 +133,8 @@ impl<R: ServerReplica, S: DatagramSocket + Drop> Server<R, S> {
             (SaysNoMore R.Says R.Gathers (None ∷ []) group.old self.old.replica self.new.replica) }
         // However it ends, that is counted, and the input is noted.
         ensures ticks { self.new.ticks ≡ one_more_tick self.old.ticks }
-        ensures notes { NotesInput
-            R.KeepsDigest R.HasStatus self.old.replica self.new.replica (noted self.old) (noted self.new) }
+        ensures notes { NotesInput R.KeepsDigest R.HasStatus None self.old.replica self.new.replica
+            (one_period_more (noted self.old)) (noted self.new) }
         ensures others { self.new
             ≡ record self.old {
               replica = self.new.replica;
@@ -159,7 +158,8 @@ impl<R: ServerReplica, S: DatagramSocket + Drop> Server<R, S> {
         group: &mut Group,
         log: &L,
     ) -> Result<(), GroupFault>
-        ensures nudges { OnOk result (NudgesIfFed R.Takes R.KeepsDigest group.old group.new self.old self.new) }
+        ensures nudges { OnOk result
+            (NudgesIfFed R.Takes R.KeepsDigest R.HasStatus group.old group.new self.old self.new) }
         ensures gathers { OnOk result
             (GathersNudge R.Gathers group.old group.new self.old.replica self.new.replica) }
         ensures silent { OnErr result
@@ -176,7 +176,8 @@ impl<R: ServerReplica, S: DatagramSocket + Drop> Server<R, S> {
         nudged
     }
 
-    // Counts a datagram and adds it to the group, with a tick after it if one is due by that count.
+    // Counts a datagram and adds it to the group, with a tick after it if one is due by that count. `came` names its
+    // sender.
     pub(crate) fn add_datagram<L: Log>(
         &mut self,
         datagram: Datagram<'_>,
@@ -184,6 +185,7 @@ impl<R: ServerReplica, S: DatagramSocket + Drop> Server<R, S> {
         group: &mut Group,
         log: &L,
     ) -> Result<(), GroupFault>
+        requires { IsSentBy self.old.cluster datagram (sender came.now) }
         ensures adds { OnOk result (AddsAll R.Gathers (datagram.entry ∷ []) group.old group.new self.old self.new) }
         ensures ends { OnErr result (EndsWithin R.Says R.Gathers (datagram.entry ∷ []) group.old self.old self.new) }
         ensures notes { OnOk result (NotesAll R.Takes R.KeepsDigest R.HasStatus group.old group.new self.old self.new) }
@@ -216,7 +218,7 @@ impl<R: ServerReplica, S: DatagramSocket + Drop> Server<R, S> {
             return Ok(false);
         };
         let datagram = Datagram::of(&letter.bytes);
-        let came = Arrival::of_letter(&datagram);
+        let came = Arrival::of_letter(self.cluster, &datagram);
         self.add_datagram(datagram, &came, group, log)?;
         Ok(true)
     }
@@ -310,6 +312,8 @@ impl<R: ServerReplica, S: DatagramSocket + Drop> Server<R, S> {
             ((frames : List (Address × List ℕ))
             × EndsGroup R.Says R.Gathers S.is_observable frames group.old self.old self.new) }
         ensures notes { OnOk result (NotesAll R.Takes R.KeepsDigest R.HasStatus group.old group.new self.old self.new) }
+        // If nothing was added, the most that is noted is a tick withheld.
+        ensures rests { IfOk result (λ some. some ≡ false → NotesNone R.HasStatus self.old self.new) }
         ensures others { ChangesInTurn self.old self.new }
         ensures broken { OnErr result (self.new.failed ≡ true) }
     {

@@ -5,7 +5,6 @@ ghost use Rattle.std.specs.Prelude.{◌≡◌, None, not};
 ghost use Rattle.lk_probe.specs.Neighbours.{bound_in};
 ghost use Rattle.lk_address_book.specs.Addresses.{IsSameFilter, IsSameNetwork};
 ghost use Rattle.lk_hearing.specs.Probes.{count_heard, hears_majority};
-ghost use Rattle.lk_server_replica.specs.declared.probed_state.ProbedState.{ProbedState as ProbedStateValue};
 ghost use Rattle.lk_transport.specs.Inquiring.{AsksOne};
 ghost use Rattle.lk_address_book.specs.Inquiries.{LearnsKept};
 ghost use Rattle.lk_transport.specs.Listening.{HearsKept, ProbesRound};
@@ -21,7 +20,7 @@ use lk_server_replica::ServerReplica;
 use lk_transport::receive_buffer::ReceiveBuffer;
 use lk_transport::received_probe::ReceivedProbe;
 use lk_transport::socket::DatagramSocket;
-use lk_types::{Member, NodeNo};
+use lk_types::NodeNo;
 use log::Log;
 
 // A minute in periods of 100 ms. Where ticks go by datagrams they may be faster.
@@ -145,12 +144,13 @@ impl<R: ServerReplica, S: DatagramSocket + Drop> Server<R, S> {
 
     /// Returns how many of the members of the next position it hears, itself included.
     pub fn count_heard(&self) -> u8
-        ensures { (shown : ProbedStateValue) × R.Shows self.now.replica shown
-            × (result ≡ count_heard self.now.node (periods self.now) self.now.addresses.hearing.asked shown.members) }
+        ensures { result
+            ≡ count_heard self.now.node (periods self.now) self.now.addresses.hearing.asked
+            (R.members self.now.replica) }
     {
-        let shown = self.replica.show();
-        shown.members.facts();
-        self.post.count_heard(shown.members.as_slice(), self.now()) as u8
+        let members = self.replica.members();
+        members.facts();
+        self.post.count_heard(members.as_slice(), self.now()) as u8
     }
 
     // Logs a warning that a node tells another state than its own at one position: once in 600 periods at most.
@@ -185,9 +185,9 @@ impl<R: ServerReplica, S: DatagramSocket + Drop> Server<R, S> {
         }
     }
 
-    // Probes the other members, if that is due in this period. A failed send is counted.
-    fn probe_members(&mut self, members: &[Member], now: u64)
-        ensures probes { ProbesRound S.is_observable self.old.node now members.now
+    // Probes the other members of the next position, if that is due in this period. A failed send is counted.
+    fn probe_members(&mut self, now: u64)
+        ensures probes { ProbesRound S.is_observable self.old.node now (R.members self.old.replica)
             self.old.addresses self.new.addresses
             (send_state_at self.old.loopback self.old) (send_state_at self.new.loopback self.new) }
         ensures network { IsSameNetwork self.old.addresses self.new.addresses }
@@ -200,18 +200,21 @@ impl<R: ServerReplica, S: DatagramSocket + Drop> Server<R, S> {
               incoming = self.new.incoming;
             } }
     {
+        let members = self.replica.members().as_slice();
         let lost = self.post.probe_round(members, now, &mut self.tokens);
         self.unsent = self.unsent.saturating_add(lost);
     }
 
-    // Finds out whether it hears a majority of these members: without one it is deaf.
-    fn judge(&mut self, members: &[Member], now: u64)
+    // Finds out whether it hears a majority of the members of the next position: without one it is deaf.
+    fn judge(&mut self, now: u64)
         ensures { self.new ≡ record self.old {
           addresses = record self.old.addresses {
-            deaf = not (hears_majority self.old.node now self.old.addresses.hearing.asked members.now);
+            deaf = not (hears_majority self.old.node now self.old.addresses.hearing.asked
+                (R.members self.old.replica));
           };
         } }
     {
+        let members = self.replica.members().as_slice();
         let hears = self.post.hears_majority(members, now);
         self.post.set_deaf(!hears);
     }
@@ -219,7 +222,7 @@ impl<R: ServerReplica, S: DatagramSocket + Drop> Server<R, S> {
     // Where ticks go by the clock: counts the kept report, probes the members of the next position if that is due, and
     // finds out whether it hears a majority of them.
     fn listen<L: Log>(&mut self, reported: &Option<Reported>, log: &L)
-        ensures listens { ListensIf R.Shows S.is_observable reported.now self.old self.new }
+        ensures listens { ListensIf R.members S.is_observable reported.now self.old self.new }
         ensures network { IsSameNetwork self.old.addresses self.new.addresses }
         ensures still { S.is_observable → self.new.incoming ≡ self.old.incoming }
         ensures others { self.new
@@ -234,10 +237,9 @@ impl<R: ServerReplica, S: DatagramSocket + Drop> Server<R, S> {
             return;
         }
         let now = self.now();
-        let shown = self.replica.show();
         self.hear(reported, now, log);
-        self.probe_members(shown.members.as_slice(), now);
-        self.judge(shown.members.as_slice(), now);
+        self.probe_members(now);
+        self.judge(now);
     }
 
     // Returns the first node of another genesis that this one has followed: one that sent it a Prepare, an Accept, a
@@ -254,7 +256,8 @@ impl<R: ServerReplica, S: DatagramSocket + Drop> Server<R, S> {
     /// and finds out whether it hears a majority of them. Returns the first node of another genesis that this one has
     /// followed, if there is one; the caller then ends the node.
     pub fn handle_probes<L: Log>(&mut self, buffer: &mut ReceiveBuffer, log: &L) -> Option<Origin>
-        ensures acts { HandlesProbes R.Shows S.is_observable buffer.old.asked buffer.old.reported self.old self.new }
+        ensures acts { HandlesProbes R.Shows R.members S.is_observable buffer.old.asked buffer.old.reported
+            self.old self.new }
         ensures kept { buffer.new ≡ record buffer.old { asked = None; reported = None } }
         ensures bound { result ≡ bound_in self.new.addresses.neighbours }
     {

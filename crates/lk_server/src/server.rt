@@ -311,8 +311,10 @@ pub fn node_turn<R: ServerReplica, S: DatagramSocket + Drop, C: Clock, L: Log>(
         × TurnOrIdle R.Says S.is_observable frames server.old server.new
         × KeepsOf server.old.addresses.seals frames buffer.old buffer.new) }
     // The digest that it reports is the one before, or that of the state which the replica had after one of the inputs
-    // of the group, at a multiple of 64 positions. The last input is a nudge because the replica was fed, if one of the
-    // others has fed it; no other input is one.
+    // of the group, at a multiple of 64 positions. Each input is a datagram, or ends a period: with a nudge in each
+    // 31st, else with a tick. The last one is a nudge because the replica was fed, if one of the others has fed it; no
+    // other input is one. The count of silence goes on at each input, or begins anew if the replica's does, and a tick
+    // that is withheld adds to it; nothing else changes it.
     ensures notes { OnOk result
         (TurnsNotesOrKeeps R.Says R.Gathers R.Takes R.KeepsDigest R.HasStatus S.is_observable server.old
         server.new) }

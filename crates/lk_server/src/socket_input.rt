@@ -11,7 +11,8 @@ ghost use Rattle.lk_server.specs.Gatherings.{Finds, AddsHeard, EndsHeard, AddsFr
 ghost use Rattle.lk_server.specs.Gatherings.{EndsGroup, ChangesAtFrame, ChangesAtSocket};
 ghost use Rattle.lk_server.specs.StepNotes.{NotesAll};
 ghost use Rattle.lk_transport.specs.Streams.{Receives, ComeWithin, first_of, listed};
-ghost use Rattle.lk_address_book.specs.Senders.{RecordsSender};
+ghost use Rattle.lk_address_book.specs.Arrivals.{sender};
+ghost use Rattle.lk_address_book.specs.Senders.{IsSentBy, RecordsSender};
 ghost use Rattle.lk_address_book.specs.Filters.{is_filtered_out};
 ghost use Rattle.lk_transport.specs.Kept.{KeepsLast, KeepsOf};
 
@@ -80,6 +81,7 @@ impl<R: ServerReplica, S: DatagramSocket + Drop> Server<R, S> {
         log: &L,
     ) -> Arrival
         ensures heard { RecordsSender self.old.cluster datagram.now from self.old.addresses self.new.addresses }
+        ensures sent { IsSentBy self.old.cluster datagram.now (sender result) }
         // Where nodes live and the keys do not change.
         ensures network { IsSameFilter self.old.addresses self.new.addresses }
         ensures others { self.new ≡ record self.old { addresses = self.new.addresses } }

@@ -11,7 +11,6 @@ pub record IsStatusOf (r : ReplicaValue) (s : ReplicaStatus) : Type 0 where
   pub snapshot : s.snapshot ≡ r.node.acceptor.state.snapshot_position
   pub executed : s.executed ≡ r.node.learner.whole.roster.executed
   pub gathered : s.gathered ≡ gathered_bytes r.node.learner.gathered
-  pub promised : s.promised ≡ r.node.acceptor.state.promised
   pub term : s.term ≡ option_map (λ t. t.ballot) r.node.leader.term
   pub known : s.known ≡ r.node.known
   pub silence : s.silence ≡ r.node.ticks

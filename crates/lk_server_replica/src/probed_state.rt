@@ -31,8 +31,8 @@ pub struct ProbedState {
     pub names: u16,
 }
 
-// The members of the next position.
-fn next_members(roster: &Roster) -> &Members
+/// The members of the next position.
+pub fn next_members(roster: &Roster) -> &Members
     ensures { slice_get roster.now.sets 0 ≡ Some result.now }
 {
     // It does nothing; by its contract the window is not empty.

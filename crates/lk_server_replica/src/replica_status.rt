@@ -1,7 +1,7 @@
 //! A summary of a replica's state, which a server compares before and after a step for its log and events, and to see
 //! whether the step has fed the replica.
 
-use lk_types::{Ballot, Executed, NodeNo, RealBallot};
+use lk_types::{Executed, NodeNo, RealBallot};
 
 /// A summary of a replica's state between two steps, for a server's log and events.
 #[derive(Clone, Copy)]
@@ -14,8 +14,6 @@ pub struct ReplicaStatus {
     pub executed: Executed,
     /// How many bytes of another node's snapshot it has gathered.
     pub gathered: u32,
-    /// The ballot that it has promised.
-    pub promised: Ballot,
     /// The ballot of its term, if it has one.
     pub term: Option<RealBallot>,
     /// The node that it takes for the leader.

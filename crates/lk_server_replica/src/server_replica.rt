@@ -5,6 +5,7 @@ ghost use Rattle.lk_node_interface.specs.Letters.{LetterValue};
 ghost use Rattle.lk_node.specs.Calls.{heard_by};
 ghost use Rattle.lk_node_interface.specs.declared.input.Input.{Input as InputValue};
 ghost use Rattle.lk_locks.specs.Plain.{Table};
+ghost use Rattle.lk_types.specs.declared.member.Member.{Member};
 ghost use Rattle.lk_replica.specs.Groups.{GroupValue, IsGathered};
 ghost use Rattle.lk_replica.specs.Posts.{GivesLetters, TellsSends};
 ghost use Rattle.lk_state.specs.Packed.{packed};
@@ -15,12 +16,12 @@ ghost use Rattle.lk_server_replica.specs.Showing.{IsShown};
 ghost use Rattle.lk_server_replica.specs.Refusals.{IsOfGroups};
 ghost use Rattle.lk_server_replica.specs.Statuses.{IsStatusOf};
 ghost use Rattle.lk_server_replica.specs.StateDigests.{KeepsDigestOf};
-ghost use Rattle.lk_server_replica.specs.Tables.{greatest_of, table_of};
+ghost use Rattle.lk_server_replica.specs.Tables.{greatest_of, members_of, table_of};
 ghost use Rattle.lk_server_replica.specs.TableVersions.{TellsRaised};
 ghost use Rattle.lk_server_replica.specs.declared.probed_state.ProbedState.{ProbedState as ProbedStateValue};
 ghost use Rattle.lk_server_replica.specs.declared.replica_status.ReplicaStatus.{ReplicaStatus as ReplicaStatusValue};
 
-use crate::probed_state::ProbedState;
+use crate::probed_state::{ProbedState, next_members};
 use crate::replica_status::ReplicaStatus;
 use crate::state_digests::next_digest;
 use crate::table_machine::TableMachine;
@@ -30,7 +31,7 @@ use lk_locks::LockTable;
 use lk_node_interface::{Input, Post, ReplicaFault};
 use lk_probe::StateDigest;
 use lk_replica::{Group, Replica};
-use lk_types::NodeNo;
+use lk_types::{Members, NodeNo};
 use std::alloc::Global;
 
 /// A replica as a server runs it: it takes its input in groups.
@@ -66,6 +67,9 @@ pub trait ServerReplica: Sized + Drop {
 
     /// The greatest number that was ever a member's, by what it has executed.
     ghost greatest: { Self → ℕ };
+
+    /// The members of the next position, by what it has executed.
+    ghost members: { Self → List Member };
 
     /// Returns an empty group, for `gather` and `release`.
     fn new_group(&self, alloc: Global) -> Group
@@ -128,6 +132,10 @@ pub trait ServerReplica: Sized + Drop {
     /// Returns the greatest number that was ever a member's, by what it has executed.
     fn greatest(&self) -> NodeNo
         ensures { result ≡ greatest self.now };
+
+    /// Returns the members of the next position, by what it has executed.
+    fn members(&self) -> &Members
+        ensures { result.now ≡ members self.now };
 }
 
 impl<M: TableMachine, D: LogDisk + Drop> ServerReplica for Replica<M, D> {
@@ -154,6 +162,8 @@ impl<M: TableMachine, D: LogDisk + Drop> ServerReplica for Replica<M, D> {
 
     ghost greatest = { greatest_of };
 
+    ghost members = { members_of };
+
     fn new_group(&self, alloc: Global) -> Group {
         Group::new(alloc)
     }
@@ -173,7 +183,6 @@ impl<M: TableMachine, D: LogDisk + Drop> ServerReplica for Replica<M, D> {
             snapshot: node.snapshot_position(),
             executed: node.executed(),
             gathered: node.gathered_bytes(),
-            promised: node.promised(),
             term: node.term(),
             known: node.presumed_leader(),
             silence: u64::from(node.ticks()),
@@ -198,5 +207,9 @@ impl<M: TableMachine, D: LogDisk + Drop> ServerReplica for Replica<M, D> {
 
     fn greatest(&self) -> NodeNo {
         self.node().roster().greatest()
+    }
+
+    fn members(&self) -> &Members {
+        next_members(self.node().roster())
     }
 }

@@ -1,6 +1,6 @@
 //! What a turn logs, and a demonstration that nobody answers.
 ghost use Rattle.std.specs.Prelude.{◌≡◌, [], ⊤};
-ghost use Rattle.lk_server_replica.specs.Tables.{greatest_of, table_of};
+ghost use Rattle.lk_server_replica.specs.Tables.{greatest_of, members_of, table_of};
 
 use crate::clocks::Stopped;
 use crate::replicas::{Locks, begun};
@@ -17,7 +17,7 @@ use lk_server::server::{Server, node_turn};
 use lk_server_replica::replica_status::ReplicaStatus;
 use lk_server_replica::{ProbedState, ServerReplica};
 use lk_transport::receive_buffer::ReceiveBuffer;
-use lk_types::{Ballot, Command, Executed, NodeNo, Position, RealBallot};
+use lk_types::{Ballot, Command, Executed, Members, NodeNo, Position, RealBallot};
 use log::sink::Memory;
 use std::alloc::Global;
 use std::test::Fail;
@@ -75,6 +75,8 @@ impl ServerReplica for NotingReplica {
 
     ghost greatest = { λ t. greatest_of t.probed };
 
+    ghost members = { λ t. members_of t.probed };
+
     fn new_group(&self, alloc: Global) -> Group {
         Group::new(alloc)
     }
@@ -122,6 +124,10 @@ impl ServerReplica for NotingReplica {
     fn greatest(&self) -> NodeNo {
         self.probed.greatest()
     }
+
+    fn members(&self) -> &Members {
+        self.probed.members()
+    }
 }
 
 // The generation, the snapshot's position, how many positions are executed, and where there is one the round of a
@@ -138,7 +144,6 @@ fn status_of(seen: Seen) -> Result<ReplicaStatus, Fail> {
         snapshot: Executed::of(snapshot).ok_or("snapshot")?,
         executed: Executed::of(executed).ok_or("executed")?,
         gathered: 0,
-        promised: Ballot::ZERO,
         term: match Ballot::of(round, 1) {
             Some(ballot) => RealBallot::of(ballot),
             None => None,

@@ -8,7 +8,8 @@ ghost use Rattle.lk_address_book.specs.Addresses.{client_at, node_at, IsSameFilt
 ghost use Rattle.lk_transport.specs.Streams.{Receives};
 ghost use Rattle.lk_auth.specs.Seals.{heard};
 ghost use Rattle.lk_hearing.specs.Probes.{nothing_sent};
-ghost use Rattle.lk_address_book.specs.Senders.{RecordsSender};
+ghost use Rattle.lk_address_book.specs.Arrivals.{sender};
+ghost use Rattle.lk_address_book.specs.Senders.{IsSentBy, RecordsSender};
 ghost use Rattle.lk_transport.specs.Posts.{IsRoute, IsBoundFor, Becomes};
 ghost use Rattle.lk_transport.specs.Posts.{send_state_of, frame_of, keys_for};
 ghost use Rattle.lk_transport.specs.Watches.{BringsWatch};
@@ -180,6 +181,7 @@ impl<S: DatagramSocket + Drop> SocketPost<S> {
         from: SocketAddr,
     ) -> Arrival
         ensures heard { RecordsSender cluster datagram.now from self.old.addresses self.new.addresses }
+        ensures sent { IsSentBy cluster datagram.now (sender result) }
         ensures network { IsSameFilter self.old.addresses self.new.addresses }
         ensures others { self.new ≡ record self.old { addresses = self.new.addresses } }
     {

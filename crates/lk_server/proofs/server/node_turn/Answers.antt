@@ -4,7 +4,8 @@ use Rattle.lk_transport.specs.Kept.{KeepsOf}
 use Rattle.lk_server.specs.Servers.{ServerValue, HasReceived, TurnOrIdle}
 use Rattle.lk_server.proofs.Carrying.{on_err}
 use Rattle.lk_server.proofs.Turning.{same_by, received_on, turn_of, last_of, last_at_nudge, last_within}
-use Rattle.lk_server.specs.StepNotes.{TurnsNotesOrKeeps, noted}
+use Rattle.lk_server.specs.StepNotes.{TurnsNotesOrKeeps}
+use Rattle.lk_server.proofs.Noting.{noted_ended}
 use Rattle.lk_server.proofs.server.node_turn.Goals as goal
 
 pub returns-then-not-branch-clause-turn : goal.returns-then-not-branch-clause-turn
@@ -92,7 +93,7 @@ returns-in_err-fill_group-clause-ends g c =
 pub returns-then-not-branch-clause-notes : goal.returns-then-not-branch-clause-notes
 returns-then-not-branch-clause-notes g c =
     let same = (c.in_ok-fill_group.ensures.idle (cc c.if-not-branch.true)).2.same in
-    inr (ap (λ (s : ServerValue _). s.replica) same, ap (λ (s : ServerValue _). noted s) same)
+    inr (ap (λ (s : ServerValue _). s.replica) same, c.in_ok-fill_group.ensures.rests (cc c.if-not-branch.true))
 
 pub returns-clause-notes : goal.returns-clause-notes
 returns-clause-notes g c =
@@ -108,6 +109,7 @@ returns-clause-notes g c =
       nudged = c.nudge_if_fed.new.self;
       nudges = c.in_ok-nudge_if_fed.ensures.nudges;
       releases = c.in_ok-end_group.ensures.gives;
-      digest = c.end_group.ensures.counts.digest;
+      kept = noted_ended c.nudge_if_fed.new.self c.end_group.new.self c.end_group.ensures.counts
+          c.end_group.ensures.same c.end_group.ensures.addresses;
       rests = c.end_group.ensures.counts.fed ∙ c.nudge_if_fed.ensures.rests;
     }))

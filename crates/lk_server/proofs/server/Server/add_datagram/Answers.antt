@@ -1,8 +1,8 @@
 use Rattle.std.proofs.Common.{rules, ◌≡◌, refl}
-use Rattle.lk_node_interface.specs.declared.input.Input.TheVariants.{Datagram}
+use Rattle.lk_address_book.specs.Arrivals.{sender}
 use Rattle.lk_server.specs.StepNotes.{nothing}
 use Rattle.lk_server.proofs.Carrying.{on_err}
-use Rattle.lk_server.proofs.Noting.{notes_after, ends_timely}
+use Rattle.lk_server.proofs.Noting.{notes_datagram, notes_period}
 use Rattle.lk_server.proofs.Gatherings.{gathers_from, silent_from, takes_one, takes_tick, ends_one, ends_tick}
 use Rattle.lk_server.proofs.server.Server.add_datagram.Goals as goal
 
@@ -44,19 +44,16 @@ returns-in_err-add_tick-clause-ends g c =
 pub returns-else-ticks_after-clause-notes : goal.returns-else-ticks_after-clause-notes
 returns-else-ticks_after-clause-notes g c =
     let r = g.R.ServerReplica in
-    notes_after r.Takes r.KeepsDigest r.HasStatus (Datagram c.args.datagram) tt c.args.group.now c.args.group.now
-    c.add_input.new.group
-    c.args.self.now c.args.self.now c.add_input.new.self _ _ nothing (search rules) (search rules)
-    c.in_ok-add_input.ensures.takes c.add_input.ensures.notes
+    notes_datagram r.Takes r.KeepsDigest r.HasStatus c.args.datagram (sender c.args.came.now) c.args.group.now
+    c.args.group.now c.add_input.new.group c.args.self.now c.args.self.now c.add_input.new.self _ _ c.requires nothing
+    (search rules) (search rules) c.in_ok-add_input.ensures.takes c.add_input.ensures.notes
 
 pub returns-in_ok-add_tick-clause-notes : goal.returns-in_ok-add_tick-clause-notes
 returns-in_ok-add_tick-clause-notes g c =
     let r = g.R.ServerReplica in
-    let tick = c.in_ok-add_tick.ensures.takes in
-    notes_after r.Takes r.KeepsDigest r.HasStatus tick.input (ends_timely _ tick.input tick.ends) c.args.group.now
-    c.add_input.new.group c.add_tick.new.group
-    c.args.self.now c.add_input.new.self c.add_tick.new.self _ _
-    (notes_after r.Takes r.KeepsDigest r.HasStatus (Datagram c.args.datagram) tt c.args.group.now c.args.group.now
-    c.add_input.new.group
-    c.args.self.now c.args.self.now c.add_input.new.self _ _ nothing (search rules) (search rules)
-    c.in_ok-add_input.ensures.takes c.add_input.ensures.notes) refl refl tick.takes c.add_tick.ensures.notes
+    notes_period r.Takes r.KeepsDigest r.HasStatus c.args.group.now c.add_input.new.group c.add_tick.new.group
+    c.args.self.now c.add_input.new.self c.add_tick.new.self
+    (notes_datagram r.Takes r.KeepsDigest r.HasStatus c.args.datagram (sender c.args.came.now) c.args.group.now
+    c.args.group.now c.add_input.new.group c.args.self.now c.args.self.now c.add_input.new.self _ _ c.requires nothing
+    (search rules) (search rules) c.in_ok-add_input.ensures.takes c.add_input.ensures.notes)
+    c.in_ok-add_tick.ensures.takes c.add_tick.ensures.notes

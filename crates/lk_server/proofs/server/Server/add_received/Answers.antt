@@ -1,4 +1,4 @@
-use Rattle.std.proofs.Common.{rules, ◌≡◌, false, refl}
+use Rattle.std.proofs.Common.{rules, ◌≡◌, false, ap, refl}
 use Rattle.lk_probe.specs.Neighbours.{is_stranger}
 use Rattle.lk_auth.specs.Seals.{heard}
 use Rattle.lk_address_book.specs.Addresses.{filter_of}
@@ -8,7 +8,8 @@ use Rattle.lk_server.proofs.FilteredOut.{is_not_out}
 use Rattle.lk_server.proofs.Asking.{keeps_strange}
 use Rattle.lk_server.proofs.Carrying.{on_err}
 use Rattle.lk_server.proofs.Gatherings.{heard_one, ends_heard}
-use Rattle.lk_server.proofs.Noting.{notes_none}
+use Rattle.lk_server.specs.Servers.{ServerValue}
+use Rattle.lk_server.proofs.Noting.{noted_heard, notes_as, notes_none}
 use Rattle.lk_server.proofs.server.Server.add_received.Goals as goal
 
 pub returns-clause-adds : goal.returns-clause-adds
@@ -83,3 +84,12 @@ returns-then-drops-clause-notes g c =
     let same : c.note_dropped.new.self ≡ c.args.self.now = search rules in
     notes_none r.Takes r.KeepsDigest r.HasStatus c.args.group.now c.args.group.now c.args.self.now
     c.note_dropped.new.self refl same
+
+pub returns-clause-notes : goal.returns-clause-notes
+returns-clause-notes g c =
+    let r = g.R.ServerReplica in
+    let s = c.record_sender-came in
+    notes_as r.Takes r.KeepsDigest r.HasStatus c.args.group.now c.add_datagram.new.group c.args.self.now s.new.self
+    c.add_datagram.new.self c.add_datagram.new.self (ap (λ (s : ServerValue _). s.replica) s.ensures.others)
+    (noted_heard c.args.self.now s.new.self s.ensures.others s.ensures.network) refl refl
+    c.in_ok-add_datagram.ensures.notes

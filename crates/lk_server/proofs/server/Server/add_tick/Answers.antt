@@ -1,5 +1,6 @@
 use Rattle.std.proofs.Common.{rules, ◌≡◌}
 use Rattle.lk_server.proofs.PeriodEnds.{takes_end, gathers_end, silent_end}
+use Rattle.lk_server.proofs.Noting.{noted_counted}
 use Rattle.lk_server.proofs.server.Server.add_tick.Goals as goal
 
 pub returns-clause-takes : goal.returns-clause-takes
@@ -22,3 +23,9 @@ returns-clause-silent g c =
     silent_end c.add_input.result c.period_end-input.result c.args.group.now c.add_input.new.group
     g.R.ServerReplica.Says g.R.ServerReplica.Gathers c.args.self.now.replica c.self.inside.replica
     c.add_input.new.self.replica c.period_end-input.ensures.timed replica c.add_input.ensures.silent
+
+pub returns-clause-notes : goal.returns-clause-notes
+returns-clause-notes g c =
+    let r = g.R.ServerReplica in
+    noted_counted r.KeepsDigest r.HasStatus c.args.self.now _ c.add_input.new.self (search rules)
+    c.add_input.ensures.notes

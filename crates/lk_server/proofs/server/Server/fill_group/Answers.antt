@@ -1,4 +1,4 @@
-use Rattle.std.proofs.Common.{rules, ◌≡◌, ◌∙◌, ℕ, true, false, List, refl, ap, sym, subst}
+use Rattle.std.proofs.Common.{rules, ◌≡◌, ◌∙◌, ℕ, true, false, List, inl, inr, ap, sym, subst}
 use Rattle.std.specs.declared.net.socket_addr.SocketAddr.{SocketAddr}
 use Rattle.lk_server.specs.Gatherings.{AddsGroup, EndsGroup}
 use Rattle.lk_server.specs.Servers.{ServerValue, HasReceived, IsIdle}
@@ -7,7 +7,7 @@ use Rattle.lk_server.proofs.Turning.{untimely_takes, untimely_rests, withheld_ta
 use Rattle.lk_server.proofs.Turning.{tick_turn, tick_turn_ends}
 use Rattle.lk_server.proofs.server.Server.fill_group.Goals as goal
 use Rattle.lk_server.specs.StepNotes.{NotesAll, noted}
-use Rattle.lk_server.proofs.Noting.{ends_timely, notes_after, notes_as}
+use Rattle.lk_server.proofs.Noting.{none_noted, noted_withheld, notes_period, notes_withheld, withheld_found}
 use Rattle.lk_transport.specs.Kept.{KeepsOf}
 
 pub returns-then-not-is_due-clause-adds : goal.returns-then-not-is_due-clause-adds
@@ -121,21 +121,37 @@ returns-then-not-is_due-clause-notes g c =
 pub returns-then-withholds-clause-notes : goal.returns-then-withholds-clause-notes
 returns-then-withholds-clause-notes g c =
     let r = g.R.ServerReplica in
-    let w = c.withhold_tick.ensures.counts in
-    let t = c.set_timeout.ensures in
-    notes_as r.Takes r.KeepsDigest r.HasStatus c.args.group.now c.add_pending.new.group c.args.self.now
-    c.set_timeout.new.self
-    c.add_pending.new.self c.withhold_tick.new.self (ap (λ (s : ServerValue _). s.replica) t)
-    (ap (λ (s : ServerValue _). noted s) t) (ap (λ (s : ServerValue _). s.replica) w)
-    (ap (λ (s : ServerValue _). noted s) w) c.in_ok-found.ensures.notes
+    let w = c.withhold_tick.ensures in
+    notes_withheld r.Takes r.KeepsDigest r.HasStatus c.args.group.now c.add_pending.new.group c.args.self.now
+    c.add_pending.new.self c.withhold_tick.new.self
+    (subst (λ (s : ServerValue _). NotesAll r.Takes r.KeepsDigest r.HasStatus c.args.group.now c.add_pending.new.group s
+    c.add_pending.new.self) c.set_timeout.ensures c.in_ok-found.ensures.notes)
+    (ap (λ (s : ServerValue _). s.replica) w.counts)
+    (noted_withheld r.HasStatus c.add_pending.new.self c.withhold_tick.new.self
+    (c.withholds.ensures.0 (cc c.if-withholds.true)) w.quiet w.counts)
 
 pub returns-clause-notes : goal.returns-clause-notes
 returns-clause-notes g c =
     let r = g.R.ServerReplica in
-    let tick = c.in_ok-add_tick.ensures.takes in
-    notes_after r.Takes r.KeepsDigest r.HasStatus tick.input (ends_timely _ tick.input tick.ends) c.args.group.now
-    c.add_pending.new.group c.add_tick.new.group
-    c.args.self.now c.add_pending.new.self c.add_tick.new.self _ _
+    notes_period r.Takes r.KeepsDigest r.HasStatus c.args.group.now c.add_pending.new.group c.add_tick.new.group
+    c.args.self.now c.add_pending.new.self c.add_tick.new.self
     (subst (λ (s : ServerValue _). NotesAll r.Takes r.KeepsDigest r.HasStatus c.args.group.now c.add_pending.new.group s
-    c.add_pending.new.self) c.set_timeout.ensures c.in_ok-found.ensures.notes) refl refl tick.takes
+    c.add_pending.new.self) c.set_timeout.ensures c.in_ok-found.ensures.notes) c.in_ok-add_tick.ensures.takes
     c.add_tick.ensures.notes
+
+pub returns-then-not-is_due-clause-rests : goal.returns-then-not-is_due-clause-rests
+returns-then-not-is_due-clause-rests g c = λ isnt.
+    let n = c.in_ok-found.ensures.none (apart_by isnt c.is_something.ensures.1) in
+    none_noted g.R.ServerReplica.HasStatus c.args.self.now c.set_timeout.new.self c.add_pending.new.self
+    c.set_timeout.ensures (inl (ap (λ (s : ServerValue _). noted s) n.2.same))
+
+pub returns-then-withholds-clause-rests : goal.returns-then-withholds-clause-rests
+returns-then-withholds-clause-rests g c = λ isnt.
+    let n = c.in_ok-found.ensures.none (apart_by isnt c.is_something-then-withholds.ensures.1) in
+    let w = c.withhold_tick.ensures in
+    none_noted g.R.ServerReplica.HasStatus c.args.self.now c.set_timeout.new.self c.withhold_tick.new.self
+    c.set_timeout.ensures (inr (withheld_found g.R.ServerReplica.HasStatus c.set_timeout.new.self
+    c.add_pending.new.self c.withhold_tick.new.self (ap (λ (s : ServerValue _). s.replica) n.2.same)
+    (ap (λ (s : ServerValue _). noted s) n.2.same)
+    (noted_withheld g.R.ServerReplica.HasStatus c.add_pending.new.self c.withhold_tick.new.self
+    (c.withholds.ensures.0 (cc c.if-withholds.true)) w.quiet w.counts)))

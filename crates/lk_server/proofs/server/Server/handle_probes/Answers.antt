@@ -11,6 +11,7 @@ use Rattle.lk_server.proofs.server.Server.handle_probes.Goals as goal
 pub returns-clause-acts : goal.returns-clause-acts
 returns-clause-acts g c =
     let shows = g.R.ServerReplica.Shows in
+    let members = g.R.ServerReplica.members in
     let observable = g.S.DatagramSocket.is_observable in
     let t = c.pop_probe-asked.ensures in
     let a = c.report_to.ensures in
@@ -27,9 +28,9 @@ returns-clause-acts g c =
     c.pop_reported-reported.ensures.value ∙ ap (λ (b : BufferValue). b.reported) t.others in
     let learns = subst (λ (o : Option Reported). LearnsKept c.readmit.new.self.node o c.readmit.new.self.addresses
     c.learn.new.self.addresses) told l.learns in
-    let listens = subst (λ (o : Option Reported). ListensIf shows observable o c.probe_next.new.self
+    let listens = subst (λ (o : Option Reported). ListensIf members observable o c.probe_next.new.self
     c.listen.new.self) told h.listens in
-    acted shows observable c.args.buffer.now.asked c.args.buffer.now.reported _ c.args.self.now c.report_to.new.self
-    c.readmit.new.self c.learn.new.self c.probe_next.new.self c.listen.new.self
+    acted shows members observable c.args.buffer.now.asked c.args.buffer.now.reported _ c.args.self.now
+    c.report_to.new.self c.readmit.new.self c.learn.new.self c.probe_next.new.self c.listen.new.self
     replies a.others readmits r.network r.others learns l.network l.others c.now-now.ensures q.asks
     q.network q.still q.others listens h.network h.still h.others
