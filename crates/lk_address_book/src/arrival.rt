@@ -44,8 +44,8 @@ pub fn name_of(message: &NodeMessageRef<'_>) -> &'static str {
 }
 
 impl Arrival {
-    /// Classifies a letter of a node of that cluster to itself; `Bad` if it is no message of a node.
-    pub fn of_letter(cluster: u64, datagram: &Datagram<'_>) -> Arrival
+    /// Classifies an envelope of a node of that cluster to itself; `Bad` if it is no message of a node.
+    pub fn of_envelope(cluster: u64, datagram: &Datagram<'_>) -> Arrival
         ensures sent { IsSentBy cluster datagram.now (sender result) }
     {
         let Ok(message) = datagram.message() else {

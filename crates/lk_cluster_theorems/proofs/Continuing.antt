@@ -6,7 +6,7 @@ use Rattle.lk_disk.specs.Disk.{Disk, after_stop}
 use Rattle.lk_memory_disk.specs.Memory.{Memory, disk_of}
 use Rattle.lk_disk.specs.declared.device.Side.{Side}
 use Rattle.lk_locks.specs.Meaning.{table_meaning}
-use Rattle.lk_node_interface.specs.Letters.{LetterValue, batch_of}
+use Rattle.lk_node_interface.specs.Envelopes.{EnvelopeValue, batch_of}
 use Rattle.lk_node_interface.specs.declared.note.Note.{Note}
 use Rattle.lk_node.specs.Histories.{Genesis}
 use Rattle.lk_node.specs.Leavings.{DisksFit}
@@ -16,7 +16,7 @@ use Rattle.lk_server.specs.Servers.{ServerValue, Turn, LastTurn, IsIdle}
 use Rattle.lk_probe.specs.declared.reported.Reported.{Reported}
 use Rattle.lk_transport.specs.declared.received_probe.ReceivedProbe.{ReceivedProbe}
 use Rattle.lk_address_book.specs.declared.hosts.HostNews.{HostNews}
-use Rattle.lk_node_process.specs.Turns.{ActsBeside, DoesTurnWith, TellsFailure, letters_in}
+use Rattle.lk_node_process.specs.Turns.{ActsBeside, DoesTurnWith, TellsFailure, envelopes_in}
 use Rattle.lk_sim.specs.Networks.{IsStillDown, RestsBy, Stops, nothing}
 use Rattle.lk_sim_nodes.specs.Rooms.{AreShort}
 use Rattle.lk_sim_nodes.specs.declared.seat.Life.{Life}
@@ -31,13 +31,13 @@ use Rattle.lk_cluster_theorems.proofs.Keeping.{beside_changes, reachable_sound}
 use Rattle.lk_cluster_theorems.proofs.Saying.{turn_so}
 use Rattle.lk_cluster_theorems.proofs.Tracing.{Traced, trace_group}
 
--- the cluster in which that node is so, and has given these letters to be sent, and this has joined the trace
-abbrev pub continued : Cluster → ℕ → ℕ → Life (ServerValue ReplicaValue) → List LetterValue → List Note → Cluster
-continued old index n life letters trace =
+-- the cluster in which that node is so, and has given these envelopes to be sent, and this has joined the trace
+abbrev pub continued : Cluster → ℕ → ℕ → Life (ServerValue ReplicaValue) → List EnvelopeValue → List Note → Cluster
+continued old index n life envelopes trace =
     record {
       genesis = old.genesis;
       seats = set old.seats index (node_of n life);
-      sent = old.sent ++ batch_of n letters;
+      sent = old.sent ++ batch_of n envelopes;
       trace = old.trace ++ trace;
       ended = old.ended;
     }
@@ -68,11 +68,11 @@ module _ (May : Network) (Metered observable : Type 0) where
   reaches genesis old new all more = leads_on (nothing genesis) old new all more
 
   continues_with : (genesis : Genesis) (old : Cluster) → IsReachable May Metered observable genesis old
-      → (index n : ℕ) (life : Life (ServerValue ReplicaValue)) (letters : List LetterValue) (notes : List Note)
-      (Adds : List Note → Type 0) → Adds notes → Leads old (continued old index n life letters notes)
-      → Continues May Metered observable genesis old index n life letters Adds
-  continues_with genesis old all index n life letters notes Adds adds leads =
-      let new = continued old index n life letters notes in
+      → (index n : ℕ) (life : Life (ServerValue ReplicaValue)) (envelopes : List EnvelopeValue) (notes : List Note)
+      (Adds : List Note → Type 0) → Adds notes → Leads old (continued old index n life envelopes notes)
+      → Continues May Metered observable genesis old index n life envelopes Adds
+  continues_with genesis old all index n life envelopes notes Adds adds leads =
+      let new = continued old index n life envelopes notes in
       record {
         cluster = new;
         events = leads.0;
@@ -212,13 +212,13 @@ module _ (May : Network) (Metered observable : Type 0) where
 
   -- what is done beside the protocol after that
   acts_lead : (old : Cluster) (index n : ℕ) (before mid after : ServerValue ReplicaValue)
-      → HasNode old index n (Up before) → (letters : List LetterValue) (notes : List Note)
+      → HasNode old index n (Up before) → (envelopes : List EnvelopeValue) (notes : List Note)
       → (news : HostNews) (asked : Option ReceivedProbe) (reported : Option Reported)
       (watched : Option ReceivedWatch) → ActsBeside observable news asked reported watched mid after
-      → Leads (continued old index n (Up mid) letters notes) (continued old index n (Up after) letters notes)
-  acts_lead old index n before mid after at letters notes news asked reported watched acts =
-      let turned = continued old index n (Up mid) letters notes in
-      let new = continued old index n (Up after) letters notes in
+      → Leads (continued old index n (Up mid) envelopes notes) (continued old index n (Up after) envelopes notes)
+  acts_lead old index n before mid after at envelopes notes news asked reported watched acts =
+      let turned = continued old index n (Up mid) envelopes notes in
+      let new = continued old index n (Up after) envelopes notes in
       let idles : Idles observable turned new = record {
         node = node_of n (Up mid);
         next = node_of n (Up after);
@@ -247,9 +247,9 @@ module _ (May : Network) (Metered observable : Type 0) where
       → (turn : Turn (Says Metered) observable came server after) → after.replica.failed ≡ false
       → (notes : List Note)
       → TracesGroup old.genesis.cluster n turn.given (steps_of Metered turn.hands_on.says.comes) notes
-      → Leads old (continued old index n (Up after) turn.hands_on.letters notes)
+      → Leads old (continued old index n (Up after) turn.hands_on.envelopes notes)
   turn_leads old index n server after at came may turn alive notes traces =
-      let new = continued old index n (Up after) turn.hands_on.letters notes in
+      let new = continued old index n (Up after) turn.hands_on.envelopes notes in
       let does : DoesTurn May Metered observable old new = record {
         node = node_of n (Up server);
         next = node_of n (Up after);
@@ -275,9 +275,9 @@ module _ (May : Network) (Metered observable : Type 0) where
       → (left : Memory) → ((s : Side) → disk_of left s ≡ server_disks after s)
       → (notes : List Note)
       → TracesGroup old.genesis.cluster n turn.given (steps_of Metered turn.hands_on.says.comes) notes
-      → Leads old (continued old index n (Down left) turn.hands_on.letters notes)
+      → Leads old (continued old index n (Down left) turn.hands_on.envelopes notes)
   last_turn_leads old index n server after at came may turn ended left same notes traces =
-      let new = continued old index n (Down left) turn.hands_on.letters notes in
+      let new = continued old index n (Down left) turn.hands_on.envelopes notes in
       let ends : EndsByTurn May Metered observable old new = record {
         node = node_of n (Up server);
         next = node_of n (Down left);
@@ -309,7 +309,8 @@ module _ (May : Network) (Metered observable : Type 0) where
         let may_all = nudged_may old.genesis old.sent turn.timed turn.given turn.nudged
         (turn_takes May Metered observable unforged old old w n 64 server came turn.timed turn.may
         (w.loopback index node at server refl) may) in
-        trace_group old.genesis n old.seats index node at after Metered turn.given server.replica turn.hands_on.letters
+        trace_group old.genesis n old.seats index node at after Metered turn.given server.replica
+        turn.hands_on.envelopes
         after.replica old.sent old.trace may_all
         (with_replica old w index node at server after refl) turn.hands_on.says
 
@@ -323,7 +324,8 @@ module _ (May : Network) (Metered observable : Type 0) where
         (turn_takes May Metered observable unforged old old w n turn.count server came turn.first.whole turn.first.may
         (w.loopback index node at server refl) may) in
         let may_all = nudged_may old.genesis old.sent turn.timed turn.given turn.nudged may_timed in
-        trace_group old.genesis n old.seats index node at after Metered turn.given server.replica turn.hands_on.letters
+        trace_group old.genesis n old.seats index node at after Metered turn.given server.replica
+        turn.hands_on.envelopes
         after.replica old.sent old.trace may_all
         (with_replica old w index node at server after refl) turn.hands_on.says
 
@@ -332,12 +334,12 @@ module _ (May : Network) (Metered observable : Type 0) where
         → (came : List (SocketAddr × List ℕ))
         → May old.genesis old.sent server came → (turn : Turn (Says Metered) observable came server after)
         → after.replica.failed ≡ false
-        → Continues May Metered observable genesis old index n (Up after) turn.hands_on.letters
+        → Continues May Metered observable genesis old index n (Up after) turn.hands_on.envelopes
         (TracesGroup old.genesis.cluster n turn.given (steps_of Metered turn.hands_on.says.comes))
     turn_continues genesis old all index n server after at came may turn alive =
         let t = turn_trace old (reachable_sound May Metered observable unforged genesis old all) index n server after at
         came may turn in
-        continues_with genesis old all index n (Up after) turn.hands_on.letters t.0
+        continues_with genesis old all index n (Up after) turn.hands_on.envelopes t.0
         (TracesGroup old.genesis.cluster n turn.given (steps_of Metered turn.hands_on.says.comes)) t.1
         (turn_leads old index n server after at came may turn alive t.0 t.1)
 
@@ -346,20 +348,20 @@ module _ (May : Network) (Metered observable : Type 0) where
         → (came : List (SocketAddr × List ℕ))
         → May old.genesis old.sent server came → (turn : LastTurn (Says Metered) observable came server after)
         → after.replica.failed ≡ true → (left : Memory) → ((s : Side) → disk_of left s ≡ server_disks after s)
-        → Continues May Metered observable genesis old index n (Down left) turn.hands_on.letters
+        → Continues May Metered observable genesis old index n (Down left) turn.hands_on.envelopes
         (TracesGroup old.genesis.cluster n turn.given (steps_of Metered turn.hands_on.says.comes))
     last_turn_continues genesis old all index n server after at came may turn ended left same =
         let t = last_trace old (reachable_sound May Metered observable unforged genesis old all) index n server after at
         came may turn in
-        continues_with genesis old all index n (Down left) turn.hands_on.letters t.0
+        continues_with genesis old all index n (Down left) turn.hands_on.envelopes t.0
         (TracesGroup old.genesis.cluster n turn.given (steps_of Metered turn.hands_on.says.comes)) t.1
         (last_turn_leads old index n server after at came may turn ended left same t.0 t.1)
 
   -- ---- turns of the program, of a replica that says so
 
-  module _ (S : ReplicaValue → List (Option (List ℕ)) → List LetterValue → ReplicaValue → Type 0)
-      (so : (old : ReplicaValue) (given : List (Option (List ℕ))) (letters : List LetterValue) (new : ReplicaValue)
-      → S old given letters new → Says Metered old given letters new) where
+  module _ (S : ReplicaValue → List (Option (List ℕ)) → List EnvelopeValue → ReplicaValue → Type 0)
+      (so : (old : ReplicaValue) (given : List (Option (List ℕ))) (envelopes : List EnvelopeValue) (new : ReplicaValue)
+      → S old given envelopes new → Says Metered old given envelopes new) where
     -- whether a call has ended the replica is told before what is done beside the protocol as after it
     mid_failure : (mid next : ServerValue ReplicaValue) (news : HostNews) (asked : Option ReceivedProbe)
         (reported : Option Reported) (watched : Option ReceivedWatch)
@@ -387,7 +389,7 @@ module _ (May : Network) (Metered observable : Type 0) where
         → (came frames : List (SocketAddr × List ℕ)) → May old.genesis old.sent first came
         → (turn : Turn S observable came first next ⊎ IsIdle observable frames first next) → TellsFailure next
         → (notes : List Note) → TracesOf old.genesis.cluster n turn notes
-        → Leads old (continued old index n (Up next) (letters_in S observable turn) notes)
+        → Leads old (continued old index n (Up next) (envelopes_in S observable turn) notes)
     taken_leads old index n first next at came frames may (inl turn) failure notes traces =
         turn_leads old index n first next at came may (turn_so S (Says Metered) so observable came first next turn)
         (sym failure ∙ turn.alive) notes traces
@@ -402,10 +404,10 @@ module _ (May : Network) (Metered observable : Type 0) where
         → (turn : DoesTurnWith S observable kept told wanted After first next)
         → May old.genesis old.sent first turn.came
         → (notes : List Note) → TracesOf old.genesis.cluster n turn.turn notes
-        → Leads old (continued old index n (Up next) (letters_in S observable turn.turn) notes)
+        → Leads old (continued old index n (Up next) (envelopes_in S observable turn.turn) notes)
     done_leads kept told wanted After old index n first next at turn may notes traces =
         let mid = turn.mid in
-        let said = letters_in S observable turn.turn in
+        let said = envelopes_in S observable turn.turn in
         leads_on old (continued old index n (Up mid) said notes) (continued old index n (Up next) said notes)
         (taken_leads old index n first mid at turn.came turn.frames may turn.turn
         (mid_failure mid next turn.news turn.asked turn.reported turn.watched turn.acts turn.failure) notes traces)

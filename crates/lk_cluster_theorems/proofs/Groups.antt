@@ -14,7 +14,7 @@ use Rattle.lk_log.proofs.Room.{never_longer}
 use Rattle.lk_messages.specs.declared.message.NodeMessage.TheVariants as kinds
 use Rattle.lk_agreement_laws.specs.Snapshots.{IsSlice}
 use Rattle.lk_agreement_laws.proofs.Histories.{prefix_slice, still_sent}
-use Rattle.lk_node_interface.specs.Letters.{LetterValue, batch_of, datagram_of}
+use Rattle.lk_node_interface.specs.Envelopes.{EnvelopeValue, batch_of, datagram_of}
 use Rattle.lk_node_interface.specs.declared.input.Input.{Input}
 use Rattle.lk_node_interface.specs.declared.input.Input.TheVariants.{Tick, Nudge, Datagram as Heard}
 use Rattle.lk_node_interface.specs.declared.note.Note.{Note}
@@ -22,7 +22,7 @@ use Rattle.lk_node.specs.Calls.{heard_by, InputFits, NodeFits, LeavesFit}
 use Rattle.lk_node.specs.Histories.{History, Genesis, Datagram, RequestValue, IsLawful, later, text}
 use Rattle.lk_node.specs.Keeping.{ReplicaHolds}
 use Rattle.lk_node.specs.Leavings.{DisksFit}
-use Rattle.lk_replica.specs.Groups.{StepSaid, letters_of, GoesThrough}
+use Rattle.lk_replica.specs.Groups.{StepSaid, envelopes_of, GoesThrough}
 use Rattle.lk_replica.specs.Posts.{AreOf}
 use Rattle.lk_recovery.specs.Remembering.{ReplicaRemembers}
 use Rattle.lk_replica.specs.ReplicaValue.{ReplicaValue, device_of}
@@ -239,7 +239,7 @@ module _ (genesis : Genesis) (n : ℕ) (seats : List Node) (index : ℕ) (node :
   StepGoes r i mid step =
       ((h : History) → NodeFits table_meaning h n (ReplicaHolds table_meaning r.node r.store h.genesis n)
       (disks r.store)
-      → InputFits h i → (sent : List LetterValue) → AreOf sent step.1
+      → InputFits h i → (sent : List EnvelopeValue) → AreOf sent step.1
       → LeavesFit table_meaning h n (ReplicaHolds table_meaning mid.node mid.store h.genesis n)
       (disks mid.store) step.0 (batch_of n sent))
       × StaysWithin max_after (disks r.store) (disks mid.store)
@@ -279,10 +279,10 @@ module _ (genesis : Genesis) (n : ℕ) (seats : List Node) (index : ℕ) (node :
       → GoesThrough table_meaning n r is q said → (more : List Note)
       → TracesGroup genesis.cluster n (map heard_by is) said more
       → (sent : List Datagram) (trace : List Note) → AllMay genesis sent (map heard_by is) → IsUpWith r sent trace
-      → IsUpWith q (sent ++ batch_of n (letters_of said)) (trace ++ more)
+      → IsUpWith q (sent ++ batch_of n (envelopes_of said)) (trace ++ more)
   goes_through [] r q said goes more joins sent trace may w =
-      up_as q sent (sent ++ batch_of n (letters_of said)) trace (trace ++ more)
-      (sym (ap (λ (l : List StepSaid). sent ++ batch_of n (letters_of l)) goes.0 ∙ append-nil sent))
+      up_as q sent (sent ++ batch_of n (envelopes_of said)) trace (trace ++ more)
+      (sym (ap (λ (l : List StepSaid). sent ++ batch_of n (envelopes_of l)) goes.0 ∙ append-nil sent))
       (sym (ap (λ (l : List Note). trace ++ l) joins ∙ append-nil trace))
       (settled r q goes.1 goes.2 sent trace w)
   goes_through (i ∷ is) r q said goes more joins sent trace may w =
@@ -293,11 +293,11 @@ module _ (genesis : Genesis) (n : ℕ) (seats : List Node) (index : ℕ) (node :
       let first = step_on r mid i step (goes.5, goes.6) j.0 j.3 sent trace may.0 w in
       let rest = goes_through is mid q goes.3 goes.7 j.1 j.4 (sent ++ batch_of n step.1) (trace ++ j.0)
       (all_later genesis sent (batch_of n step.1) (map heard_by is) may.1) first in
-      up_as q ((sent ++ batch_of n step.1) ++ batch_of n (letters_of goes.3)) (sent ++ batch_of n (letters_of said))
+      up_as q ((sent ++ batch_of n step.1) ++ batch_of n (envelopes_of goes.3)) (sent ++ batch_of n (envelopes_of said))
       ((trace ++ j.0) ++ j.1) (trace ++ more)
-      (append_assoc sent (batch_of n step.1) (batch_of n (letters_of goes.3))
-      ∙ ap (λ (l : List Datagram). sent ++ l) (sym (map-append (datagram_of n) step.1 (letters_of goes.3)))
-      ∙ ap (λ (l : List StepSaid). sent ++ batch_of n (letters_of l)) (sym goes.4))
+      (append_assoc sent (batch_of n step.1) (batch_of n (envelopes_of goes.3))
+      ∙ ap (λ (l : List Datagram). sent ++ l) (sym (map-append (datagram_of n) step.1 (envelopes_of goes.3)))
+      ∙ ap (λ (l : List StepSaid). sent ++ batch_of n (envelopes_of l)) (sym goes.4))
       (append_assoc trace j.0 j.1 ∙ ap (λ (l : List Note). trace ++ l) (sym j.2)) rest
 
   -- of one that was refused what was asked is
@@ -335,11 +335,11 @@ module _ (genesis : Genesis) (n : ℕ) (seats : List Node) (index : ℕ) (node :
     pub up : q.failed ≡ false → IsUpWith q sent trace
     pub down : q.failed ≡ true → HoldsAt (seats_of (Down (device_of q.store))) sent trace
 
-  module _ (Metered : Type 0) (given : List (Option (List ℕ))) (r : ReplicaValue) (letters : List LetterValue)
-      (q : ReplicaValue) (says : SaysOf table_meaning IsTableText Metered r given letters q) (more : List Note)
+  module _ (Metered : Type 0) (given : List (Option (List ℕ))) (r : ReplicaValue) (envelopes : List EnvelopeValue)
+      (q : ReplicaValue) (says : SaysOf table_meaning IsTableText Metered r given envelopes q) (more : List Note)
       (sent : List Datagram) (trace : List Note) (may : AllMay genesis sent given) (w : IsUpWith r sent trace) where
-    by_group : (group : SaysByGroup table_meaning IsTableText Metered r given letters q)
-        → TracesGroup genesis.cluster n given group.said more → Leaves (sent ++ batch_of n letters) (trace ++ more) q
+    by_group : (group : SaysByGroup table_meaning IsTableText Metered r given envelopes q)
+        → TracesGroup genesis.cluster n given group.said more → Leaves (sent ++ batch_of n envelopes) (trace ++ more) q
     by_group group joins =
         let j = subst (λ (g : List (Option (List ℕ))). TracesGroup genesis.cluster n g group.said more)
         (sym group.are_given) joins in
@@ -347,13 +347,13 @@ module _ (genesis : Genesis) (n : ℕ) (seats : List Node) (index : ℕ) (node :
         let through = group.goes genesis n (remembers r sent trace w) n in
         let last = goes_through group.inputs r q group.said through more j sent trace m w in
         record {
-          up = λ is. subst (λ (ls : List LetterValue). IsUpWith q (sent ++ batch_of n ls) (trace ++ more))
+          up = λ is. subst (λ (ls : List EnvelopeValue). IsUpWith q (sent ++ batch_of n ls) (trace ++ more))
               (sym group.are_said) last;
           down = λ is. absurd (let both : true ≡ false = sym is ∙ group.taken.alive in cc both);
         }
 
-    by_refusal : IsSilenced letters q → TracesGroup genesis.cluster n given [] more
-        → Leaves (sent ++ batch_of n letters) (trace ++ more) q
+    by_refusal : IsSilenced envelopes q → TracesGroup genesis.cluster n given [] more
+        → Leaves (sent ++ batch_of n envelopes) (trace ++ more) q
     by_refusal silent joins =
         let asked = all_asked given more joins r sent trace w in
         let j = subst (λ (g : List (Option (List ℕ))). TracesGroup genesis.cluster n g [] more) (sym says.are_given)
@@ -369,15 +369,15 @@ module _ (genesis : Genesis) (n : ℕ) (seats : List Node) (index : ℕ) (node :
         record {
           up = λ is. absurd (let both : false ≡ true = sym is ∙ silent.ended in cc both);
           down = λ is. subst (λ (l : List Datagram). HoldsAt (seats_of (Down (device_of q.store))) l (trace ++ more))
-              (sym (ap (λ (ls : List LetterValue). sent ++ batch_of n ls) silent.none ∙ append-nil sent)) down;
+              (sym (ap (λ (ls : List EnvelopeValue). sent ++ batch_of n ls) silent.none ∙ append-nil sent)) down;
         }
 
-    by_comes : (comes : SaysByGroup table_meaning IsTableText Metered r given letters q ⊎ IsSilenced letters q)
+    by_comes : (comes : SaysByGroup table_meaning IsTableText Metered r given envelopes q ⊎ IsSilenced envelopes q)
         → TracesGroup genesis.cluster n given (steps_of Metered comes) more
-        → Leaves (sent ++ batch_of n letters) (trace ++ more) q
+        → Leaves (sent ++ batch_of n envelopes) (trace ++ more) q
     by_comes (inl group) joins = by_group group joins
     by_comes (inr silent) joins = by_refusal silent joins
 
     pub group_leaves : TracesGroup genesis.cluster n given (steps_of Metered says.comes) more
-        → Leaves (sent ++ batch_of n letters) (trace ++ more) q
+        → Leaves (sent ++ batch_of n envelopes) (trace ++ more) q
     group_leaves joins = by_comes says.comes joins

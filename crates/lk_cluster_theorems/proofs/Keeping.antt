@@ -10,7 +10,7 @@ use Rattle.lk_memory_disk.specs.Memory.{Memory, disk_of}
 use Rattle.lk_disk.specs.declared.device.Side.{Side}
 use Rattle.lk_locks.specs.Meaning.{table_meaning}
 use Rattle.lk_agreement_laws.proofs.Histories.{heard_was_sent, cons_cases, contains_more}
-use Rattle.lk_node_interface.specs.Letters.{LetterValue, batch_of, datagram_of}
+use Rattle.lk_node_interface.specs.Envelopes.{EnvelopeValue, batch_of, datagram_of}
 use Rattle.lk_node_interface.specs.declared.note.Note.{Note}
 use Rattle.lk_node.specs.Histories.{Genesis, Datagram}
 use Rattle.lk_node.specs.Leavings.{DisksFit}
@@ -27,7 +27,7 @@ use Rattle.lk_transport.specs.declared.received_watch.ReceivedWatch.{ReceivedWat
 use Rattle.lk_server_replica.specs.Showing.{IsShown}
 use Rattle.lk_probe.specs.declared.reported.Reported.{Reported}
 use Rattle.lk_transport.specs.declared.received_probe.ReceivedProbe.{ReceivedProbe}
-use Rattle.lk_server.specs.Servers.{ServerValue, DeliversLetters, Given, IsIdle, MayEndNudged, one_more, inputs}
+use Rattle.lk_server.specs.Servers.{ServerValue, DeliversEnvelopes, Given, IsIdle, MayEndNudged, one_more, inputs}
 use Rattle.lk_server.specs.Servers.{all_inputs}
 use Rattle.lk_server.specs.Servers.{datagrams_in}
 use Rattle.lk_server.specs.Servers.{IsPrefix, send_state_at}
@@ -47,7 +47,7 @@ use Rattle.lk_cluster_theorems.specs.Clusters.{DoesTurn, Idles, EndsByTurn, Happ
 use Rattle.lk_cluster_theorems.proofs.Groups.{AllMay, group_leaves}
 use Rattle.lk_cluster_theorems.proofs.Mapped.{device_disks}
 
--- ---- letters of a node to itself
+-- ---- envelopes of a node to itself
 
 pub in_map : {X Y : Type 0} (f : X → Y) (xs : List X) (x : X) → Contains xs x → Contains (map f xs) (f x)
 in_map f [] x c = absurd (omega (arith, c.1))
@@ -56,8 +56,8 @@ in_map f (y ∷ xs) x c = elim (cons_cases y xs x c) [
   | inr later ↦ contains_more (f y) (map f xs) (f x) (in_map f xs x later)
 ]
 
--- letters that were taken, and the others, stood there
-in_front : (k : ℕ) (loopback : List LetterValue) (l : LetterValue) → Contains (take k loopback) l
+-- envelopes that were taken, and the others, stood there
+in_front : (k : ℕ) (loopback : List EnvelopeValue) (l : EnvelopeValue) → Contains (take k loopback) l
     → Contains loopback l
 in_front zero loopback l c = absurd (omega (arith, c.1))
 in_front (suc k) [] l c = c
@@ -66,39 +66,39 @@ in_front (suc k) (x ∷ loopback) l c = elim (cons_cases x (take k loopback) l c
   | inr later ↦ contains_more x loopback l (in_front k loopback l later)
 ]
 
-in_rest : (k : ℕ) (loopback : List LetterValue) (l : LetterValue) → Contains (drop k loopback) l
+in_rest : (k : ℕ) (loopback : List EnvelopeValue) (l : EnvelopeValue) → Contains (drop k loopback) l
     → Contains loopback l
 in_rest zero loopback l c = c
 in_rest (suc k) [] l c = c
 in_rest (suc k) (x ∷ loopback) l c = contains_more x loopback l (in_rest k loopback l c)
 
-kept_one : (observable : Type 0) (node : ℕ) (book : AddressBook) (old new : SendState) (x : LetterValue)
+kept_one : (observable : Type 0) (node : ℕ) (book : AddressBook) (old new : SendState) (x : EnvelopeValue)
     (is_sent : Bool)
-    → Becomes observable node book old x is_sent new → (l : LetterValue) → Contains new.loopback l
+    → Becomes observable node book old x is_sent new → (l : EnvelopeValue) → Contains new.loopback l
     → Contains old.loopback l ⊎ (x ≡ l)
 kept_one observable node book old new x true (inl keeps) l c =
-    Contains-push_cases old.loopback x l (subst (λ (ls : List LetterValue). Contains ls l) keeps.loopback c)
+    Contains-push_cases old.loopback x l (subst (λ (ls : List EnvelopeValue). Contains ls l) keeps.loopback c)
 kept_one observable node book old new x true (inr sends) l c =
-    inl (subst (λ (ls : List LetterValue). Contains ls l) sends.loopback c)
+    inl (subst (λ (ls : List EnvelopeValue). Contains ls l) sends.loopback c)
 kept_one observable node book old new x false loses l c = inl (subst (λ
-    (ls : List LetterValue). Contains ls l) loses.loopback c)
+    (ls : List EnvelopeValue). Contains ls l) loses.loopback c)
 
 -- what is kept stood there or was given
-kept_of : (observable : Type 0) (node : ℕ) (book : AddressBook) (old new : SendState) (letters : List LetterValue)
-    → CarriesAll (Becomes observable node book) old letters new → (l : LetterValue) → Contains new.loopback l
-    → Contains old.loopback l ⊎ Contains letters l
+kept_of : (observable : Type 0) (node : ℕ) (book : AddressBook) (old new : SendState) (envelopes : List EnvelopeValue)
+    → CarriesAll (Becomes observable node book) old envelopes new → (l : EnvelopeValue) → Contains new.loopback l
+    → Contains old.loopback l ⊎ Contains envelopes l
 kept_of observable node book old new [] all l c = inl (subst (λ (t : SendState). Contains t.loopback l) all c)
-kept_of observable node book old new (x ∷ letters) all l c = elim
-    (kept_of observable node book all.1 new letters all.3 l c) [
+kept_of observable node book old new (x ∷ envelopes) all l c = elim
+    (kept_of observable node book all.1 new envelopes all.3 l c) [
       | inl before ↦ elim (kept_one observable node book old all.1 x all.0 all.2 l before)
           [ inl old_one ↦ inl old_one | inr here ↦ inr (0, omega arith, here) ]
-      | inr later ↦ inr (contains_more x letters l later)
+      | inr later ↦ inr (contains_more x envelopes l later)
     ]
 
--- a server that goes on, all of whose letters to itself were given to be sent
+-- a server that goes on, all of whose envelopes to itself were given to be sent
 pub record IsKept (sent : List Datagram) (n : ℕ) (q : ServerValue ReplicaValue) : Type 0 where
   pub alive : q.replica.failed ≡ false
-  pub loopback : (l : LetterValue) → Contains q.loopback l → Contains sent (datagram_of n l)
+  pub loopback : (l : EnvelopeValue) → Contains q.loopback l → Contains sent (datagram_of n l)
 
 abbrev pub OwnOf : List Node → List Datagram → Type 0
 OwnOf seats sent =
@@ -125,22 +125,23 @@ own_set seats index next sent now old among mine k s at q up = elim (at_set seat
 ]
 
 -- a server that has taken a turn
-after_turn : (observable : Type 0) (Says : ReplicaValue → List (Option (List ℕ)) → List LetterValue → ReplicaValue
+after_turn : (observable : Type 0) (Says : ReplicaValue → List (Option (List ℕ)) → List EnvelopeValue → ReplicaValue
     → Type 0)
     (given : List (Option (List ℕ))) (count : ℕ) (sent : List Datagram) (n : ℕ)
     (server after : ServerValue ReplicaValue)
-    → IsKept sent n server → (h : DeliversLetters Says observable given (drop count server.loopback) server after)
-    → after.replica.failed ≡ false → IsKept (sent ++ batch_of n h.letters) n after
+    → IsKept sent n server → (h : DeliversEnvelopes Says observable given (drop count server.loopback) server after)
+    → after.replica.failed ≡ false → IsKept (sent ++ batch_of n h.envelopes) n after
 after_turn observable Says given count sent n server after kept h alive = record {
   alive = alive;
   loopback = λ l c. elim (kept_of observable after.node after.addresses (send_state_at
       (drop count server.loopback) server)
-      (send_state_at after.loopback after) h.letters h.carried l c) [
+      (send_state_at after.loopback after) h.envelopes h.carried l c) [
         | inl old ↦
-            Contains-append_left sent (batch_of n h.letters) (datagram_of n l)
+            Contains-append_left sent (batch_of n h.envelopes) (datagram_of n l)
             (kept.loopback l (in_rest count server.loopback l old))
         | inr new ↦
-            Contains-append_right sent (batch_of n h.letters) (datagram_of n l) (in_map (datagram_of n) h.letters l new)
+            Contains-append_right sent (batch_of n h.envelopes) (datagram_of n l)
+            (in_map (datagram_of n) h.envelopes l new)
       ];
 }
 
@@ -189,8 +190,8 @@ module _ (genesis : Genesis) (sent : List Datagram) where
   came_may [] may = tt
   came_may (c ∷ came) may = (may.0, came_may came may.1)
 
-  datagrams_may : (loopback : List LetterValue) (came : List (SocketAddr × List ℕ))
-      → ((l : LetterValue) → Contains loopback l → MayCome genesis sent (Some l.bytes))
+  datagrams_may : (loopback : List EnvelopeValue) (came : List (SocketAddr × List ℕ))
+      → ((l : EnvelopeValue) → Contains loopback l → MayCome genesis sent (Some l.bytes))
       → AllByRecursion (λ (c : SocketAddr × List ℕ). MayCome genesis sent (Some c.1)) came
       → AreFree (datagrams_in loopback came)
   datagrams_may [] came mine may = came_may came may
@@ -204,10 +205,10 @@ module _ (genesis : Genesis) (sent : List Datagram) where
   front_may [] rest may = tt
   front_may (o ∷ given) rest may = (may.0, front_may given rest may.1)
 
-  pub given_may : (pace : Pace) (count received : ℕ) (loopback : List LetterValue)
+  pub given_may : (pace : Pace) (count received : ℕ) (loopback : List EnvelopeValue)
       (came : List (SocketAddr × List ℕ)) (given : List (Option (List ℕ)))
       → Given pace received (datagrams_in (take count loopback) came) given
-      → ((l : LetterValue) → Contains loopback l → MayCome genesis sent (Some l.bytes))
+      → ((l : EnvelopeValue) → Contains loopback l → MayCome genesis sent (Some l.bytes))
       → AllByRecursion (λ (c : SocketAddr × List ℕ). MayCome genesis sent (Some c.1)) came → AllMay genesis sent given
   given_may pace count received loopback came given is mine may =
       turn_may pace received (datagrams_in (take count loopback) came) given is
@@ -244,8 +245,8 @@ Unforged May = (c : Cluster) → IsSound c → (server : ServerValue ReplicaValu
     → May c.genesis c.sent server came → ForgesNothing c.genesis c.sent server came
 
 module _ (old : Cluster) (w : IsSound old) where
-  -- a letter of the node to itself may come
-  pub own_may : (n : ℕ) (server : ServerValue ReplicaValue) → IsKept old.sent n server → (l : LetterValue)
+  -- an envelope of the node to itself may come
+  pub own_may : (n : ℕ) (server : ServerValue ReplicaValue) → IsKept old.sent n server → (l : EnvelopeValue)
       → Contains server.loopback l → MayCome old.genesis old.sent (Some l.bytes)
   own_may n server k l c =
       λ j x said. heard_was_sent old.genesis old.sent w.holds.world.sound (datagram_of n l) (k.loopback l c) j x said
@@ -429,7 +430,7 @@ module _ (May : Network) (Metered observable : Type 0) (unforged : Unforged May)
                 loopback = λ l c. absurd (omega (
                   arith,
                   (subst (λ
-                      (ls : List LetterValue). Contains ls l) a.loopback c).1,
+                      (ls : List EnvelopeValue). Contains ls l) a.loopback c).1,
                 ));
               }));
         }
@@ -471,19 +472,19 @@ module _ (May : Network) (Metered observable : Type 0) (unforged : Unforged May)
     takes_turn a =
         let n : ℕ = a.node.number in
         let kept = w.loopback a.replaces.index a.node a.replaces.at a.server a.was in
-        let letters : List LetterValue = a.turn.hands_on.letters in
+        let envelopes : List EnvelopeValue = a.turn.hands_on.envelopes in
         let left = group_leaves old.genesis n old.seats a.replaces.index a.node a.replaces.at a.after Metered
         a.turn.given
-        a.server.replica letters a.after.replica a.turn.hands_on.says a.trace old.sent old.trace
+        a.server.replica envelopes a.after.replica a.turn.hands_on.says a.trace old.sent old.trace
         (nudged_may old.genesis old.sent a.turn.timed a.turn.given a.turn.nudged
         (turn_takes n 64 a.server a.came a.turn.timed a.turn.may kept a.may))
         (with_replica old w a.replaces.index a.node a.replaces.at a.server a.after a.was) a.traces in
         record {
-          holds = moved (set old.seats a.replaces.index a.next) a.trace (batch_of n letters) a.replaces.seats a.adds
+          holds = moved (set old.seats a.replaces.index a.next) a.trace (batch_of n envelopes) a.replaces.seats a.adds
               (subst (λ (z : Node). WorldInvariant ServerHolds server_disks table_meaning old.genesis
-              (set old.seats a.replaces.index z) (old.sent ++ batch_of n letters) (old.trace ++ a.trace))
+              (set old.seats a.replaces.index z) (old.sent ++ batch_of n envelopes) (old.trace ++ a.trace))
               (λ i. record { number = sym a.replaces.number i; life = sym a.up i }) (left.up a.alive));
-          loopback = own_moved a.node a.next a.replaces (batch_of n letters) a.adds.sent (λ q up.
+          loopback = own_moved a.node a.next a.replaces (batch_of n envelopes) a.adds.sent (λ q up.
               subst (λ (z : ServerValue ReplicaValue). IsKept new.sent a.next.number z)
               (same_up a.after q (sym a.up ∙ up))
               (subst₂ (λ (l : List Datagram) (k : ℕ). IsKept l k a.after) (sym a.adds.sent) (sym a.replaces.number)
@@ -504,7 +505,7 @@ module _ (May : Network) (Metered observable : Type 0) (unforged : Unforged May)
         let still : IsKept (old.sent ++ []) a.node.number a.after = record {
           alive = ap (λ (r : ReplicaValue). r.failed) replica ∙ kept.alive;
           loopback = λ l c. Contains-append_left old.sent [] (datagram_of a.node.number l)
-              (kept.loopback l (subst (λ (ls : List LetterValue). Contains ls l) waits c));
+              (kept.loopback l (subst (λ (ls : List EnvelopeValue). Contains ls l) waits c));
         } in
         record {
           holds = moved (set old.seats a.replaces.index a.next) [] [] a.replaces.seats a.adds
@@ -531,7 +532,7 @@ module _ (May : Network) (Metered observable : Type 0) (unforged : Unforged May)
     ends_by_turn a =
         let n : ℕ = a.node.number in
         let kept = w.loopback a.replaces.index a.node a.replaces.at a.server a.was in
-        let batch : List Datagram = batch_of n a.turn.hands_on.letters in
+        let batch : List Datagram = batch_of n a.turn.hands_on.envelopes in
         let timed = ended_may old.genesis old.sent a.turn.timed a.turn.first.whole a.turn.first.front
         (turn_takes n a.turn.count a.server a.came a.turn.first.whole a.turn.first.may kept a.may) in
         let may = nudged_may old.genesis old.sent a.turn.timed a.turn.given a.turn.nudged timed in
@@ -540,7 +541,7 @@ module _ (May : Network) (Metered observable : Type 0) (unforged : Unforged May)
         let next : Node = record { number = n; life = Down a.left } in
         let left = group_leaves old.genesis n old.seats a.replaces.index a.node a.replaces.at a.after Metered
         a.turn.given
-        a.server.replica a.turn.hands_on.letters a.after.replica a.turn.hands_on.says a.trace old.sent old.trace may
+        a.server.replica a.turn.hands_on.envelopes a.after.replica a.turn.hands_on.says a.trace old.sent old.trace may
         (with_replica old w a.replaces.index a.node a.replaces.at a.server a.after a.was) a.traces in
         let first : Cluster = record {
           genesis = old.genesis;

@@ -5,12 +5,12 @@ use Rattle.std.specs.List.{AllByRecursion}
 use Rattle.std.proofs.lemmas.Bool.{cases_eq}
 use Rattle.std.proofs.lemmas.List.{length-set, get_or-set_other, map-append}
 use Rattle.std.specs.declared.net.socket_addr.SocketAddr.{SocketAddr}
-use Rattle.lk_node_interface.specs.Letters.{LetterValue, batch_of, datagram_of}
+use Rattle.lk_node_interface.specs.Envelopes.{EnvelopeValue, batch_of, datagram_of}
 use Rattle.lk_node_interface.specs.declared.note.Note.{Note}
 use Rattle.lk_node.specs.Histories.{Genesis, Datagram}
 use Rattle.lk_replica.specs.ReplicaValue.{ReplicaValue}
 use Rattle.lk_server.specs.Servers.{ServerValue, Turn, LastTurn, IsIdle}
-use Rattle.lk_node_process.specs.Turns.{HasFollowedNoStranger, HasFollowedStranger, letters_in}
+use Rattle.lk_node_process.specs.Turns.{HasFollowedNoStranger, HasFollowedStranger, envelopes_in}
 use Rattle.lk_sim.specs.Networks.{Appears}
 use Rattle.lk_sim_nodes.specs.Seats.{At}
 use Rattle.lk_sim_nodes.specs.declared.end.End.{End}
@@ -21,9 +21,10 @@ use Rattle.lk_cluster_theorems.specs.Clusters.{Node, Cluster, Network, Says, IsR
 use Rattle.lk_cluster_theorems.specs.Continuing.{node_of, HasNode, Continues}
 use Rattle.lk_cluster_theorems.specs.Processes.{SaysIfHonest, StartsNode, StartIsRefused, TurnsNode, EndsNode}
 use Rattle.lk_cluster_theorems.specs.Processes.{StopsNode}
-use Rattle.lk_cluster_theorems.specs.Processes.{IsMove, Move, letters_by, MayArrive, TracesTurn, Traces, TraceAll, Fit}
+use Rattle.lk_cluster_theorems.specs.Processes.{IsMove, Move, envelopes_by, MayArrive, TracesTurn, Traces, TraceAll}
+use Rattle.lk_cluster_theorems.specs.Processes.{Fit}
 use Rattle.lk_cluster_theorems.specs.Processes.{MayAllArrive, sent_by, RunTo, HasRun, seats_after, AreOwn, MixRuns}
-use Rattle.lk_cluster_theorems.specs.Processes.{MixWith, LeadOn, GoOn, AreNewAfter, all_letters}
+use Rattle.lk_cluster_theorems.specs.Processes.{MixWith, LeadOn, GoOn, AreNewAfter, all_envelopes}
 use Rattle.lk_cluster_theorems.specs.Processes.{new_cluster}
 use Rattle.lk_cluster_theorems.proofs.Continuing.{continued, Leads, leads_on, reaches, start_leads, refused_start_leads}
 use Rattle.lk_cluster_theorems.proofs.Continuing.{stop_leads, last_turn_leads, last_trace, TracesOf, done_leads}
@@ -34,9 +35,10 @@ use Rattle.lk_cluster_theorems.proofs.Serving.{begun_in, refused_rests}
 
 module _ (Metered observable Honest : Type 0) (honest : Honest) where
   -- what the replica of an honest device says
-  abbrev so : (old : ReplicaValue) (given : List (Option (List ℕ))) (letters : List LetterValue) (new : ReplicaValue)
-      → SaysIfHonest Metered Honest old given letters new → Says Metered old given letters new
-  so old given letters new says = says honest
+  abbrev so : (old : ReplicaValue) (given : List (Option (List ℕ))) (envelopes : List EnvelopeValue)
+      (new : ReplicaValue)
+      → SaysIfHonest Metered Honest old given envelopes new → Says Metered old given envelopes new
+  so old given envelopes new says = says honest
 
   module _ (May : Network) where
     -- ---- a move
@@ -63,12 +65,13 @@ module _ (Metered observable Honest : Type 0) (honest : Honest) where
       is_now : (life : Life (ServerValue ReplicaValue)) → before ≡ life → HasNode old index n life
       is_now life was = subst (λ (l : Life (ServerValue ReplicaValue)). HasNode old index n l) was at
 
-      and_is : (life : Life (ServerValue ReplicaValue)) (letters : List LetterValue) (notes : List Note) → after ≡ life
-          → Leads May Metered observable old (continued old index n life letters notes)
-          → Leads May Metered observable old (continued old index n after letters notes)
-      and_is life letters notes now leads =
+      and_is : (life : Life (ServerValue ReplicaValue)) (envelopes : List EnvelopeValue) (notes : List Note)
+          → after ≡ life
+          → Leads May Metered observable old (continued old index n life envelopes notes)
+          → Leads May Metered observable old (continued old index n after envelopes notes)
+      and_is life envelopes notes now leads =
           subst (λ (l : Life (ServerValue ReplicaValue)). Leads May Metered observable old
-          (continued old index n l letters notes)) (sym now) leads
+          (continued old index n l envelopes notes)) (sym now) leads
 
       starts_lead : (x : StartsNode Metered observable Honest old.genesis n before after) (notes : List Note)
           → notes ≡ (x.starts_as.comes_up honest).notes
@@ -95,9 +98,9 @@ module _ (Metered observable Honest : Type 0) (honest : Honest) where
           → May old.genesis old.sent x.server x.turn.came → (notes : List Note)
           → TracesTurn Metered observable Honest old.genesis honest n x.turn.turn notes
           → Leads May Metered observable old
-          (continued old index n after (letters_in (SaysIfHonest Metered Honest) observable x.turn.turn) notes)
+          (continued old index n after (envelopes_in (SaysIfHonest Metered Honest) observable x.turn.turn) notes)
       turns_lead After x may notes traces =
-          and_is (Up x.after) (letters_in (SaysIfHonest Metered Honest) observable x.turn.turn) notes x.up
+          and_is (Up x.after) (envelopes_in (SaysIfHonest Metered Honest) observable x.turn.turn) notes x.up
           (done_leads May Metered observable (SaysIfHonest Metered Honest) so None None None After old index n x.server
           x.after (is_now (Up x.server) x.was) x.turn may notes
           (to_traces old.genesis n x.turn.came x.turn.frames x.server x.turn.mid x.turn.turn notes traces))
@@ -106,12 +109,12 @@ module _ (Metered observable Honest : Type 0) (honest : Honest) where
           → May old.genesis old.sent x.server x.came → (notes : List Note)
           → Traces Metered observable Honest old.genesis honest {n = n} {old = before} {new = after}
           (inr (inr (inr (inr (inl x))))) notes
-          → Leads May Metered observable old (continued old index n after x.turn.hands_on.letters notes)
+          → Leads May Metered observable old (continued old index n after x.turn.hands_on.envelopes notes)
       ends_lead x may notes traces =
           let turn : LastTurn (Says Metered) observable x.came x.server x.after =
           last_so (SaysIfHonest Metered Honest) (Says Metered) so observable x.came x.server x.after x.turn in
           let ended : x.after.replica.failed ≡ true = sym x.failure ∙ x.turn.ended in
-          and_is (Down x.left) x.turn.hands_on.letters notes x.down
+          and_is (Down x.left) x.turn.hands_on.envelopes notes x.down
           (last_turn_leads May Metered observable old index n x.server x.after (is_now (Up x.server) x.was) x.came
           may turn ended x.left x.leaves notes traces)
 
@@ -126,7 +129,7 @@ module _ (Metered observable Honest : Type 0) (honest : Honest) where
           → MayArrive Metered observable Honest old.genesis May old.sent does → (notes : List Note)
           → Traces Metered observable Honest old.genesis honest does notes
           → Leads May Metered observable old
-          (continued old index n after (letters_by Metered observable Honest old.genesis does) notes)
+          (continued old index n after (envelopes_by Metered observable Honest old.genesis does) notes)
       move_leads (inl x) may notes traces = starts_lead x notes traces
       move_leads (inr (inl x)) may notes traces = refused_leads x notes traces
       move_leads (inr (inr (inl x))) may notes traces = turns_lead HasFollowedNoStranger x may notes traces
@@ -185,9 +188,9 @@ module _ (Metered observable Honest : Type 0) (honest : Honest) where
           }
       moves_lead (m ∷ moves) seats sent trace ended all fit may notes traces =
           let old = cluster_of seats sent trace ended in
-          let letters = letters_by Metered observable Honest first m.does in
-          let batch = batch_of m.number letters in
-          let next = continued old m.index m.number m.after letters traces.0 in
+          let envelopes = envelopes_by Metered observable Honest first m.does in
+          let batch = batch_of m.number envelopes in
+          let next = continued old m.index m.number m.after envelopes traces.0 in
           let leads : Leads May Metered observable old next =
           move_leads old m.index m.number m.before m.after fit.0 m.does may.0 traces.0 traces.3 in
           let rest = moves_lead moves (set seats m.index (node_of m.number m.after)) (sent ++ batch)
@@ -215,14 +218,14 @@ module _ (Metered observable Honest : Type 0) (honest : Honest) where
       moves_trace unforged [] seats sent trace ended all fit may = ([], refl)
       moves_trace unforged (m ∷ moves) seats sent trace ended all fit may =
           let old = cluster_of seats sent trace ended in
-          let letters = letters_by Metered observable Honest first m.does in
+          let envelopes = envelopes_by Metered observable Honest first m.does in
           let t = move_traces old m.index m.number m.before m.after fit.0 unforged
           (reachable_sound May Metered observable unforged genesis old all) m.does may.0 in
-          let next = continued old m.index m.number m.after letters t.0 in
+          let next = continued old m.index m.number m.after envelopes t.0 in
           let leads : Leads May Metered observable old next =
           move_leads old m.index m.number m.before m.after fit.0 m.does may.0 t.0 t.1 in
           let rest = moves_trace unforged moves (set seats m.index (node_of m.number m.after))
-          (sent ++ batch_of m.number letters) (trace ++ t.0) ended
+          (sent ++ batch_of m.number envelopes) (trace ++ t.0) ended
           (reaches May Metered observable genesis old next all leads) fit.1 may.1 in
           (t.0 ++ rest.0, (t.0, rest.0, refl, t.1, rest.1))
 
@@ -383,15 +386,15 @@ module _ (Metered observable Honest : Type 0) (genesis : Genesis) where
   alone_sent : (index : ℕ) (own : List (Move Metered observable Honest genesis)) (node last : Node)
       → RunTo Metered observable Honest genesis index node own last
       → sent_by Metered observable Honest genesis own
-      ≡ batch_of node.number (all_letters Metered observable Honest genesis own)
+      ≡ batch_of node.number (all_envelopes Metered observable Honest genesis own)
   alone_sent index [] node last run = refl
   alone_sent index (m ∷ own) node last run =
-      let letters = letters_by Metered observable Honest genesis m.does in
-      let more = all_letters Metered observable Honest genesis own in
-      ap (λ (l : List Datagram). batch_of m.number letters ++ l)
+      let envelopes = envelopes_by Metered observable Honest genesis m.does in
+      let more = all_envelopes Metered observable Honest genesis own in
+      ap (λ (l : List Datagram). batch_of m.number envelopes ++ l)
       (alone_sent index own (node_of m.number m.after) last run.2)
-      ∙ sym (map-append (datagram_of m.number) letters more)
-      ∙ ap (λ (s : Node). batch_of s.number (letters ++ more)) (sym run.1)
+      ∙ sym (map-append (datagram_of m.number) envelopes more)
+      ∙ ap (λ (s : Node). batch_of s.number (envelopes ++ more)) (sym run.1)
 
 pub alone_continues : (Metered observable Honest : Type 0) (honest : Honest) (May : Network) → Unforged May
     → (genesis : Genesis) (old : Cluster) → IsReachable May Metered observable genesis old
@@ -400,7 +403,7 @@ pub alone_continues : (Metered observable Honest : Type 0) (honest : Honest) (Ma
     → RunTo Metered observable Honest old.genesis index (node_of n life) own (node_of n last)
     → MayAllArrive Metered observable Honest old.genesis May old.sent own
     → Continues May Metered observable genesis old index n last
-    (all_letters Metered observable Honest old.genesis own)
+    (all_envelopes Metered observable Honest old.genesis own)
     (TraceAll Metered observable Honest old.genesis honest own)
 alone_continues Metered observable Honest honest May unforged genesis old all index n life last at own run may =
     let g = moves_go_on Metered observable Honest honest May unforged genesis old all own

@@ -2,21 +2,22 @@
 use Rattle.std.proofs.Common.{ℕ, List, Option, Result, Ok, Err, inl, inr}
 use Rattle.std.specs.Prelude.{OnOk, OnErr}
 use Rattle.std.specs.declared.net.socket_addr.SocketAddr.{SocketAddr}
-use Rattle.lk_node_interface.specs.Letters.{LetterValue}
+use Rattle.lk_node_interface.specs.Envelopes.{EnvelopeValue}
 use Rattle.lk_address_book.specs.Addresses.{Filter, filter_of}
 use Rattle.lk_address_book.specs.Filters.{all_filtered}
-use Rattle.lk_server.specs.Servers.{ServerValue, DeliversLetters, HasReceived, Turn, LastTurn, TurnOrIdle}
+use Rattle.lk_server.specs.Servers.{ServerValue, DeliversEnvelopes, HasReceived, Turn, LastTurn, TurnOrIdle}
 
-module _ {R : Type 0} (S T : R → List (Option (List ℕ)) → List LetterValue → R → Type 0)
-    (so : (old : R) (given : List (Option (List ℕ))) (letters : List LetterValue) (new : R) → S old given letters new
-    → T old given letters new) where
-  abbrev pub hands_so : (observable : Type 0) (given : List (Option (List ℕ))) (loopback : List LetterValue)
-      (old new : ServerValue R) → DeliversLetters S observable given loopback old new
-      → DeliversLetters T observable given loopback old new
+module _ {R : Type 0} (S T : R → List (Option (List ℕ)) → List EnvelopeValue → R → Type 0)
+    (so : (old : R) (given : List (Option (List ℕ))) (envelopes : List EnvelopeValue) (new : R)
+    → S old given envelopes new
+    → T old given envelopes new) where
+  abbrev pub hands_so : (observable : Type 0) (given : List (Option (List ℕ))) (loopback : List EnvelopeValue)
+      (old new : ServerValue R) → DeliversEnvelopes S observable given loopback old new
+      → DeliversEnvelopes T observable given loopback old new
   hands_so observable given loopback old new h =
       record {
-        letters = h.letters;
-        says = so old.replica given h.letters new.replica h.says;
+        envelopes = h.envelopes;
+        says = so old.replica given h.envelopes new.replica h.says;
         kept = h.kept;
         carried = h.carried;
       }
@@ -24,7 +25,7 @@ module _ {R : Type 0} (S T : R → List (Option (List ℕ)) → List LetterValue
   abbrev pub turn_so : (observable : Type 0) (came : List (SocketAddr × List ℕ)) (old new : ServerValue R)
       → Turn S observable came old new → Turn T observable came old new
   turn_so observable came old new t = record {
-    letters_first = t.letters_first;
+    envelopes_first = t.envelopes_first;
     timed = t.timed;
     may = t.may;
     given = t.given;
@@ -47,9 +48,9 @@ module _ {R : Type 0} (S T : R → List (Option (List ℕ)) → List LetterValue
   abbrev pub last_so : (observable : Type 0) (came : List (SocketAddr × List ℕ)) (old new : ServerValue R)
       → LastTurn S observable came old new → LastTurn T observable came old new
   last_so observable came old new t = record {
-    letters_first = t.letters_first;
+    envelopes_first = t.envelopes_first;
     count = t.count;
-    letters = t.letters;
+    envelopes = t.envelopes;
     timed = t.timed;
     first = t.first;
     given = t.given;

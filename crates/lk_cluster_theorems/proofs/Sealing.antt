@@ -11,7 +11,7 @@ use Rattle.lk_messages.specs.declared.message.Message.{Message}
 use Rattle.lk_messages.specs.declared.message.NodeMessage.{NodeMessage}
 use Rattle.lk_agreement_laws.specs.Datagrams.{said_by}
 use Rattle.lk_agreement_laws.proofs.Histories.{heard_was_sent}
-use Rattle.lk_node_interface.specs.Letters.{LetterValue, batch_of}
+use Rattle.lk_node_interface.specs.Envelopes.{EnvelopeValue, batch_of}
 use Rattle.lk_node.specs.Histories.{Genesis, Datagram}
 use Rattle.lk_replica.specs.ReplicaValue.{ReplicaValue}
 use Rattle.lk_auth.specs.Seals.{key_list, heard}
@@ -28,7 +28,7 @@ use Rattle.lk_cluster_theorems.specs.Clusters.{Cluster, Network, ForgesNothing, 
 use Rattle.lk_cluster_theorems.specs.Clusters.{EndsByTurn, Happens}
 use Rattle.lk_cluster_theorems.specs.Clusters.{HappenAll}
 use Rattle.lk_cluster_theorems.specs.Clusters.{IsReachable}
-use Rattle.lk_cluster_theorems.specs.Processes.{IsMove, Move, letters_by, MayArrive, MayAllArrive}
+use Rattle.lk_cluster_theorems.specs.Processes.{IsMove, Move, envelopes_by, MayArrive, MayAllArrive}
 use Rattle.lk_cluster_theorems.specs.Sealing.{OnlyNodesSeal, OnlyNodesSealWhatComes, IsSealed, TakesSealed, MovesSealed}
 use Rattle.lk_cluster_theorems.specs.Sealing.{AllMoveSealed}
 use Rattle.lk_cluster_theorems.proofs.Keeping.{IsSound, Unforged, happens, begun}
@@ -119,11 +119,11 @@ module _ (Metered observable Honest : Type 0) (genesis : Genesis) where
   all_sealed sent [] sealed = tt
   all_sealed sent (m ∷ moves) sealed = (
     move_sealed m.number m.before m.after sent m.does sealed.0,
-    all_sealed (sent ++ batch_of m.number (letters_by Metered observable Honest genesis m.does)) moves sealed.1,
+    all_sealed (sent ++ batch_of m.number (envelopes_by Metered observable Honest genesis m.does)) moves sealed.1,
   )
 
 -- the seals of a server stay the same in its turns
-pub keeps_seals : (S : ReplicaValue → List (Option (List ℕ)) → List LetterValue → ReplicaValue → Type 0)
+pub keeps_seals : (S : ReplicaValue → List (Option (List ℕ)) → List EnvelopeValue → ReplicaValue → Type 0)
     (observable : Type 0) (s : Seals) (first : ServerValue ReplicaValue) (states : List (ServerValue ReplicaValue))
     (last : ServerValue ReplicaValue) → Chain (ServerTurn S observable) first states last → first.addresses.seals ≡ s
     → AllByRecursion (λ (q : ServerValue ReplicaValue). q.addresses.seals ≡ s) (first ∷ states)

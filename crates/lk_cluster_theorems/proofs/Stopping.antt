@@ -48,16 +48,16 @@ module _ (Metered observable Honest : Type 0) (came : List (SocketAddr × List �
         failed = true;
       } in
       let last : LastTurn (SaysIfHonest Metered Honest) observable came server after = record {
-        letters_first = x.letters_first;
+        envelopes_first = x.envelopes_first;
         count = x.count;
-        letters = x.letters;
+        envelopes = x.envelopes;
         timed = x.timed;
         first = x.first;
         given = given;
         nudged = x.nudged;
         after_all = x.after_all;
         hands_on = record {
-          letters = [];
+          envelopes = [];
           says = λ honest. cut_short Metered server.replica now given x.group (x.gathers honest);
           kept = record { added = []; is = sym (append-nil (drop x.count server.loopback)) };
           carried = refl;

@@ -4,7 +4,7 @@ use Rattle.std.specs.Prelude.{map}
 use Rattle.lk_locks.specs.Meaning.{table_meaning}
 use Rattle.lk_locks.specs.Packed.{IsTableText}
 use Rattle.lk_agreement_laws.specs.Datagrams.{said_by}
-use Rattle.lk_node_interface.specs.Letters.{LetterValue, batch_of}
+use Rattle.lk_node_interface.specs.Envelopes.{EnvelopeValue, batch_of}
 use Rattle.lk_node_interface.specs.declared.input.Input.{Input}
 use Rattle.lk_node_interface.specs.declared.note.Note.{Note}
 use Rattle.lk_node.specs.Calls.{heard_by}
@@ -90,10 +90,10 @@ module _ (genesis : Genesis) (n : ℕ) where
         (joined (heard_by i) (map heard_by is) step goes.3 here (step_joins i step told) rest)
 
     module _ (Metered : Type 0) (given : List (Option (List ℕ))) (r : ReplicaValue)
-        (letters : List LetterValue) (q : ReplicaValue)
+        (envelopes : List EnvelopeValue) (q : ReplicaValue)
         (sent : List Datagram) (trace : List Note) (may : AllMay genesis sent given)
         (w : IsUpWith genesis n seats index node at s r sent trace) where
-      trace_by : (comes : SaysByGroup table_meaning IsTableText Metered r given letters q ⊎ IsSilenced letters q)
+      trace_by : (comes : SaysByGroup table_meaning IsTableText Metered r given envelopes q ⊎ IsSilenced envelopes q)
           → Traced given (steps_of Metered comes)
       trace_by (inl group) =
           let m = subst (λ (g : List (Option (List ℕ))). AllMay genesis sent g) (sym group.are_given) may in
@@ -102,6 +102,6 @@ module _ (genesis : Genesis) (n : ℕ) where
           (trace_through group.inputs r q group.said through sent trace m w)
       trace_by (inr silent) = trace_refused given
 
-      pub trace_group : (says : SaysOf table_meaning IsTableText Metered r given letters q)
+      pub trace_group : (says : SaysOf table_meaning IsTableText Metered r given envelopes q)
           → Traced given (steps_of Metered says.comes)
       trace_group says = trace_by says.comes

@@ -12,7 +12,7 @@ use Rattle.lk_disk.specs.declared.device.Side.{Side}
 use Rattle.lk_locks.specs.Meaning.{table_meaning}
 use Rattle.lk_locks.specs.Packed.{IsTableText}
 use Rattle.lk_log.specs.StoreValue.{disks}
-use Rattle.lk_node_interface.specs.Letters.{LetterValue, batch_of}
+use Rattle.lk_node_interface.specs.Envelopes.{EnvelopeValue, batch_of}
 use Rattle.lk_node_interface.specs.declared.note.Note.{Note}
 use Rattle.lk_node.specs.Histories.{Datagram, RequestValue}
 use Rattle.lk_node.specs.Holdings.{Holding}
@@ -68,7 +68,7 @@ abbrev pub disks_in : Life (ServerValue ReplicaValue) → Side → Disk
 disks_in (Up server) = server_disks server
 disks_in (Down device) = disk_of device
 
--- the server of that node has started from what these disks have, and no letter to itself is waiting
+-- the server of that node has started from what these disks have, and no envelope to itself is waiting
 pub record HasStarted (genesis : Genesis) (n : ℕ) (old : Side → Disk) (s : ServerValue ReplicaValue) : Type 0 where
   pub notes : List Note
   pub restarts : RestartsBy ServerHolds server_disks table_meaning genesis n old s notes
@@ -101,17 +101,17 @@ OnlyDelivers genesis sent server came =
 
 -- `Metered` says that the devices count their calls
 module _ (Metered : Type 0) where
-  -- the effect of a group on a replica of the lock table, and its letters
-  abbrev pub Says : ReplicaValue → List (Option (List ℕ)) → List LetterValue → ReplicaValue → Type 0
+  -- the effect of a group on a replica of the lock table, and its envelopes
+  abbrev pub Says : ReplicaValue → List (Option (List ℕ)) → List EnvelopeValue → ReplicaValue → Type 0
   Says = SaysOf table_meaning IsTableText Metered
 
-  -- the notes and letters of each step of a group; of a rejected group nothing
-  abbrev pub steps_of : {old new : ReplicaValue} {given : List (Option (List ℕ))} {letters : List LetterValue}
-      → SaysByGroup table_meaning IsTableText Metered old given letters new ⊎ IsSilenced letters new → List StepSaid
+  -- the notes and envelopes of each step of a group; of a rejected group nothing
+  abbrev pub steps_of : {old new : ReplicaValue} {given : List (Option (List ℕ))} {envelopes : List EnvelopeValue}
+      → SaysByGroup table_meaning IsTableText Metered old given envelopes new ⊎ IsSilenced envelopes new → List StepSaid
   steps_of (inl s) = s.said
   steps_of (inr s) = []
 
--- the first of these steps, or, if there is none, one without notes and letters
+-- the first of these steps, or, if there is none, one without notes and envelopes
 abbrev pub next_step : List StepSaid → StepSaid
 next_step [] = ([], [])
 next_step (step ∷ said) = step
@@ -134,7 +134,7 @@ TracesGroup cluster n (o ∷ given) said trace =
 
 -- ---- what happens
 
--- a node that was down is up as a server with what its disks have, and no letter to itself is waiting
+-- a node that was down is up as a server with what its disks have, and no envelope to itself is waiting
 pub record Starts (old new : Cluster) : Type 0 where
   pub restarts : Restarts ServerHolds server_disks table_meaning old new
   pub loopback : restarts.replica.loopback ≡ []
@@ -162,8 +162,8 @@ pub record Idles (observable : Type 0) (old new : Cluster) : Type 0 where
 -- sockets reveal what they send
 module _ (May : Network) (Metered observable : Type 0) where
   -- a node that is up does a turn, in which datagrams may arrive or nothing: its replica takes the input as one
-  -- group, and its letters join what has been sent. `came` is what it takes from what arrives, out of its frame if the
-  -- nodes have a key
+  -- group, and its envelopes join what has been sent. `came` is what it takes from what arrives, out of its frame if
+  -- the nodes have a key
   pub record DoesTurn (old new : Cluster) : Type 0 where
     pub node : Node
     pub next : Node
@@ -179,7 +179,7 @@ module _ (May : Network) (Metered observable : Type 0) where
     pub trace : List Note
     pub traces : TracesGroup old.genesis.cluster node.number turn.given (steps_of Metered turn.hands_on.says.comes)
         trace
-    pub adds : Adds old new trace (batch_of node.number turn.hands_on.letters)
+    pub adds : Adds old new trace (batch_of node.number turn.hands_on.envelopes)
 
   -- a turn ends a node, and it is down with the disks that its replica has left
   pub record EndsByTurn (old new : Cluster) : Type 0 where
@@ -199,7 +199,7 @@ module _ (May : Network) (Metered observable : Type 0) where
     pub trace : List Note
     pub traces : TracesGroup old.genesis.cluster node.number turn.given (steps_of Metered turn.hands_on.says.comes)
         trace
-    pub adds : Adds old new trace (batch_of node.number turn.hands_on.letters)
+    pub adds : Adds old new trace (batch_of node.number turn.hands_on.envelopes)
 
   -- a node appears, with empty disks; it starts, or does not; it does a turn, or an idle one, or handles probes and
   -- watches, or ends by a turn; or it stops, up or down, and its disks have what a stop may leave. A stop in a turn is

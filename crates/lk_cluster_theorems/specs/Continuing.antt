@@ -5,7 +5,7 @@ use Rattle.lk_replica.specs.ReplicaValue.{ReplicaValue}
 use Rattle.lk_server.specs.Servers.{ServerValue}
 use Rattle.lk_sim_nodes.specs.Seats.{At}
 use Rattle.lk_sim_nodes.specs.declared.seat.Life.{Life}
-use Rattle.lk_node_interface.specs.Letters.{LetterValue, batch_of}
+use Rattle.lk_node_interface.specs.Envelopes.{EnvelopeValue, batch_of}
 use Rattle.lk_node_interface.specs.declared.note.Note.{Note}
 use Rattle.lk_cluster_theorems.specs.Clusters.{Node, Cluster, Network, HappenAll, IsReachable}
 
@@ -21,16 +21,17 @@ HasNode c index n life = At c.seats index (node_of n life)
 -- sockets reveal what they send
 module _ (May : Network) (Metered observable : Type 0) where
   -- events lead on from the cluster to a reachable one: the node at that place is in this state, the others are
-  -- unchanged, these letters of the node have joined what has been sent, and notes as `Adds` says have joined the trace
+  -- unchanged, these envelopes of the node have joined what has been sent, and notes as `Adds` says have joined the
+  -- trace
   pub record Continues (genesis : Genesis) (old : Cluster) (index n : ℕ) (life : Life (ServerValue ReplicaValue))
-      (letters : List LetterValue) (Adds : List Note → Type 0) : Type 0 where
+      (envelopes : List EnvelopeValue) (Adds : List Note → Type 0) : Type 0 where
     pub cluster : Cluster
     pub events : List Cluster
     pub follows : HappenAll May Metered observable old events cluster
     pub reachable : IsReachable May Metered observable genesis cluster
     pub keeps_genesis : cluster.genesis ≡ old.genesis
     pub seats : cluster.seats ≡ set old.seats index (node_of n life)
-    pub sent : cluster.sent ≡ old.sent ++ batch_of n letters
+    pub sent : cluster.sent ≡ old.sent ++ batch_of n envelopes
     pub notes : List Note
     pub adds : Adds notes
     pub trace : cluster.trace ≡ old.trace ++ notes

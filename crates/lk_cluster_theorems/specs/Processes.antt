@@ -10,7 +10,7 @@ use Rattle.lk_memory_disk.specs.Memory.{Memory, disk_of}
 use Rattle.lk_disk.specs.declared.device.Side.{Side}
 use Rattle.lk_locks.specs.Meaning.{table_meaning}
 use Rattle.lk_locks.specs.Packed.{IsTableText}
-use Rattle.lk_node_interface.specs.Letters.{LetterValue, batch_of}
+use Rattle.lk_node_interface.specs.Envelopes.{EnvelopeValue, batch_of}
 use Rattle.lk_node_interface.specs.declared.note.Note.{Note}
 use Rattle.lk_node.specs.Histories.{Datagram}
 use Rattle.lk_node.specs.Leavings.{header_of}
@@ -21,7 +21,7 @@ use Rattle.lk_address_book.specs.Filters.{all_filtered}
 use Rattle.lk_program_fault.specs.declared.fault.ProgramFault.{ProgramFault}
 use Rattle.lk_node_process.specs.Revivals.{IsServerStarted, IsRefusedWith}
 use Rattle.lk_node_process.specs.Turns.{DoesTurnWith, HasFollowedNoStranger, HasFollowedStranger, TellsFailure}
-use Rattle.lk_node_process.specs.Turns.{letters_in}
+use Rattle.lk_node_process.specs.Turns.{envelopes_in}
 use Rattle.lk_sim_nodes.specs.Seats.{At, HasNo}
 use Rattle.lk_sim_nodes.specs.declared.seat.Life.{Life}
 use Rattle.lk_sim_nodes.specs.declared.seat.Life.TheVariants.{Up, Down}
@@ -30,9 +30,9 @@ use Rattle.lk_cluster_theorems.specs.Clusters.{disks_in, HappenAll, IsReachable}
 use Rattle.lk_cluster_theorems.specs.Continuing.{node_of}
 
 -- what the replica of a device says if that is honest
-abbrev pub SaysIfHonest : Type 0 → Type 0 → ReplicaValue → List (Option (List ℕ)) → List LetterValue → ReplicaValue
+abbrev pub SaysIfHonest : Type 0 → Type 0 → ReplicaValue → List (Option (List ℕ)) → List EnvelopeValue → ReplicaValue
     → Type 0
-SaysIfHonest Metered Honest old given letters new = Honest → Says Metered old given letters new
+SaysIfHonest Metered Honest old given envelopes new = Honest → Says Metered old given envelopes new
 
 -- `Metered` says that the devices count their calls, `observable` that the sockets reveal what they send, and `Honest`
 -- that the devices are honest
@@ -73,8 +73,8 @@ module _ (Metered observable Honest : Type 0) (genesis : Genesis) where
 
     -- it has begun a turn that ended its replica. `came` is what was taken of these frames. A process that is killed in
     -- a turn moves so, and then stops (`IsInTurn`): as if the call of its device that it did not live to make had
-    -- failed. If it had made the last such call of the turn, it has done the turn, and then stops: letters that it did
-    -- not live to send count as sent, and are lost
+    -- failed. If it had made the last such call of the turn, it has done the turn, and then stops: envelopes that it
+    -- did not live to send count as sent, and are lost
     pub record EndsNode : Type 0 where
       pub server : ServerValue ReplicaValue
       pub was : old ≡ Up server
@@ -108,14 +108,14 @@ module _ (Metered observable Honest : Type 0) (genesis : Genesis) where
     pub does : IsMove number before after
 
   module _ {n : ℕ} {old new : Life (ServerValue ReplicaValue)} where
-    -- the letters that it gives to be sent
-    abbrev pub letters_by : IsMove n old new → List LetterValue
-    letters_by (inl starts) = []
-    letters_by (inr (inl refused)) = []
-    letters_by (inr (inr (inl turns))) = letters_in (SaysIfHonest Metered Honest) observable turns.turn.turn
-    letters_by (inr (inr (inr (inl turns)))) = letters_in (SaysIfHonest Metered Honest) observable turns.turn.turn
-    letters_by (inr (inr (inr (inr (inl ends))))) = ends.turn.hands_on.letters
-    letters_by (inr (inr (inr (inr (inr stops))))) = []
+    -- the envelopes that it gives to be sent
+    abbrev pub envelopes_by : IsMove n old new → List EnvelopeValue
+    envelopes_by (inl starts) = []
+    envelopes_by (inr (inl refused)) = []
+    envelopes_by (inr (inr (inl turns))) = envelopes_in (SaysIfHonest Metered Honest) observable turns.turn.turn
+    envelopes_by (inr (inr (inr (inl turns)))) = envelopes_in (SaysIfHonest Metered Honest) observable turns.turn.turn
+    envelopes_by (inr (inr (inr (inr (inl ends))))) = ends.turn.hands_on.envelopes
+    envelopes_by (inr (inr (inr (inr (inr stops))))) = []
 
     -- the network may bring what arrives in it, given what was sent before
     abbrev pub MayArrive : Network → List Datagram → IsMove n old new → Type 0
@@ -167,18 +167,18 @@ module _ (Metered observable Honest : Type 0) (genesis : Genesis) where
   -- the datagrams that they give to be sent, in order
   abbrev pub sent_by : List Move → List Datagram
   sent_by [] = []
-  sent_by (m ∷ moves) = batch_of m.number (letters_by m.does) ++ sent_by moves
+  sent_by (m ∷ moves) = batch_of m.number (envelopes_by m.does) ++ sent_by moves
 
-  -- the letters of one node that makes all of them
-  abbrev pub all_letters : List Move → List LetterValue
-  all_letters [] = []
-  all_letters (m ∷ moves) = letters_by m.does ++ all_letters moves
+  -- the envelopes of one node that makes all of them
+  abbrev pub all_envelopes : List Move → List EnvelopeValue
+  all_envelopes [] = []
+  all_envelopes (m ∷ moves) = envelopes_by m.does ++ all_envelopes moves
 
   -- in each the network may bring what arrives, given all that was sent before, by whichever node
   abbrev pub MayAllArrive : Network → List Datagram → List Move → Type 0
   MayAllArrive May sent [] = Unit {0}
   MayAllArrive May sent (m ∷ moves) =
-      MayArrive May sent m.does × MayAllArrive May (sent ++ batch_of m.number (letters_by m.does)) moves
+      MayArrive May sent m.does × MayAllArrive May (sent ++ batch_of m.number (envelopes_by m.does)) moves
 
   -- these moves of the node at that place, one after another, take it from this state to that one
   abbrev pub RunTo : ℕ → Node → List Move → Node → Type 0

@@ -4,7 +4,7 @@ use Rattle.std.proofs.Common.{inl, inr}
 use Rattle.std.specs.List.{AllByRecursion}
 use Rattle.std.specs.declared.net.socket_addr.SocketAddr.{SocketAddr}
 use Rattle.lk_types.specs.declared.genesis.Genesis.{Genesis}
-use Rattle.lk_node_interface.specs.Letters.{batch_of}
+use Rattle.lk_node_interface.specs.Envelopes.{batch_of}
 use Rattle.lk_node.specs.Histories.{Datagram}
 use Rattle.lk_replica.specs.ReplicaValue.{ReplicaValue}
 use Rattle.lk_auth.specs.Seals.{key_list, to_node, IsSealedBy}
@@ -14,7 +14,7 @@ use Rattle.lk_address_book.specs.Filters.{all_filtered, is_beside_protocol}
 use Rattle.lk_server.specs.Servers.{ServerValue}
 use Rattle.lk_sim_nodes.specs.declared.seat.Life.{Life}
 use Rattle.lk_cluster_theorems.specs.Clusters.{WasGiven}
-use Rattle.lk_cluster_theorems.specs.Processes.{IsMove, Move, letters_by}
+use Rattle.lk_cluster_theorems.specs.Processes.{IsMove, Move, envelopes_by}
 
 -- The only premise about keys: if a frame seals a datagram for this node under a key of the nodes, and the datagram is
 -- part of the protocol, a node of the cluster has sent it. Nodes seal probes and reports under that key too, beside
@@ -63,4 +63,4 @@ module _ (Metered observable Honest : Type 0) (genesis : Genesis) where
   AllMoveSealed sent [] = Unit {0}
   AllMoveSealed sent (m ∷ moves) =
       MovesSealed sent m.does
-      × AllMoveSealed (sent ++ batch_of m.number (letters_by Metered observable Honest genesis m.does)) moves
+      × AllMoveSealed (sent ++ batch_of m.number (envelopes_by Metered observable Honest genesis m.does)) moves

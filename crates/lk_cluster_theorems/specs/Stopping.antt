@@ -8,7 +8,7 @@ use Rattle.lk_replica.specs.ReplicaValue.{ReplicaValue}
 use Rattle.lk_server_replica.specs.Sayings.{GathersOf}
 use Rattle.lk_address_book.specs.Addresses.{AddressBook}
 use Rattle.lk_address_book.specs.Senders.{RecordsSenders}
-use Rattle.lk_server.specs.Servers.{ServerValue, LettersFirst, TakesLetters, Given, GivenPrefix, MayEndNudged}
+use Rattle.lk_server.specs.Servers.{ServerValue, EnvelopesFirst, TakesEnvelopes, Given, GivenPrefix, MayEndNudged}
 use Rattle.lk_server.specs.Servers.{datagrams_in}
 
 -- in a turn of this server its replica has been given this so far, a prefix of what it may be given, or all of that and
@@ -16,9 +16,9 @@ use Rattle.lk_server.specs.Servers.{datagrams_in}
 -- group is synced or sent. `came` is what was taken of the frames that have come in the turn
 pub record IsInTurn (Metered observable Honest : Type 0) (came : List (SocketAddr × List ℕ))
     (server : ServerValue ReplicaValue) (given : List (Option (List ℕ))) (now : ReplicaValue) : Type 0 where
-  pub letters_first : LettersFirst observable came server
+  pub envelopes_first : EnvelopesFirst observable came server
   pub count : ℕ
-  pub letters : TakesLetters count server.loopback
+  pub envelopes : TakesEnvelopes count server.loopback
   pub timed : List (Option (List ℕ))
   pub first : GivenPrefix server.pace server.received (datagrams_in (take count server.loopback) came) timed
   pub nudged : MayEndNudged timed given

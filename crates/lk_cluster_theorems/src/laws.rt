@@ -40,7 +40,7 @@ ghost use Rattle.lk_cluster_theorems.specs.Continuing.{Continues, AddsNothing, H
 ghost use Rattle.lk_cluster_theorems.specs.Forgetting.{HasEmptyDisks, MustBeRemembered};
 ghost use Rattle.lk_cluster_theorems.specs.Processes.{SaysIfHonest};
 ghost use Rattle.lk_cluster_theorems.specs.Processes.{Move, Fit, MayAllArrive, RunTo, HasRun, MixRuns};
-ghost use Rattle.lk_cluster_theorems.specs.Processes.{all_letters, seats_after, TraceAll, GoOn, AreNew};
+ghost use Rattle.lk_cluster_theorems.specs.Processes.{all_envelopes, seats_after, TraceAll, GoOn, AreNew};
 ghost use Rattle.lk_cluster_theorems.specs.NodeRuns.{ForEachDown, ForEachUp, NodeRun, BrokenNodeRun, LedNodeRun};
 ghost use Rattle.lk_cluster_theorems.specs.NodeRuns.{RefusedStart, run_moves, broken_run_moves, led_run_moves};
 ghost use Rattle.lk_cluster_theorems.specs.NodeRuns.{refused_moves};
@@ -156,7 +156,8 @@ pub fn a_turn_continues_a_cluster<D: LogDisk, S: DatagramSocket>()
         (λ genesis cluster index n server. (after : ServerValue ReplicaValue) (came : List (SocketAddr × List ℕ))
         → ForgesNothing cluster.genesis cluster.sent server came
         → (turn : Turn (Says D.is_metered) S.is_observable came server after) → after.replica.failed ≡ false
-        → Continues ForgesNothing D.is_metered S.is_observable genesis cluster index n (Up after) turn.hands_on.letters
+        → Continues ForgesNothing D.is_metered S.is_observable genesis cluster index n (Up after)
+        turn.hands_on.envelopes
         (TracesGroup cluster.genesis.cluster n turn.given (steps_of D.is_metered turn.hands_on.says.comes))) }
 {}
 
@@ -170,7 +171,7 @@ pub fn a_sealed_turn_continues_a_cluster<D: LogDisk, S: DatagramSocket>()
         → (turn : Turn (Says D.is_metered) S.is_observable
         (all_filtered (filter_of server.addresses) frames) server after)
         → after.replica.failed ≡ false
-        → Continues IsSealed D.is_metered S.is_observable genesis cluster index n (Up after) turn.hands_on.letters
+        → Continues IsSealed D.is_metered S.is_observable genesis cluster index n (Up after) turn.hands_on.envelopes
         (TracesGroup cluster.genesis.cluster n turn.given (steps_of D.is_metered turn.hands_on.says.comes))) }
 {
     is_told_by_a_node();
@@ -192,7 +193,7 @@ pub fn a_last_turn_continues_a_cluster<D: LogDisk, S: DatagramSocket>()
         → (turn : LastTurn (Says D.is_metered) S.is_observable came server after) → after.replica.failed ≡ true
         → (left : Memory) → ((s : Side) → disk_of left s ≡ server_disks after s)
         → Continues ForgesNothing D.is_metered S.is_observable genesis cluster index n
-        (Down left) turn.hands_on.letters
+        (Down left) turn.hands_on.envelopes
         (TracesGroup cluster.genesis.cluster n turn.given (steps_of D.is_metered turn.hands_on.says.comes))) }
 {}
 
@@ -300,7 +301,7 @@ pub fn mixed_runs_fit<D: LogDisk, S: DatagramSocket>()
 {}
 
 /// The run of one node continues its cluster, where no other node moves: the node is then as its run has left it, its
-/// letters have joined what has been sent, and what its moves add the trace.
+/// envelopes have joined what has been sent, and what its moves add the trace.
 pub fn a_process_continues_a_cluster<D: LogDisk, S: DatagramSocket>()
     ensures { (honest : D.is_honest) (genesis : GenesisValue) (cluster : Cluster)
         → IsReachable ForgesNothing D.is_metered S.is_observable genesis cluster
@@ -309,7 +310,7 @@ pub fn a_process_continues_a_cluster<D: LogDisk, S: DatagramSocket>()
         → RunTo D.is_metered S.is_observable D.is_honest cluster.genesis index (node_of n life) own (node_of n last)
         → MayAllArrive D.is_metered S.is_observable D.is_honest cluster.genesis ForgesNothing cluster.sent own
         → Continues ForgesNothing D.is_metered S.is_observable genesis cluster index n last
-        (all_letters D.is_metered S.is_observable D.is_honest cluster.genesis own)
+        (all_envelopes D.is_metered S.is_observable D.is_honest cluster.genesis own)
         (TraceAll D.is_metered S.is_observable D.is_honest cluster.genesis honest own) }
 {}
 

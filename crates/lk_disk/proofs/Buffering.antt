@@ -5,7 +5,7 @@ use Rattle.std.proofs.Math.Seq.{take-append-add}
 use Rattle.std.proofs.lemmas.Bool.{cases_lt}
 use Rattle.std.proofs.lemmas.List.{take-append-le, take-take}
 use Rattle.lk_disk.specs.Disk.{Disk, MayLeave, AppendsSome, contents, appended, fully_synced, cut_to}
-use Rattle.lk_disk.specs.Files.{File, whole, shortened, left_of, IsWhole}
+use Rattle.lk_disk.specs.Files.{File, whole, truncated, left_of, IsWhole}
 use Rattle.lk_disk.specs.Buffers.{front, known, IsReady, HasNoMore, LeavesNoMore}
 use Rattle.lk_disk.proofs.Devices.{cut_length}
 
@@ -67,7 +67,7 @@ flushed_length : (d : Disk) → length (contents (fully_synced d)) ≡ length (c
 flushed_length d = ap length (append-nil (contents d))
 
 synced_ready : (is_short : Bool) (size : ℕ) (f g : File) → IsReady is_short size [] f
-    → (IsWhole f → g ≡ whole (fully_synced (left_of f))) → ((n : ℕ) (d : Disk) → f ≡ shortened n d
+    → (IsWhole f → g ≡ whole (fully_synced (left_of f))) → ((n : ℕ) (d : Disk) → f ≡ truncated n d
     → g ≡ whole (cut_to n d))
     → IsReady false size [] g
 synced_ready true size f g ready ok short =
@@ -80,7 +80,7 @@ synced_ready false size f g ready ok short =
 -- where nothing waits, it leaves the file below whole
 pub synced_as : (is_short : Bool) (size : ℕ) (pending : List ℕ) (f g : File) → pending ≡ []
     → IsReady is_short size pending f → (IsWhole f → g ≡ whole (fully_synced (left_of f)))
-    → ((n : ℕ) (d : Disk) → f ≡ shortened n d → g ≡ whole (cut_to n d)) → IsReady false size pending g
+    → ((n : ℕ) (d : Disk) → f ≡ truncated n d → g ≡ whole (cut_to n d)) → IsReady false size pending g
 synced_as is_short size pending f g none ready ok short =
     synced_ready is_short size f g (subst (λ l. IsReady is_short size l f) none ready) ok short
 

@@ -1,10 +1,10 @@
 -- A file with a buffer: appended bytes wait in memory before the file below has them.
 use Rattle.std.specs.Prelude.{◌≡◌, ℕ, ◌-◌, ◌≤◌, ⊤, Bool, true, false, List, [], length, take}
 use Rattle.lk_disk.specs.Disk.{Disk, MayLeave, contents, appended, AppendsSome}
-use Rattle.lk_disk.specs.Files.{File, whole, shortened, left_of, IsWhole}
+use Rattle.lk_disk.specs.Files.{File, whole, truncated, left_of, IsWhole}
 
 -- what a contract sees of it: what is known of the file below, how many of its bytes count, which bytes wait behind
--- these, whether it was shortened and not yet synced, whether a call has failed that leaves it unusable, and how many
+-- these, whether it was truncated and not yet synced, whether a call has failed that leaves it unusable, and how many
 -- calls have failed
 pub record BufferedValue : Type 0 where
   pub below : File
@@ -27,9 +27,9 @@ known false size pending f = whole (appended (front size (left_of f)) pending)
 abbrev pub known_of : BufferedValue → File
 known_of b = known b.is_short b.size b.pending b.below
 
--- no call has failed: all bytes of the file below count, or it was shortened to as many, and then nothing waits
+-- no call has failed: all bytes of the file below count, or it was truncated to as many, and then nothing waits
 abbrev pub IsReady : Bool → ℕ → List ℕ → File → Type 0
-IsReady true size pending f = (pending ≡ []) × (d : Disk) × (f ≡ shortened size d) × (size ≤ length (contents d))
+IsReady true size pending f = (pending ≡ []) × (d : Disk) × (f ≡ truncated size d) × (size ≤ length (contents d))
 IsReady false size pending f = IsWhole f × (size ≡ length (contents (left_of f)))
 
 -- the file below has the bytes that count, and behind them no other than the first of those that wait

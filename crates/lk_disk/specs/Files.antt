@@ -9,7 +9,7 @@ pub data File : Type 0 where
   -- these are its bytes
   whole : Disk → File
   -- it shows the first n of these bytes, while a stop may still leave more
-  shortened : ℕ → Disk → File
+  truncated : ℕ → Disk → File
   -- a call failed: a stop may leave these bytes, and its content is unknown
   broken : Disk → File
 
@@ -20,7 +20,7 @@ loosened n d = record { synced = take n d.synced; unsynced = drop n d.synced ++ 
 -- what a stop may leave of it is what it may leave of this disk
 abbrev pub left_of : File → Disk
 left_of (whole d) = d
-left_of (shortened n d) = loosened n d
+left_of (truncated n d) = loosened n d
 left_of (broken d) = d
 
 -- nothing is known of it

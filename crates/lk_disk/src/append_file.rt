@@ -1,7 +1,7 @@
 // The trait of a file that grows at its end: what each call of it, and a stop, leave of its bytes.
 ghost use Rattle.std.specs.Prelude.{◌≡◌, ◌≤◌, ◌+◌, ℕ, length, slice_range, OnOk, OnErr, IfOk};
 ghost use Rattle.lk_disk.specs.Disk.{Disk, contents, appended, fully_synced, cut_to, AppendsSome, CutShort, HasCause};
-ghost use Rattle.lk_disk.specs.Files.{File, whole, shortened, left_of, IsWhole};
+ghost use Rattle.lk_disk.specs.Files.{File, whole, truncated, left_of, IsWhole};
 
 use thiserror::Error;
 
@@ -13,8 +13,8 @@ pub struct FileFault;
 /// A file that is appended to. Its synced bytes outlast a stop of the machine, which leaves a prefix of the bytes after
 /// them.
 ///
-/// Clauses about its bytes hold if the file is honest and no append, sync or shorten has failed: after such a failure
-/// its content is unknown. Between a shorten and the next sync they specify only `flush` and `sync`. Each `Err` adds
+/// Clauses about its bytes hold if the file is honest and no append, sync or truncate has failed: after such a failure
+/// its content is unknown. Between a truncation and the next sync they specify only `flush` and `sync`. Each `Err` adds
 /// one to the count of failures, up to 2^64 - 1.
 pub trait AppendFile {
     /// What is known of its bytes, and so what a stop may leave of them.
@@ -58,20 +58,21 @@ pub trait AppendFile {
         ensures unchanged { is_honest → file self.new ≡ file self.old }
         ensures cause { HasCause (failures self.old) (failures self.new) result };
 
-    /// Makes its content outlast a stop, and completes a shorten. A failed call does not change what a stop may leave.
+    /// Makes its content outlast a stop, and completes a truncation. A failed call does not change what a stop may
+    /// leave.
     fn sync(&mut self) -> Result<(), FileFault>
         ensures ok { is_honest → IsWhole (file self.old)
             → OnOk result (file self.new ≡ whole (fully_synced (left_of (file self.old)))) }
-        ensures short { is_honest → (n : ℕ) (d : Disk) → file self.old ≡ shortened n d
+        ensures short { is_honest → (n : ℕ) (d : Disk) → file self.old ≡ truncated n d
             → OnOk result (file self.new ≡ whole (cut_to n d)) }
         ensures err { is_honest → OnErr result (left_of (file self.new) ≡ left_of (file self.old)) }
         ensures cause { HasCause (failures self.old) (failures self.new) result };
 
     /// Shortens the file to its first `len` bytes; it must have that many. Until the next sync a stop may leave more. A
     /// failed call leaves a prefix, with at least those of the first `len` bytes that were synced.
-    fn shorten(&mut self, len: usize) -> Result<(), FileFault>
+    fn truncate(&mut self, len: usize) -> Result<(), FileFault>
         ensures ok { is_honest → IsWhole (file self.old) → len ≤ length (contents (left_of (file self.old)))
-            → OnOk result (file self.new ≡ shortened len (left_of (file self.old))) }
+            → OnOk result (file self.new ≡ truncated len (left_of (file self.old))) }
         ensures err { is_honest → IsWhole (file self.old) → len ≤ length (contents (left_of (file self.old)))
             → OnErr result (CutShort len (left_of (file self.old)) (left_of (file self.new))) }
         ensures cause { HasCause (failures self.old) (failures self.new) result };

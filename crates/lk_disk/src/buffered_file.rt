@@ -2,17 +2,17 @@
 ghost use Rattle.std.specs.Prelude.{◌≡◌, ◌≤◌, ◌+◌, ◌++◌, ℕ, [], length, true, false, slice_range, IsTrue, IsFalse};
 ghost use Rattle.std.specs.Prelude.{IfOk, OnOk, OnErr};
 ghost use Rattle.lk_disk.specs.Disk.{Disk, contents, appended, fully_synced, cut_to, one_more, AppendsSome, CutShort};
-ghost use Rattle.lk_disk.specs.Files.{whole, shortened, left_of, IsWhole};
+ghost use Rattle.lk_disk.specs.Files.{whole, truncated, left_of, IsWhole};
 ghost use Rattle.lk_disk.specs.Buffers.{known_of, LeavesNoMore};
 
 use crate::append_file::{AppendFile, FileFault};
 use std::alloc::Global;
 use std::marker::Model;
 
-/// A file that keeps appended bytes in memory, until `flush`, `sync`, `read_into` or `shorten` hands them over to the
+/// A file that keeps appended bytes in memory, until `flush`, `sync`, `read_into` or `truncate` hands them over to the
 /// file below in one append. It is honest if the file below is.
 ///
-/// If there is no memory for a piece, it hands the piece over at once. After a failed hand-over, sync or shorten each
+/// If there is no memory for a piece, it hands the piece over at once. After a failed hand-over, sync or truncate each
 /// call fails, and the file below is not used again, so that no byte is written twice.
 #[derive(Drop)]
 pub struct BufferedFile<F: AppendFile + Drop> {
@@ -21,9 +21,9 @@ pub struct BufferedFile<F: AppendFile + Drop> {
     size: usize,
     // appended bytes that are not handed over yet
     pending: Vec<u8>,
-    // it was shortened and not yet synced
+    // it was truncated and not yet synced
     is_short: bool,
-    // a hand-over, a sync or a shorten has failed, so the file below must not be used again
+    // a hand-over, a sync or a truncation has failed, so the file below must not be used again
     failed: bool,
     failures: u64,
 }
@@ -110,7 +110,7 @@ impl<F: AppendFile + Drop> BufferedFile<F> {
         Ok(())
     }
 
-    // Adds a piece to the waiting bytes. Returns false, and changes nothing, if the file has failed or is shortened, or
+    // Adds a piece to the waiting bytes. Returns false, and changes nothing, if the file has failed or is truncated, or
     // if memory runs out.
     fn keeps(&mut self, piece: &[u8]) -> bool
         ensures kept { IsTrue result → self.new ≡ record self.old { pending = self.old.pending ++ piece.now } }
@@ -126,7 +126,7 @@ impl<F: AppendFile + Drop> BufferedFile<F> {
         }
     }
 
-    // Appends a piece directly to the file below, while no bytes wait. Fails between a shorten and the next sync.
+    // Appends a piece directly to the file below, while no bytes wait. Fails between a truncation and the next sync.
     fn give(&mut self, piece: &[u8]) -> Result<(), FileFault>
         requires empty { self.old.pending ≡ [] }
         requires goes_on { IsFalse self.old.failed }
@@ -191,7 +191,7 @@ impl<F: AppendFile + Drop> BufferedFile<F> {
     fn sync_below(&mut self) -> Result<(), FileFault>
         ensures ok { F.is_honest → IsWhole (known_of self.old)
             → OnOk result (known_of self.new ≡ whole (fully_synced (left_of (known_of self.old)))) }
-        ensures short { F.is_honest → (n : ℕ) (d : Disk) → known_of self.old ≡ shortened n d
+        ensures short { F.is_honest → (n : ℕ) (d : Disk) → known_of self.old ≡ truncated n d
             → OnOk result (known_of self.new ≡ whole (cut_to n d)) }
         ensures err { F.is_honest → OnErr result (left_of (known_of self.new) ≡ left_of (known_of self.old)) }
         ensures failures { self.new.failures ≡ self.old.failures }
@@ -204,10 +204,10 @@ impl<F: AppendFile + Drop> BufferedFile<F> {
         Ok(())
     }
 
-    // Hands over what waits, and shortens the file below.
-    fn shorten_below(&mut self, len: usize) -> Result<(), FileFault>
+    // Hands over what waits, and truncates the file below.
+    fn truncate_below(&mut self, len: usize) -> Result<(), FileFault>
         ensures ok { F.is_honest → IsWhole (known_of self.old) → len ≤ length (contents (left_of (known_of self.old)))
-            → OnOk result (known_of self.new ≡ shortened len (left_of (known_of self.old))) }
+            → OnOk result (known_of self.new ≡ truncated len (left_of (known_of self.old))) }
         ensures err { F.is_honest → IsWhole (known_of self.old) → len ≤ length (contents (left_of (known_of self.old)))
             → OnErr result (CutShort len (left_of (known_of self.old)) (left_of (known_of self.new))) }
         ensures failures { self.new.failures ≡ self.old.failures }
@@ -217,7 +217,7 @@ impl<F: AppendFile + Drop> BufferedFile<F> {
             return Err(FileFault);
         }
         self.failed = true;
-        self.below.shorten(len)?;
+        self.below.truncate(len)?;
         self.size = len;
         self.is_short = true;
         self.failed = false;
@@ -232,7 +232,7 @@ impl<F: AppendFile + Drop> AppendFile for BufferedFile<F> {
 
     ghost failures = { λ b. b.failures };
 
-    // Fails between a shorten and the next sync, when the length is not specified.
+    // Fails between a truncation and the next sync, when the length is not specified.
     fn length(&mut self) -> Result<usize, FileFault> {
         if self.failed || self.is_short {
             return Err(self.fail());
@@ -271,8 +271,8 @@ impl<F: AppendFile + Drop> AppendFile for BufferedFile<F> {
         }
     }
 
-    fn shorten(&mut self, len: usize) -> Result<(), FileFault> {
-        match self.shorten_below(len) {
+    fn truncate(&mut self, len: usize) -> Result<(), FileFault> {
+        match self.truncate_below(len) {
             Ok(()) => Ok(()),
             Err(FileFault) => Err(self.fail()),
         }

@@ -1,4 +1,4 @@
-// A file that is not used again after a failed append, flush, sync or shorten.
+// A file that is not used again after a failed append, flush, sync or truncate.
 ghost use Rattle.std.specs.Prelude.{◌≡◌, ◌≤◌, ◌<◌, ◌+◌, ℕ, List, length, true, false, slice_range, IsTrue, IsFalse};
 ghost use Rattle.std.specs.Prelude.{IsOk, OnOk, OnErr, IfOk};
 ghost use Rattle.lk_disk.specs.Disk.{Disk, contents, appended, fully_synced, cut_to, AppendsSome, CutShort};
@@ -7,7 +7,7 @@ ghost use Rattle.lk_disk.specs.Files.{left_of, HasLength, IsWhole, IsCaused, IsC
 use crate::append_file::{AppendFile, FileFault};
 use std::marker::Model;
 
-// A file that rejects all calls after a failed append, flush, sync or shorten, since its content is then unknown. It
+// A file that rejects all calls after a failed append, flush, sync or truncate, since its content is then unknown. It
 // asks the file once for its length, and then keeps count.
 #[derive(Drop)]
 pub(crate) struct FailStopFile<F: AppendFile + Drop> {
@@ -63,8 +63,8 @@ impl<F: AppendFile + Drop> FailStopFile<F> {
         &self.file
     }
 
-    /// Returns how many bytes the file has. Fails after a failed append, flush, sync or shorten, and if `length` of the
-    /// file itself fails.
+    /// Returns how many bytes the file has. Fails after a failed append, flush, sync or truncate, and if `length` of
+    /// the file itself fails.
     pub fn length(&mut self) -> Result<usize, FileFault>
         ensures value { F.is_honest → IfOk result (λ n. n ≡ length (contents (left_of self.old.file))) }
         ensures unchanged { F.is_honest → self.new.file ≡ self.old.file }
@@ -82,7 +82,7 @@ impl<F: AppendFile + Drop> FailStopFile<F> {
         Ok(length)
     }
 
-    /// Fills the buffer with the bytes from the offset on. Fails after a failed append, flush, sync or shorten, if the
+    /// Fills the buffer with the bytes from the offset on. Fails after a failed append, flush, sync or truncate, if the
     /// file has fewer bytes, and if the file itself fails.
     pub fn read_into(&mut self, offset: usize, buffer: &mut [u8]) -> Result<(), FileFault>
         ensures value { F.is_honest
@@ -162,9 +162,9 @@ impl<F: AppendFile + Drop> FailStopFile<F> {
         Ok(())
     }
 
-    /// Cuts the file to this many bytes and syncs it. Past the end it fails and changes nothing. If the shorten or the
-    /// sync fails, it leaves a prefix of the file, and the file rejects every later call. A file that it has cut to 0,
-    /// and that has got no bytes since, is not shortened and synced again.
+    /// Cuts the file to this many bytes and syncs it. Past the end it fails and changes nothing. If the truncation or
+    /// the sync fails, it leaves a prefix of the file, and the file rejects every later call. A file that it has cut to
+    /// 0, and that has got no bytes since, is not truncated and synced again.
     pub fn cut(&mut self, len: usize) -> Result<(), FileFault>
         ensures ok { F.is_honest → OnOk result (left_of self.new.file ≡ cut_to len (left_of self.old.file)) }
         ensures within { F.is_honest → OnOk result (len ≤ length (contents (left_of self.old.file))) }
@@ -181,7 +181,7 @@ impl<F: AppendFile + Drop> FailStopFile<F> {
             return Ok(());
         }
         self.check_call()?;
-        self.file.shorten(len)?;
+        self.file.truncate(len)?;
         self.file.sync()?;
         self.end(Some(len));
         self.is_cleared = len == 0;

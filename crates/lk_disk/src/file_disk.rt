@@ -13,7 +13,7 @@ use std::marker::Model;
 
 /// Two files as a device. It is honest if the files are.
 ///
-/// Once an append, flush, sync or shorten of a file has failed, it does not use that file again: each later call at
+/// Once an append, flush, sync or truncate of a file has failed, it does not use that file again: each later call at
 /// that side fails too.
 #[derive(Drop)]
 pub struct FileDisk<F: AppendFile + Drop> {

@@ -93,7 +93,7 @@ impl<F: OpenFile + Read + Write + Seek> AppendFile for SystemFile<F> {
         self.keep_cause(made)
     }
 
-    fn shorten(&mut self, len: usize) -> Result<(), FileFault> {
+    fn truncate(&mut self, len: usize) -> Result<(), FileFault> {
         let made = self.file.set_len(len as u64);
         self.keep_cause(made)
     }

@@ -25,9 +25,9 @@ use Rattle.lk_agreement_laws.proofs.Histories.{cons_cases}
 use Rattle.lk_locks.specs.Bodies.{body_of}
 use Rattle.lk_locks.specs.declared.body.Body.{Body}
 use Rattle.lk_locks.specs.declared.body.Body.TheVariants.{Acquire, Release, Ask, Check, Share, Break}
-use Rattle.lk_locks.specs.declared.slot.Holders.{Holders}
-use Rattle.lk_locks.specs.declared.slot.Holders.TheVariants.{Nobody, Alone, Together}
-use Rattle.lk_locks.specs.declared.slot.Slot.{Slot as Lock}
+use Rattle.lk_locks.specs.declared.lock_entry.Holders.{Holders}
+use Rattle.lk_locks.specs.declared.lock_entry.Holders.TheVariants.{Nobody, ExclusiveHold, SharedHold}
+use Rattle.lk_locks.specs.declared.lock_entry.LockEntry.{LockEntry as Lock}
 use Rattle.lk_agreement_laws.specs.Datagrams.{Datagram}
 use Rattle.lk_node_interface.specs.declared.note.Note.{Note}
 use Rattle.lk_node_interface.specs.declared.note.Note.TheVariants as note
@@ -103,31 +103,32 @@ first_grows given holders name locks q e = elim (cases_Bool (ltb (map.len locks)
 
 known_grows : (client : ℕ) (name : List ℕ) (last : ℕ) (holders : Holders) (locks : Locks) (q : List ℕ)
     → fence_in locks name ≡ last → Grows locks (acquire_known client name last holders locks) q
-known_grows client name last Nobody locks q e = again_grows Granted (Alone client) name last locks q e
-known_grows client name last (Alone holder) locks q e = still locks q
-known_grows client name last (Together clients) locks q e = still locks q
+known_grows client name last Nobody locks q e = again_grows Granted (ExclusiveHold client) name last locks q e
+known_grows client name last (ExclusiveHold holder) locks q e = still locks q
+known_grows client name last (SharedHold clients) locks q e = still locks q
 
 acquire_grows : (client : ℕ) (name : List ℕ) (o : Option Lock) (locks : Locks) (q : List ℕ) → map.get locks name ≡ o
     → Grows locks (acquire client name o locks) q
-acquire_grows client name None locks q e = first_grows Granted (Alone client) name locks q (ap fence_of e)
+acquire_grows client name None locks q e = first_grows Granted (ExclusiveHold client) name locks q (ap fence_of e)
 acquire_grows client name (Some lock) locks q e =
     known_grows client name lock.fence lock.holders locks q (ap fence_of e)
 
 shared_grows : (client : ℕ) (name : List ℕ) (last : ℕ) (holders : Holders) (locks : Locks) (q : List ℕ)
     → fence_in locks name ≡ last → Grows locks (share_known client name last holders locks) q
-shared_grows client name last Nobody locks q e = again_grows Shared (Together (client ∷ [])) name last locks q e
-shared_grows client name last (Alone holder) locks q e = still locks q
-shared_grows client name last (Together clients) locks q e = elim (cases_Bool (list_any (λ c. eqb c client) clients)) [
-  | inl f ↦ rw f (still locks q)
-  | inr f ↦ rw f (elim (cases_Bool (ltb (length clients) 8)) [
-    | inl g ↦ rw g (hold_grows name last (Together (adding_client client clients)) locks q (omega (arith, e)))
-    | inr g ↦ rw g (still locks q)
-  ])
-]
+shared_grows client name last Nobody locks q e = again_grows Shared (SharedHold (client ∷ [])) name last locks q e
+shared_grows client name last (ExclusiveHold holder) locks q e = still locks q
+shared_grows client name last (SharedHold clients) locks q e =
+    elim (cases_Bool (list_any (λ c. eqb c client) clients)) [
+      | inl f ↦ rw f (still locks q)
+      | inr f ↦ rw f (elim (cases_Bool (ltb (length clients) 8)) [
+        | inl g ↦ rw g (hold_grows name last (SharedHold (adding_client client clients)) locks q (omega (arith, e)))
+        | inr g ↦ rw g (still locks q)
+      ])
+    ]
 
 share_grows : (client : ℕ) (name : List ℕ) (o : Option Lock) (locks : Locks) (q : List ℕ) → map.get locks name ≡ o
     → Grows locks (share client name o locks) q
-share_grows client name None locks q e = first_grows Shared (Together (client ∷ [])) name locks q (ap fence_of e)
+share_grows client name None locks q e = first_grows Shared (SharedHold (client ∷ [])) name locks q (ap fence_of e)
 share_grows client name (Some lock) locks q e = shared_grows client name lock.fence lock.holders locks q (ap fence_of e)
 
 release_grows : (client : ℕ) (name : List ℕ) (fence : ℕ) (o : Option Lock) (locks : Locks) (q : List ℕ)
@@ -197,20 +198,24 @@ one_fence : (a b : ℕ) → Granted a ≡ Granted b → a ≡ b
 one_fence a b e = cc e
 
 first_grants : (client : ℕ) (name : List ℕ) (locks : Locks) (fence : ℕ) → fence_in locks name ≡ 0
-    → (give_first Granted (Alone client) name locks).0 ≡ Granted fence
-    → Grants locks name fence (give_first Granted (Alone client) name locks)
+    → (give_first Granted (ExclusiveHold client) name locks).0 ≡ Granted fence
+    → Grants locks name fence (give_first Granted (ExclusiveHold client) name locks)
 first_grants client name locks fence e = elim (cases_Bool (ltb (map.len locks) 512)) [
   | inl f ↦
-      rw f (λ g. let is = one_fence 1 fence g in (omega (arith, e, is), hold_here name 1 (Alone client) locks ∙ is))
+      rw f (λ g. let is = one_fence 1 fence g in (
+        omega (arith, e, is),
+        hold_here name 1
+            (ExclusiveHold client) locks ∙ is,
+      ))
   | inr f ↦ rw f (λ g. absurd (cc g))
 ]
 
 again_grants : (client : ℕ) (name : List ℕ) (last : ℕ) (locks : Locks) (fence : ℕ) → fence_in locks name ≡ last
-    → (give_again Granted (Alone client) name last locks).0 ≡ Granted fence
-    → Grants locks name fence (give_again Granted (Alone client) name last locks)
+    → (give_again Granted (ExclusiveHold client) name last locks).0 ≡ Granted fence
+    → Grants locks name fence (give_again Granted (ExclusiveHold client) name last locks)
 again_grants client name last locks fence e = elim (cases_Bool (ltb last 281474976710656)) [
   | inl f ↦ rw f (λ g. let is = one_fence (last + 1) fence g in
-      (omega (arith, e, is), hold_here name (last + 1) (Alone client) locks ∙ is))
+      (omega (arith, e, is), hold_here name (last + 1) (ExclusiveHold client) locks ∙ is))
   | inr f ↦ rw f (λ g. absurd (cc g))
 ]
 
@@ -218,8 +223,8 @@ known_grants : (client : ℕ) (name : List ℕ) (last : ℕ) (holders : Holders)
     → fence_in locks name ≡ last → (acquire_known client name last holders locks).0 ≡ Granted fence
     → Grants locks name fence (acquire_known client name last holders locks)
 known_grants client name last Nobody locks fence e g = again_grants client name last locks fence e g
-known_grants client name last (Alone holder) locks fence e g = absurd (cc g)
-known_grants client name last (Together clients) locks fence e g = absurd (cc g)
+known_grants client name last (ExclusiveHold holder) locks fence e g = absurd (cc g)
+known_grants client name last (SharedHold clients) locks fence e g = absurd (cc g)
 
 acquire_grants : (client : ℕ) (name : List ℕ) (o : Option Lock) (locks : Locks) (fence : ℕ) → map.get locks name ≡ o
     → (acquire client name o locks).0 ≡ Granted fence → Grants locks name fence (acquire client name o locks)
@@ -396,8 +401,8 @@ record IsAcquired (op : Op) : Type 0 where
 
 no_grant_told : (last : ℕ) (holders : Holders) (fence : ℕ) → told_of last holders ≡ Granted fence → ⊥
 no_grant_told last Nobody fence g = cc g
-no_grant_told last (Alone holder) fence g = cc g
-no_grant_told last (Together clients) fence g = cc g
+no_grant_told last (ExclusiveHold holder) fence g = cc g
+no_grant_told last (SharedHold clients) fence g = cc g
 
 no_grant_asked : (o : Option Lock) (fence : ℕ) → asks o ≡ Granted fence → ⊥
 no_grant_asked None fence g = cc g
@@ -415,20 +420,24 @@ no_grant_of false x y fence a b g = b g
 no_grant_shared : (client : ℕ) (name : List ℕ) (last : ℕ) (holders : Holders) (locks : Locks) (fence : ℕ)
     → (share_known client name last holders locks).0 ≡ Granted fence → ⊥
 no_grant_shared client name last Nobody locks fence g =
-    no_grant_of (ltb last 281474976710656) (Shared (last + 1), hold name (last + 1) (Together (client ∷ [])) locks)
+    no_grant_of (ltb last 281474976710656) (Shared (last + 1), hold name (last + 1) (SharedHold (client ∷ [])) locks)
     (Spent, locks) fence (λ e. cc e) (λ e. cc e) g
-no_grant_shared client name last (Alone holder) locks fence g = cc g
-no_grant_shared client name last (Together clients) locks fence g =
+no_grant_shared client name last (ExclusiveHold holder) locks fence g = cc g
+no_grant_shared client name last (SharedHold clients) locks fence g =
     no_grant_of (list_any (λ c. eqb c client) clients) (Shared last, locks)
-    (cond (ltb (length clients) 8) (Shared last, hold name last (Together (adding_client client clients)) locks)
+    (cond (ltb (length clients) 8) (Shared last, hold name last (SharedHold (adding_client client clients)) locks)
     (Busy (first clients) last, locks)) fence (λ e. cc e)
-    (no_grant_of (ltb (length clients) 8) (Shared last, hold name last (Together (adding_client client clients)) locks)
+    (no_grant_of (ltb (length clients) 8) (
+      Shared last,
+      hold name last
+          (SharedHold (adding_client client clients)) locks,
+    )
     (Busy (first clients) last, locks) fence (λ e. cc e) (λ e. cc e)) g
 
 no_grant_share : (client : ℕ) (name : List ℕ) (o : Option Lock) (locks : Locks) (fence : ℕ)
     → (share client name o locks).0 ≡ Granted fence → ⊥
 no_grant_share client name None locks fence g =
-    no_grant_of (ltb (map.len locks) 512) (Shared 1, hold name 1 (Together (client ∷ [])) locks) (NoRoom, locks) fence
+    no_grant_of (ltb (map.len locks) 512) (Shared 1, hold name 1 (SharedHold (client ∷ [])) locks) (NoRoom, locks) fence
     (λ e. cc e) (λ e. cc e) g
 no_grant_share client name (Some lock) locks fence g = no_grant_shared client name lock.fence lock.holders locks fence g
 

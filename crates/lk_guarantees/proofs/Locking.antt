@@ -17,9 +17,9 @@ use Rattle.lk_locks.specs.Sharers.{with_client, least}
 use Rattle.lk_locks.specs.declared.body.Body.{Body}
 use Rattle.lk_locks.specs.declared.body.Body.TheVariants.{Acquire, Release, Ask, Check, Share, Break}
 use Rattle.lk_locks.specs.declared.transition.Transition.{Transition}
-use Rattle.lk_locks.specs.declared.slot.Holders.{Holders}
-use Rattle.lk_locks.specs.declared.slot.Holders.TheVariants.{Nobody, Alone, Together}
-use Rattle.lk_locks.specs.declared.slot.Slot.{Slot}
+use Rattle.lk_locks.specs.declared.lock_entry.Holders.{Holders}
+use Rattle.lk_locks.specs.declared.lock_entry.Holders.TheVariants.{Nobody, ExclusiveHold, SharedHold}
+use Rattle.lk_locks.specs.declared.lock_entry.LockEntry.{LockEntry}
 use Rattle.lk_guarantees.specs.Plain.{Locks, State, give_again, give_first, first, acquire_known, acquire}
 use Rattle.lk_guarantees.specs.Plain.{adding_client}
 use Rattle.lk_guarantees.specs.Plain.{share_known, share, is_free, is_held_by, those, without, release, is_held_at}
@@ -51,14 +51,14 @@ busy_agrees name clients last m = (ap (λ (c : ℕ). Busy c last) (least_is clie
 
 acquired_agrees : (client : ℕ) (name : List ℕ) (last : ℕ) (holders : Holders) (m : Locks)
     → Agrees name (plain.acquired_at client last holders) m (acquire_known client name last holders m)
-acquired_agrees client name last Nobody m = again_agrees Granted (Alone client) name last m
-acquired_agrees client name last (Alone holder) m = (refl, refl)
-acquired_agrees client name last (Together clients) m = busy_agrees name clients last m
+acquired_agrees client name last Nobody m = again_agrees Granted (ExclusiveHold client) name last m
+acquired_agrees client name last (ExclusiveHold holder) m = (refl, refl)
+acquired_agrees client name last (SharedHold clients) m = busy_agrees name clients last m
 
-acquire_agrees : (client : ℕ) (name : List ℕ) (o : Option Slot) (m : Locks)
+acquire_agrees : (client : ℕ) (name : List ℕ) (o : Option LockEntry) (m : Locks)
     → Agrees name (plain.acquired client o (map.len m)) m (acquire client name o m)
 acquire_agrees client name (Some lock) m = acquired_agrees client name lock.fence lock.holders m
-acquire_agrees client name None m = first_agrees Granted (Alone client) name m
+acquire_agrees client name None m = first_agrees Granted (ExclusiveHold client) name m
 
 -- one who is none of them comes in at its place
 one_more : (client : ℕ) (cs : List ℕ) → list_any (λ (c : ℕ). eqb c client) cs ≡ false
@@ -79,7 +79,7 @@ one_more client (c ∷ cs) none =
     ]
 
 joined_agrees : (client : ℕ) (name : List ℕ) (last : ℕ) (clients : List ℕ) (m : Locks)
-    → Agrees name (plain.shared_with client last clients) m (share_known client name last (Together clients) m)
+    → Agrees name (plain.shared_with client last clients) m (share_known client name last (SharedHold clients) m)
 joined_agrees client name last clients m =
     elim (cases_Bool (list_any (λ (c : ℕ). eqb c client) clients)) [
       | inl e ↦ rw e (refl, refl)
@@ -89,14 +89,14 @@ joined_agrees client name last clients m =
 
 shared_agrees : (client : ℕ) (name : List ℕ) (last : ℕ) (holders : Holders) (m : Locks)
     → Agrees name (plain.shared_at client last holders) m (share_known client name last holders m)
-shared_agrees client name last Nobody m = again_agrees Shared (Together (client ∷ [])) name last m
-shared_agrees client name last (Alone holder) m = (refl, refl)
-shared_agrees client name last (Together clients) m = joined_agrees client name last clients m
+shared_agrees client name last Nobody m = again_agrees Shared (SharedHold (client ∷ [])) name last m
+shared_agrees client name last (ExclusiveHold holder) m = (refl, refl)
+shared_agrees client name last (SharedHold clients) m = joined_agrees client name last clients m
 
-share_agrees : (client : ℕ) (name : List ℕ) (o : Option Slot) (m : Locks)
+share_agrees : (client : ℕ) (name : List ℕ) (o : Option LockEntry) (m : Locks)
     → Agrees name (plain.shared client o (map.len m)) m (share client name o m)
 share_agrees client name (Some lock) m = shared_agrees client name lock.fence lock.holders m
-share_agrees client name None m = first_agrees Shared (Together (client ∷ [])) name m
+share_agrees client name None m = first_agrees Shared (SharedHold (client ∷ [])) name m
 
 left_is : (clients : List ℕ) → held_by clients ≡ those clients
 left_is [] = refl
@@ -106,10 +106,10 @@ left_is (c ∷ cs) = refl
 leaves_so : (client : ℕ) (holders : Holders)
     → left_by client holders ≡ cond (is_held_by client holders) (Some (without client holders)) None
 leaves_so client Nobody = refl
-leaves_so client (Alone holder) = refl
-leaves_so client (Together clients) = rw (left_is (filter (λ (c : ℕ). not (eqb c client)) clients)) refl
+leaves_so client (ExclusiveHold holder) = refl
+leaves_so client (SharedHold clients) = rw (left_is (filter (λ (c : ℕ). not (eqb c client)) clients)) refl
 
-released_agrees : (client : ℕ) (name : List ℕ) (fence : ℕ) (lock : Slot) (m : Locks)
+released_agrees : (client : ℕ) (name : List ℕ) (fence : ℕ) (lock : LockEntry) (m : Locks)
     → Agrees name (plain.released client fence (Some lock)) m (release client name fence (Some lock) m)
 released_agrees client name fence lock m =
     rw (leaves_so client lock.holders) (elim (cases_Bool (eqb lock.fence fence)) [
@@ -119,21 +119,21 @@ released_agrees client name fence lock m =
           [ inl f ↦ rw (e, f) (refl, refl) | inr f ↦ rw (e, f) (refl, refl) ]
     ])
 
-release_agrees : (client : ℕ) (name : List ℕ) (fence : ℕ) (o : Option Slot) (m : Locks)
+release_agrees : (client : ℕ) (name : List ℕ) (fence : ℕ) (o : Option LockEntry) (m : Locks)
     → Agrees name (plain.released client fence o) m (release client name fence o m)
 release_agrees client name fence (Some lock) m = released_agrees client name fence lock m
 release_agrees client name fence None m = (refl, refl)
 
 held_is : (holders : Holders) → is_held holders ≡ not (is_free holders)
 held_is Nobody = refl
-held_is (Alone holder) = refl
-held_is (Together clients) = refl
+held_is (ExclusiveHold holder) = refl
+held_is (SharedHold clients) = refl
 
-held_at_is : (fence : ℕ) (o : Option Slot) → plain.is_held_at fence o ≡ is_held_at fence o
+held_at_is : (fence : ℕ) (o : Option LockEntry) → plain.is_held_at fence o ≡ is_held_at fence o
 held_at_is fence None = refl
 held_at_is fence (Some lock) = ap (λ (b : Bool). b && eqb lock.fence fence) (held_is lock.holders)
 
-break_agrees : (name : List ℕ) (fence : ℕ) (o : Option Slot) (m : Locks)
+break_agrees : (name : List ℕ) (fence : ℕ) (o : Option LockEntry) (m : Locks)
     → Agrees name (plain.broken fence o) m (break_lock name fence o m)
 break_agrees name fence o m =
     rw (held_at_is fence o) (elim
@@ -141,14 +141,14 @@ break_agrees name fence o m =
 
 told_agrees : (last : ℕ) (holders : Holders) → plain.asked_at last holders ≡ told_of last holders
 told_agrees last Nobody = refl
-told_agrees last (Alone holder) = refl
-told_agrees last (Together clients) = refl
+told_agrees last (ExclusiveHold holder) = refl
+told_agrees last (SharedHold clients) = refl
 
-asks_agrees : (o : Option Slot) → plain.asked o ≡ asks o
+asks_agrees : (o : Option LockEntry) → plain.asked o ≡ asks o
 asks_agrees None = refl
 asks_agrees (Some lock) = told_agrees lock.fence lock.holders
 
-checks_agrees : (fence : ℕ) (o : Option Slot) → plain.checked fence o ≡ checks fence o
+checks_agrees : (fence : ℕ) (o : Option LockEntry) → plain.checked fence o ≡ checks fence o
 checks_agrees fence o = rw (held_at_is fence o) refl
 
 pub locks_agree : (client : ℕ) (raised : Bool) (o : Option Body) (m : Locks)

@@ -290,7 +290,7 @@ module _ (b : Behaviour ReplicaValue) (memory_is : (r : ReplicaValue) → b.memo
               r.ended))
           | inr (inr f) ↦ inr (inr (broke old new n (Takes x) asked k.seat k.next k.number k.replica k.up k.replaces
               f.ends.0 f.number f.left (contract k.replica x f.ends.0 (Err f.number) f.ends.1) f.ends.3
-              (f.no_want.memory, f.no_want.halted, f.no_want.letters) f.no_want.starved f.down f.ended f.adds))
+              (f.no_want.memory, f.no_want.halted, f.no_want.envelopes) f.no_want.starved f.down f.ended f.adds))
         ]
 
     taken_together : (old new : Scene ReplicaValue) (n : ℕ) (given : List Input)
@@ -307,7 +307,7 @@ module _ (b : Behaviour ReplicaValue) (memory_is : (r : ReplicaValue) → b.memo
           (are_notes (cut_short r.sends r.said) r.notes r.tells)) r.adds r.ended))
       | inr (inr f) ↦ inr (inr (broke old new n (TakesAll given) [] k.seat k.next k.number k.replica k.up k.replaces
           f.ends.0 f.number f.left (contract_of_all k.replica given f.ends.0 (Err f.number) f.ends.1) f.ends.3
-          (f.no_want.memory, f.no_want.halted, f.no_want.letters) f.no_want.starved f.down f.ended f.adds))
+          (f.no_want.memory, f.no_want.halted, f.no_want.envelopes) f.no_want.starved f.down f.ended f.adds))
     ]
 
     pub takes_as_told : (old new : Scene ReplicaValue) (e : Event) → IsPermitted old e

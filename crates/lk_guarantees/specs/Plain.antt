@@ -25,9 +25,9 @@ use Rattle.lk_locks.specs.Packed.{table_text}
 use Rattle.lk_locks.specs.Plain.{Table as TableValue}
 use Rattle.lk_locks.specs.declared.body.Body.{Body}
 use Rattle.lk_locks.specs.declared.body.Body.TheVariants.{Acquire, Release, Ask, Check, Share, Break}
-use Rattle.lk_locks.specs.declared.slot.Holders.{Holders}
-use Rattle.lk_locks.specs.declared.slot.Holders.TheVariants.{Nobody, Alone, Together}
-use Rattle.lk_locks.specs.declared.slot.Slot.{Slot as Lock}
+use Rattle.lk_locks.specs.declared.lock_entry.Holders.{Holders}
+use Rattle.lk_locks.specs.declared.lock_entry.Holders.TheVariants.{Nobody, ExclusiveHold, SharedHold}
+use Rattle.lk_locks.specs.declared.lock_entry.LockEntry.{LockEntry as Lock}
 
 -- ---- the plain lock table
 
@@ -59,12 +59,12 @@ first (c ∷ cs) = c
 
 -- Acquire: gives a free name or a new one to one client alone
 abbrev pub acquire_known : ℕ → List ℕ → ℕ → Holders → Locks → Answer × Locks
-acquire_known client name last Nobody locks = give_again Granted (Alone client) name last locks
-acquire_known client name last (Alone holder) locks = (Busy holder last, locks)
-acquire_known client name last (Together clients) locks = (Busy (first clients) last, locks)
+acquire_known client name last Nobody locks = give_again Granted (ExclusiveHold client) name last locks
+acquire_known client name last (ExclusiveHold holder) locks = (Busy holder last, locks)
+acquire_known client name last (SharedHold clients) locks = (Busy (first clients) last, locks)
 
 abbrev pub acquire : ℕ → List ℕ → Option Lock → Locks → Answer × Locks
-acquire client name None locks = give_first Granted (Alone client) name locks
+acquire client name None locks = give_first Granted (ExclusiveHold client) name locks
 acquire client name (Some lock) locks = acquire_known client name lock.fence lock.holders locks
 
 -- is the client one of these?
@@ -79,37 +79,41 @@ adding_client client (c ∷ cs) = if nat_lt c client then c ∷ adding_client cl
 -- Share: gives a free name or a new one to a client as Acquire does, but others may join; or the client joins those
 -- who hold the name together, at their fence, while they are fewer than eight
 abbrev pub share_known : ℕ → List ℕ → ℕ → Holders → Locks → Answer × Locks
-share_known client name last Nobody locks = give_again Shared (Together (client ∷ [])) name last locks
-share_known client name last (Alone holder) locks = (Busy holder last, locks)
-share_known client name last (Together clients) locks =
+share_known client name last Nobody locks = give_again Shared (SharedHold (client ∷ [])) name last locks
+share_known client name last (ExclusiveHold holder) locks = (Busy holder last, locks)
+share_known client name last (SharedHold clients) locks =
     if is_one_of client clients then (Shared last, locks)
-    else if nat_lt (length clients) 8 then (Shared last, hold name last (Together (adding_client client clients)) locks)
+    else if nat_lt (length clients) 8 then (
+      Shared last,
+      hold name last
+          (SharedHold (adding_client client clients)) locks,
+    )
     else (Busy (first clients) last, locks)
 
 abbrev pub share : ℕ → List ℕ → Option Lock → Locks → Answer × Locks
-share client name None locks = give_first Shared (Together (client ∷ [])) name locks
+share client name None locks = give_first Shared (SharedHold (client ∷ [])) name locks
 share client name (Some lock) locks = share_known client name lock.fence lock.holders locks
 
 abbrev pub is_free : Holders → Bool
 is_free Nobody = true
-is_free (Alone holder) = false
-is_free (Together clients) = false
+is_free (ExclusiveHold holder) = false
+is_free (SharedHold clients) = false
 
 abbrev pub is_held_by : ℕ → Holders → Bool
 is_held_by client Nobody = false
-is_held_by client (Alone holder) = holder == client
-is_held_by client (Together clients) = is_one_of client clients
+is_held_by client (ExclusiveHold holder) = holder == client
+is_held_by client (SharedHold clients) = is_one_of client clients
 
 -- nobody, if none is left
 abbrev pub those : List ℕ → Holders
 those [] = Nobody
-those (c ∷ cs) = Together (c ∷ cs)
+those (c ∷ cs) = SharedHold (c ∷ cs)
 
 -- who holds a name after one of its holders has left
 abbrev pub without : ℕ → Holders → Holders
 without client Nobody = Nobody
-without client (Alone holder) = Nobody
-without client (Together clients) = those (filter (λ c. not (c == client)) clients)
+without client (ExclusiveHold holder) = Nobody
+without client (SharedHold clients) = those (filter (λ c. not (c == client)) clients)
 
 -- Release: whoever holds the name at this fence holds it no longer. The fence is kept, so that it is given once
 abbrev pub release : ℕ → List ℕ → ℕ → Option Lock → Locks → Answer × Locks
@@ -132,8 +136,8 @@ break_lock name fence lock locks =
 -- Ask: who holds the name at which fence, or its last fence
 abbrev pub told_of : ℕ → Holders → Answer
 told_of last Nobody = Free last
-told_of last (Alone holder) = Held holder last
-told_of last (Together clients) = HeldShared (length clients) last
+told_of last (ExclusiveHold holder) = Held holder last
+told_of last (SharedHold clients) = HeldShared (length clients) last
 
 abbrev pub asks : Option Lock → Answer
 asks None = Free 0

@@ -15,13 +15,13 @@ use Rattle.lk_state.specs.Meanings.{Meaning}
 use Rattle.lk_learner.specs.Learners.{GatheredValue, LearnerValue, executed, gathered_bytes, wanted}
 use Rattle.lk_learner.specs.Gathering.{starts_text}
 use Rattle.lk_learner.specs.Parts.{AreParts, part_of}
-use Rattle.lk_node_interface.specs.Letters.{batch_of}
+use Rattle.lk_node_interface.specs.Envelopes.{batch_of}
 use Rattle.lk_node_interface.specs.Outboxes.{OutboxValue}
 use Rattle.lk_node_interface.specs.Saying.{saying}
 use Rattle.lk_node.specs.Beginning.{greatest_round}
 use Rattle.lk_node.specs.CatchingUp.{FeedsParts}
 use Rattle.lk_node.specs.NodeValue.{NodeValue}
-use Rattle.lk_node.specs.Telling.{letter_to}
+use Rattle.lk_node.specs.Telling.{envelope_to}
 use Rattle.lk_progress.specs.Feeding.{MayServe}
 use Rattle.lk_progress.specs.Gathering.{GetsOn, HasSoFar, parts_from}
 use Rattle.lk_progress.specs.Hearing.{Takes}
@@ -104,7 +104,7 @@ module _ (m : Meaning) (IsText : List ℕ → Type 0) (b a : ℕ) (told : Progre
     feeds = (sends_parts t.last t.out takes).1
 
     carry : (ps : List PartValue) → ((p : PartValue) → Contains ps p → IsMessage (saying q.node.header (kinds.Part p)))
-        → Carry served b (batch_of a (map (λ p. letter_to q.node (kinds.Part p) b) ps)) (parts_from a ps)
+        → Carry served b (batch_of a (map (λ p. envelope_to q.node (kinds.Part p) b) ps)) (parts_from a ps)
     carry [] fit = tt
     carry (p ∷ ps) fit = (
       refl,
@@ -114,9 +114,9 @@ module _ (m : Meaning) (IsText : List ℕ → Type 0) (b a : ℕ) (told : Progre
 
     stand_parts : StandAt served b (places_from (length mid.sent) (length served.sent - length mid.sent))
         (parts_from a feeds.parts)
-    stand_parts = all_stand served b (batch_of a (map (λ p. letter_to q.node (kinds.Part p) b) feeds.parts)) mid.sent
+    stand_parts = all_stand served b (batch_of a (map (λ p. envelope_to q.node (kinds.Part p) b) feeds.parts)) mid.sent
         (parts_from a feeds.parts)
-        (t.sent ∙ ap (λ (o : OutboxValue). mid.sent ++ batch_of a o.letters) feeds.comes_to)
+        (t.sent ∙ ap (λ (o : OutboxValue). mid.sent ++ batch_of a o.envelopes) feeds.comes_to)
         (carry feeds.parts feeds.fits)
 
     are : AreParts (position_of q) (text_of q) (count_of r) feeds.parts
@@ -211,7 +211,7 @@ module _ (m : Meaning) (IsText : List ℕ → Type 0) (b a : ℕ) (told : Progre
       round_parts : greatest_round d.candidate.node < 281474976710656
       round_parts =
           let low : greatest_round took_all.last < 281474976710656 = keeps_round asked.asking.node took_all.last
-          (parts_keep m IsText a feeds.parts asked.asking.node took_all.last took_all.letters took_all.takes)
+          (parts_keep m IsText a feeds.parts asked.asking.node took_all.last took_all.envelopes took_all.takes)
           asked.own.round in
           subst (λ (y : ReplicaValue). greatest_round y.node < 281474976710656)
           (one_replica m IsText new new_holds b took_all.now d.candidate took_all.is d.up)

@@ -15,7 +15,7 @@ use Rattle.lk_members.proofs.Memberships.{majority_lies_within}
 use Rattle.lk_members.specs.Nodes.{nodes_of}
 use Rattle.lk_state.specs.Meanings.{Meaning}
 use Rattle.lk_learner.specs.Learners.{executed}
-use Rattle.lk_node_interface.specs.Letters.{batch_of}
+use Rattle.lk_node_interface.specs.Envelopes.{batch_of}
 use Rattle.lk_node_interface.specs.declared.note.Note.{Note}
 use Rattle.lk_progress.specs.Deciding.{acceptances}
 use Rattle.lk_leftovers.specs.Accepting.{LeaderAccepts, VoterAccepts}
@@ -53,14 +53,14 @@ module _ (m : Meaning) (IsText : List ℕ → Type 0) where
   each_grows x [] old new same d c = subst (λ (w : Scene ReplicaValue). Contains w.sent d) (sym same) c
   each_grows x (n ∷ ns) old new each d c =
       let s : TakesFrom m IsText n x old each.0 = heard_from m IsText n x old each.0 each.1 in
-      each_grows x ns each.0 new each.2 d (still old each.0 (batch_of n s.out.letters) s.sent d c)
+      each_grows x ns each.0 new each.2 d (still old each.0 (batch_of n s.out.envelopes) s.sent d c)
 
   turn_grows : (n : ℕ) (xs : List Content) (old new : Scene ReplicaValue) → HearsInTurn m IsText n xs old new
       → (d : Datagram) → Contains old.sent d → Contains new.sent d
   turn_grows n [] old new same d c = subst (λ (w : Scene ReplicaValue). Contains w.sent d) (sym same) c
   turn_grows n (x ∷ xs) old new turn d c =
       let s : TakesFrom m IsText n x old turn.0 = heard_from m IsText n x old turn.0 turn.1 in
-      turn_grows n xs turn.0 new turn.2 d (still old turn.0 (batch_of n s.out.letters) s.sent d c)
+      turn_grows n xs turn.0 new turn.2 d (still old turn.0 (batch_of n s.out.envelopes) s.sent d c)
 
 -- what a leader that fills was told of stays so
 pub told_grows : (old new : Scene ReplicaValue) (x : ℕ) (others : List ℕ) (asking : Asking)

@@ -15,7 +15,7 @@ use Rattle.lk_leader.specs.Values.{has_vote_from}
 use Rattle.lk_learner.specs.Learners.{LearnerValue, alpha, executed}
 use Rattle.lk_node.specs.Leavings.{header_of}
 use Rattle.lk_node.specs.NodeValue.{NodeValue}
-use Rattle.lk_node.specs.Telling.{letter_to}
+use Rattle.lk_node.specs.Telling.{envelope_to}
 use Rattle.lk_progress.specs.Deciding.{vote_for_next}
 use Rattle.lk_progress.specs.Hearing.{Hears as NodeHears}
 use Rattle.lk_leftovers.proofs.Filling.{found_at}
@@ -100,7 +100,7 @@ module _ (m : Meaning) (IsText : List ℕ → Type 0) (leader_law : LeaderAccept
     voted_sent = sent_as old accepted_in n x voting.start (kinds.Accepted v)
         (found_header voter.replica voting.start voting.found
         ∙ has_header m IsText old k.holds n voter.replica voter.up)
-        taken.genesis (voting.sent (letter_to voting.start (kinds.Accepted v) x) voted.accepts.told)
+        taken.genesis (voting.sent (envelope_to voting.start (kinds.Accepted v) x) voted.accepts.told)
 
   -- the leader
   pub own : HeardIt m IsText x (content.Node x (kinds.Accept v)) leader accepted_in
@@ -137,10 +137,10 @@ module _ (m : Meaning) (IsText : List ℕ → Type 0) (leader_law : LeaderAccept
 
   own_sent : HasSentTo accepted_in x x (kinds.Accepted v)
   own_sent = sent_as old accepted_in x x start (kinds.Accepted v) header_is taken.genesis
-      (own.sent (letter_to start (kinds.Accepted v) x)
-      (subst (λ (y : Vote). Contains own.out.letters (letter_to start (kinds.Accepted y) x)) (sym v_is)
-      (subst (λ (n : ℕ). Contains own.out.letters
-      (letter_to start (kinds.Accepted (vote_for_next start t next.proposal.command)) n))
+      (own.sent (envelope_to start (kinds.Accepted v) x)
+      (subst (λ (y : Vote). Contains own.out.envelopes (envelope_to start (kinds.Accepted y) x)) (sym v_is)
+      (subst (λ (n : ℕ). Contains own.out.envelopes
+      (envelope_to start (kinds.Accepted (vote_for_next start t next.proposal.command)) n))
       (ap (λ (h : HeaderValue). h.node) header_is) itself.accepts.accepts.told)))
 
   -- each has replied

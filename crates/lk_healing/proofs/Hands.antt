@@ -13,7 +13,7 @@ use Rattle.lk_messages.specs.declared.message.NodeMessage.TheVariants as kinds
 use Rattle.lk_agreement_laws.specs.Datagrams.{said_by}
 use Rattle.lk_agreement_laws.specs.declared.party.Party.TheVariants as party
 use Rattle.lk_state.specs.Meanings.{Meaning}
-use Rattle.lk_node_interface.specs.Letters.{batch_of}
+use Rattle.lk_node_interface.specs.Envelopes.{batch_of}
 use Rattle.lk_progress.specs.Deciding.{acceptances}
 use Rattle.lk_replica.specs.ReplicaValue.{ReplicaValue}
 use Rattle.lk_sim.specs.Scenes.{Scene}
@@ -76,12 +76,12 @@ module _ (m : Meaning) (IsText : List ℕ → Type 0) (j : ℕ) (x : Content) (o
   pub stays_sent : (n k : ℕ) (y : NodeMessage) → HasSentTo old n k y → HasSentTo new n k y
   stays_sent n k y c = subst (λ (g : Genesis). Contains new.sent
       (record { from = party.Node n; to = party.Node k; bytes = spelling (said_by g n y) })) (sym s.genesis)
-      (still old new (batch_of j s.out.letters) s.sent _ c)
+      (still old new (batch_of j s.out.envelopes) s.sent _ c)
 
   pub stay_on_their_way : (nodes : List ℕ) (y : Message) → AreOnTheirWay old nodes y → AreOnTheirWay new nodes y
   stay_on_their_way nodes y each n c =
       let one = each n c in
-      (stays_up n one.0, (one.1.0, still old new (batch_of j s.out.letters) s.sent one.1.0 one.1.1, one.1.2, one.1.3))
+      (stays_up n one.0, (one.1.0, still old new (batch_of j s.out.envelopes) s.sent one.1.0 one.1.1, one.1.2, one.1.3))
 
 pub each_up : (m : Meaning) (IsText : List ℕ → Type 0) (x : Content) (ns : List ℕ) (old new : Scene ReplicaValue)
     → HearsEach m IsText x ns old new → (n : ℕ) → IsUp old.seats n → IsUp new.seats n

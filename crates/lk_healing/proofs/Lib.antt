@@ -9,7 +9,7 @@ mod Leads
 mod Quiet
 mod News
 mod Starters
-mod Letters
+mod Envelopes
 mod Prepared
 mod Rejected
 mod Begun

@@ -14,7 +14,7 @@ use Rattle.lk_members.specs.Ports.{is_named}
 use Rattle.lk_state.specs.Meanings.{Meaning}
 use Rattle.lk_learner.proofs.Learnerships.{filter_has}
 use Rattle.lk_learner.specs.Learners.{executed, gathered_bytes}
-use Rattle.lk_node_interface.specs.Letters.{LetterValue, batch_of, datagram_of}
+use Rattle.lk_node_interface.specs.Envelopes.{EnvelopeValue, batch_of, datagram_of}
 use Rattle.lk_node_interface.specs.Outboxes.{OutboxValue}
 use Rattle.lk_node_interface.specs.Saying.{saying}
 use Rattle.lk_node_interface.specs.declared.input.Input.TheVariants.{Nudge}
@@ -24,7 +24,7 @@ use Rattle.lk_node.specs.Leavings.{header_of}
 use Rattle.lk_node.specs.NodeValue.{NodeValue}
 use Rattle.lk_node.specs.Nudging.{Nudges, TellsIfSilent, TellsProgress, progress, refreshed, remembering}
 use Rattle.lk_node.specs.Nudging.{without_gathered}
-use Rattle.lk_node.specs.Telling.{AreOthers, letter_to}
+use Rattle.lk_node.specs.Telling.{AreOthers, envelope_to}
 use Rattle.lk_replica.specs.ReplicaValue.{ReplicaValue}
 use Rattle.lk_sim.specs.Scenes.{Scene}
 use Rattle.lk_sim.specs.declared.event.Event.TheVariants as event
@@ -195,7 +195,7 @@ module _ (m : Meaning) (IsText : List ℕ → Type 0) (old new : Scene ReplicaVa
       rests = λ b a is. record {
         rests = λ k life not_b not_a c. s.others k life
             (λ e. elim is [ inl one ↦ not_b (e ∙ one) | inr two ↦ not_a (e ∙ two) ]) c;
-        sent = still old new (batch_of n s.out.letters) s.sent;
+        sent = still old new (batch_of n s.out.envelopes) s.sent;
         asked = asks.asked;
         genesis = s.genesis;
       };
@@ -227,23 +227,23 @@ module _ (m : Meaning) (IsText : List ℕ → Type 0) (old new : Scene ReplicaVa
     abbrev says : NodeMessage
     says = kinds.Nack (progress (refreshed s.start))
 
-    letters : s.out.letters ≡ map (letter_to (refreshed s.start) says) did.1.0
-    letters = ap (λ (o : OutboxValue). o.letters) did.1.2.1
+    envelopes : s.out.envelopes ≡ map (envelope_to (refreshed s.start) says) did.1.0
+    envelopes = ap (λ (o : OutboxValue). o.envelopes) did.1.2.1
 
     -- what was sent first is such a rejection
     module _ (d : Datagram) (at : slice_get new.sent (length old.sent) ≡ Some d) where
       bytes : d.bytes ≡ spelling (saying (refreshed s.start).header says)
-      bytes = by_nodes did.1.0 letters
+      bytes = by_nodes did.1.0 envelopes
         where
-          by_nodes : (ns : List ℕ) → s.out.letters ≡ map (letter_to (refreshed s.start) says) ns
+          by_nodes : (ns : List ℕ) → s.out.envelopes ≡ map (envelope_to (refreshed s.start) says) ns
               → d.bytes ≡ spelling (saying (refreshed s.start).header says)
           by_nodes [] is = absurd (cc (sym at ∙ ap (λ (ds : List Datagram). slice_get ds (length old.sent))
-              (s.sent ∙ ap (λ (ls : List LetterValue). old.sent ++ batch_of n ls) is) ∙ none_at_end old.sent))
+              (s.sent ∙ ap (λ (ls : List EnvelopeValue). old.sent ++ batch_of n ls) is) ∙ none_at_end old.sent))
           by_nodes (k ∷ ks) is =
-              let first : LetterValue = letter_to (refreshed s.start) says k in
+              let first : EnvelopeValue = envelope_to (refreshed s.start) says k in
               let same : Some d ≡ Some (datagram_of n first) = sym at
               ∙ ap (λ (ds : List Datagram). slice_get ds (length old.sent))
-              (s.sent ∙ ap (λ (ls : List LetterValue). old.sent ++ batch_of n ls) is)
+              (s.sent ∙ ap (λ (ls : List EnvelopeValue). old.sent ++ batch_of n ls) is)
               ∙ at_end old.sent (datagram_of n first) _ in
               ap (λ (e : Datagram). e.bytes) (same_some d (datagram_of n first) same)
 
@@ -288,12 +288,13 @@ module _ (m : Meaning) (IsText : List ℕ → Type 0) (old new : Scene ReplicaVa
           (omega (arith, some)) sets) differs)
 
       pub something_told : slice_get new.sent (length old.sent) ≡ None → ⊥
-      something_told none = by_nodes did.1.0 letters (other_among did.1.0 did.1.1)
+      something_told none = by_nodes did.1.0 envelopes (other_among did.1.0 did.1.1)
         where
-          by_nodes : (ns : List ℕ) → s.out.letters ≡ map (letter_to (refreshed s.start) says) ns → Contains ns other → ⊥
+          by_nodes : (ns : List ℕ) → s.out.envelopes ≡ map (envelope_to (refreshed s.start) says) ns
+              → Contains ns other → ⊥
           by_nodes [] is there = omega (arith, there.1)
           by_nodes (k ∷ ks) is there = cc (sym none ∙ ap (λ (ds : List Datagram). slice_get ds (length old.sent))
-              (s.sent ∙ ap (λ (ls : List LetterValue). old.sent ++ batch_of n ls) is)
+              (s.sent ∙ ap (λ (ls : List EnvelopeValue). old.sent ++ batch_of n ls) is)
               ∙ at_end old.sent _ _)
 
       -- so it may tell again
@@ -318,8 +319,8 @@ module _ (m : Meaning) (IsText : List ℕ → Type 0) (old new : Scene ReplicaVa
       pub other_told : HasSentTo new n other (kinds.Nack (progress r.node))
       other_told = subst (λ (k : Nack). HasSentTo new n other (kinds.Nack k)) progress_is
           (sent_as old new n other s.start says header s.genesis
-          (subst (λ (l : LetterValue). Contains new.sent (datagram_of n l))
-          (refreshed_has (λ node. letter_to node says other ≡ letter_to s.start says other) s.start refl refl)
-          (among n s.out.letters old new s.sent (letter_to (refreshed s.start) says other)
-          (subst (λ (ls : List LetterValue). Contains ls (letter_to (refreshed s.start) says other)) (sym letters)
-          (map_has (letter_to (refreshed s.start) says) did.1.0 other (other_among did.1.0 did.1.1))))))
+          (subst (λ (l : EnvelopeValue). Contains new.sent (datagram_of n l))
+          (refreshed_has (λ node. envelope_to node says other ≡ envelope_to s.start says other) s.start refl refl)
+          (among n s.out.envelopes old new s.sent (envelope_to (refreshed s.start) says other)
+          (subst (λ (ls : List EnvelopeValue). Contains ls (envelope_to (refreshed s.start) says other)) (sym envelopes)
+          (map_has (envelope_to (refreshed s.start) says) did.1.0 other (other_among did.1.0 did.1.1))))))

@@ -16,7 +16,7 @@ use Rattle.lk_agreement_laws.proofs.Histories.{contains_more}
 use Rattle.lk_agreement_laws.specs.Datagrams.{Datagram}
 use Rattle.lk_state.specs.Meanings.{Meaning}
 use Rattle.lk_acceptor.specs.VoteLists.{votes_from}
-use Rattle.lk_node_interface.specs.Letters.{batch_of}
+use Rattle.lk_node_interface.specs.Envelopes.{batch_of}
 use Rattle.lk_node.proofs.Nodes.{map_has}
 use Rattle.lk_node.specs.Leavings.{header_of}
 use Rattle.lk_progress.specs.Electing.{promises}
@@ -35,7 +35,7 @@ use Rattle.lk_world_progress.specs.Stepping.{GoesWell, Holds, IsFound, IsUpAs}
 use Rattle.lk_world_leftovers.proofs.Promising.{Stands, stands_snapshot}
 use Rattle.lk_healing.proofs.Hands.{same_genesis, stay_on_their_way, stays_up}
 use Rattle.lk_healing.proofs.Places.{datagram_stays}
-use Rattle.lk_healing.proofs.Letters.{RepliesFirst, kept, promises_first, promising, reply_stands}
+use Rattle.lk_healing.proofs.Envelopes.{RepliesFirst, kept, promises_first, promising, reply_stands}
 use Rattle.lk_healing.specs.Halts.{AreOnTheirWay, MayBeTaken}
 use Rattle.lk_healing.specs.Polls.{HearsAt, StandAt, StandsAt}
 
@@ -52,7 +52,7 @@ module _ (m : Meaning) (IsText : List ℕ → Type 0) where
       let s : TakesFrom m IsText j x old new = heard_from m IsText j x old new h in (
         stands.0,
         subst (λ (ds : List Datagram). datagram_at ds p ≡ Some stands.0) (sym s.sent)
-            (datagram_stays old.sent (batch_of j s.out.letters) p stands.0 stands.1),
+            (datagram_stays old.sent (batch_of j s.out.envelopes) p stands.0 stands.1),
         stands.2,
         subst (λ (g : Genesis). Spells (record { cluster = g.cluster; content = y }) stands.0.bytes) (sym s.genesis)
             stands.3,

@@ -17,11 +17,11 @@ use Rattle.lk_state.specs.Meanings.{Meaning}
 use Rattle.lk_members.specs.Windows.{roster_after}
 use Rattle.lk_state.specs.States.{WholeValue, whole_after}
 use Rattle.lk_learner.specs.Learners.{executed, wanted}
-use Rattle.lk_node_interface.specs.Letters.{batch_of, datagram_of}
+use Rattle.lk_node_interface.specs.Envelopes.{batch_of, datagram_of}
 use Rattle.lk_node_interface.specs.Saying.{saying}
 use Rattle.lk_node.specs.Leavings.{header_of}
 use Rattle.lk_node.specs.NodeValue.{NodeValue}
-use Rattle.lk_node.specs.Telling.{letter_to}
+use Rattle.lk_node.specs.Telling.{envelope_to}
 use Rattle.lk_node_interface.specs.Outboxes.{OutboxValue}
 use Rattle.lk_progress.specs.Hearing.{Takes}
 use Rattle.lk_replica.specs.ReplicaValue.{ReplicaValue}
@@ -68,7 +68,7 @@ delivery_rests_but m IsText n b a x old new other h =
     let s : TakesFrom m IsText n x old new = heard_from m IsText n x old new h in
     let asks = hears_asks m IsText n x old new h in record {
       rests = λ k life not_b not_a c. s.others k life (other k not_b not_a) c;
-      sent = still old new (batch_of n s.out.letters) s.sent;
+      sent = still old new (batch_of n s.out.envelopes) s.sent;
       asked = asks.asked;
       genesis = s.genesis;
     }
@@ -152,14 +152,14 @@ module _ (m : Meaning) (IsText : List ℕ → Type 0) (b a : ℕ) (told : Progre
     header : r.node.header ≡ header_of old.genesis b
     header = has_header m IsText old k.own.holds b r k.own.up
 
-    there : datagram_at mid.sent (suc (length old.sent)) ≡ Some (datagram_of b (letter_to r.node want a))
+    there : datagram_at mid.sent (suc (length old.sent)) ≡ Some (datagram_of b (envelope_to r.node want a))
     there = ap (λ (ds : List Datagram). datagram_at ds (suc (length old.sent)))
-        (s.sent ∙ ap (λ (o : OutboxValue). old.sent ++ batch_of b o.letters) asked.comes_to)
-        ∙ at_end old.sent (datagram_of b (letter_to r.node want a)) []
+        (s.sent ∙ ap (λ (o : OutboxValue). old.sent ++ batch_of b o.envelopes) asked.comes_to)
+        ∙ at_end old.sent (datagram_of b (envelope_to r.node want a)) []
 
     stands : StandsAt mid a (suc (length old.sent)) (content.Node b want)
     stands = (
-      datagram_of b (letter_to r.node want a),
+      datagram_of b (envelope_to r.node want a),
       there,
       refl,
       subst (λ (g : Genesis). Spells (record { cluster = g.cluster; content = content.Node b want })
@@ -198,4 +198,4 @@ module _ (m : Meaning) (IsText : List ℕ → Type 0) (b a : ℕ) (told : Progre
 
     -- so the question can be delivered
     pub want_may_be_taken : MayBeTaken mid (suc (length old.sent))
-    want_may_be_taken = (datagram_of b (letter_to r.node want a), a, there, refl, is_up mid a q other_up)
+    want_may_be_taken = (datagram_of b (envelope_to r.node want a), a, there, refl, is_up mid a q other_up)

@@ -17,14 +17,14 @@ use Rattle.lk_learner.specs.Gathering.{heard, starts_text, with_next_any}
 use Rattle.lk_learner.specs.Installing.{HasWhole, Installs, hearing}
 use Rattle.lk_learner.specs.Learners.{GatheredValue, LearnerValue, decided_from, executed, wanted}
 use Rattle.lk_learner.specs.Parts.{part_of}
-use Rattle.lk_node_interface.specs.Outboxes.{OutboxValue, nothing, with_letter}
+use Rattle.lk_node_interface.specs.Outboxes.{OutboxValue, nothing, with_envelope}
 use Rattle.lk_node_interface.specs.Saying.{saying}
 use Rattle.lk_node.specs.CatchingUp.{AsksOn, ClosesGap, Feeds, FeedsParts, HandlesNack, HandlesWant}
 use Rattle.lk_node.specs.Installing.{HandlesPart}
 use Rattle.lk_node.specs.Leading.{ProposesAll}
 use Rattle.lk_node.specs.Learning.{with_learner}
 use Rattle.lk_node.specs.NodeValue.{NodeValue}
-use Rattle.lk_node.specs.Telling.{letter_to}
+use Rattle.lk_node.specs.Telling.{envelope_to}
 use Rattle.lk_node.specs.Yielding.{seeing, with_round, without_term}
 use Rattle.lk_progress.specs.Gathering.{HasSoFar}
 use Rattle.lk_progress.specs.Hearing.{Takes}
@@ -56,7 +56,7 @@ with_rounds k node = with_round k.promised (with_round k.ballot node)
 pub record AsksAlone (old new : NodeValue) (from : ℕ) (k : Nack) (out : OutboxValue) : Type 0 where
   pub becomes : new ≡ with_rounds k old
   pub fits : IsMessage (saying old.header (kinds.Want (wanted old.learner)))
-  pub comes_to : out ≡ with_letter (letter_to old (kinds.Want (wanted old.learner)) from) nothing
+  pub comes_to : out ≡ with_envelope (envelope_to old (kinds.Want (wanted old.learner)) from) nothing
 
 pub nack_asks : (m : Meaning) (IsText : List ℕ → Type 0) (old new : NodeValue) (from : ℕ) (k : Nack)
     (out : OutboxValue) → old.leader.term ≡ None → executed old.learner < k.executed
@@ -141,7 +141,7 @@ want_feeds m IsText old new from want out idle takes =
 pub record SendsAlone (old new : NodeValue) (from first : ℕ) (out : OutboxValue) : Type 0 where
   pub same : new ≡ old
   pub fits : IsMessage (saying old.header (kinds.Decided (decided_from first old.learner)))
-  pub comes_to : out ≡ with_letter (letter_to old (kinds.Decided (decided_from first old.learner)) from) nothing
+  pub comes_to : out ≡ with_envelope (envelope_to old (kinds.Decided (decided_from first old.learner)) from) nothing
 
 pub want_sends : (m : Meaning) (IsText : List ℕ → Type 0) (old new : NodeValue) (from : ℕ) (want : WantValue)
     (out : OutboxValue) → old.leader.term ≡ None → old.learner.snapshot_position < want.first

@@ -22,7 +22,7 @@ use Rattle.lk_agreement_laws.specs.Datagrams.{Datagram}
 use Rattle.lk_agreement_laws.specs.declared.party.Party.TheVariants as party
 use Rattle.lk_state.specs.Meanings.{Meaning}
 use Rattle.lk_learner.specs.Learners.{executed}
-use Rattle.lk_node_interface.specs.Letters.{LetterValue}
+use Rattle.lk_node_interface.specs.Envelopes.{EnvelopeValue}
 use Rattle.lk_node_interface.specs.Outboxes.{OutboxValue}
 use Rattle.lk_node_interface.specs.declared.input.Input.{Input}
 use Rattle.lk_node_interface.specs.declared.input.Input.TheVariants.{Nudge, Datagram as Heard}
@@ -93,7 +93,7 @@ module _ (m : Meaning) (IsText : List ℕ → Type 0) where
     is_taken = g.takes
 
     abbrev taken : IsTaken m IsText ⊤ k.replica i g.replica g.notes
-        (λ (ls : List LetterValue). ls ≡ is_taken.letters)
+        (λ (ls : List EnvelopeValue). ls ≡ is_taken.envelopes)
     taken = is_taken.taken
 
     was : IsUpAs old n k.replica

@@ -10,7 +10,7 @@ use Rattle.lk_state.specs.Runs.{run_answer}
 use Rattle.lk_state.specs.declared.session.Session.{Session}
 use Rattle.lk_learner.specs.Learners.{Command, Pair}
 use Rattle.lk_node_interface.specs.KeptReplies.{session_by}
-use Rattle.lk_node_interface.specs.Letters.{LetterValue}
+use Rattle.lk_node_interface.specs.Envelopes.{EnvelopeValue}
 use Rattle.lk_node_interface.specs.Outboxes.{OutboxValue, nothing}
 use Rattle.lk_node.specs.Beginning.{greatest_round}
 use Rattle.lk_node.specs.DecidedPairs.{LearnsPairs, none_yet, one_more}
@@ -141,8 +141,9 @@ part_keeps m IsText old new from p out takes =
         record { acceptor = same.acceptor ∙ mid.acceptor; rounds = same.rounds ∙ mid.rounds }
 
 pub parts_keep : (m : Meaning) (IsText : List ℕ → Type 0) (from : ℕ) (parts : List PartValue) (old new : NodeValue)
-    (letters : List LetterValue) → TakesEach m IsText (parts_from from parts) old new letters → KeepsRounds old new
-parts_keep m IsText from [] old new letters takes = keeps_as old new takes.0
-parts_keep m IsText from (p ∷ parts) old new letters takes = keeps_then old takes.0 new
+    (envelopes : List EnvelopeValue) → TakesEach m IsText (parts_from from parts) old new envelopes
+    → KeepsRounds old new
+parts_keep m IsText from [] old new envelopes takes = keeps_as old new takes.0
+parts_keep m IsText from (p ∷ parts) old new envelopes takes = keeps_then old takes.0 new
     (part_keeps m IsText old takes.0 from p takes.1 takes.3)
     (parts_keep m IsText from parts takes.0 new takes.2 takes.4)

@@ -13,14 +13,14 @@ use Rattle.lk_messages.specs.declared.message.NodeMessage.{NodeMessage}
 use Rattle.lk_messages.specs.declared.message.NodeMessage.TheVariants as kinds
 use Rattle.lk_state.specs.Meanings.{Meaning}
 use Rattle.lk_learner.specs.Learners.{LearnerValue, decided_from, executed, wanted}
-use Rattle.lk_node_interface.specs.Letters.{batch_of, datagram_of}
+use Rattle.lk_node_interface.specs.Envelopes.{batch_of, datagram_of}
 use Rattle.lk_node_interface.specs.Outboxes.{OutboxValue}
 use Rattle.lk_node_interface.specs.Saying.{saying}
 use Rattle.lk_members.specs.Rosters.{is_member}
 use Rattle.lk_node.specs.Beginning.{greatest_round}
 use Rattle.lk_node.specs.Leavings.{header_of}
 use Rattle.lk_node.specs.NodeValue.{NodeValue}
-use Rattle.lk_node.specs.Telling.{letter_to}
+use Rattle.lk_node.specs.Telling.{envelope_to}
 use Rattle.lk_progress.specs.Feeding.{MayServe}
 use Rattle.lk_progress.specs.Hearing.{Takes}
 use Rattle.lk_replica.specs.ReplicaValue.{ReplicaValue}
@@ -87,7 +87,7 @@ module _ (m : Meaning) (IsText : List ℕ → Type 0) (b a : ℕ) (told : Progre
   pub own_up : IsUpAs served b asked.asking
   own_up = t.others b (Up asked.asking) k.apart asked.own.up
 
-  -- a message of it that fits is spelled by its letter
+  -- a message of it that fits is spelled by its envelope
   pub spelled : (x : NodeMessage) → IsMessage (saying q.node.header x)
       → Spells (record { cluster = served.genesis.cluster; content = content.Node a x })
       (spelling (saying q.node.header x))
@@ -181,9 +181,9 @@ module _ (m : Meaning) (IsText : List ℕ → Type 0) (b a : ℕ) (told : Progre
     answer = content.Node a (kinds.Decided commands) ∷ []
 
     pub stand : StandAt served b (places_from (length mid.sent) (length served.sent - length mid.sent)) answer
-    stand = all_stand served b (datagram_of a (letter_to q.node (kinds.Decided commands) b) ∷ []) mid.sent
+    stand = all_stand served b (datagram_of a (envelope_to q.node (kinds.Decided commands) b) ∷ []) mid.sent
         (content.Node a (kinds.Decided commands) ∷ [])
-        (t.sent ∙ ap (λ (o : OutboxValue). mid.sent ++ batch_of a o.letters) sent.comes_to)
+        (t.sent ∙ ap (λ (o : OutboxValue). mid.sent ++ batch_of a o.envelopes) sent.comes_to)
         (refl, spelled (kinds.Decided commands) sent.fits, tt)
 
     module _ (law : LaggingCandidateIsFed m IsText) (new : Scene ReplicaValue)

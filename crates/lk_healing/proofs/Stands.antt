@@ -46,7 +46,7 @@ use Rattle.lk_world_leftovers.proofs.Fixed.{nodes_know}
 use Rattle.lk_world_leftovers.specs.Persisting.{WaitsIn}
 use Rattle.lk_healing.proofs.Places.{place_in, same_some}
 use Rattle.lk_healing.proofs.Polls.{stands_later}
-use Rattle.lk_healing.proofs.Letters.{kept, promises_first, promising, rejects_greater, reply_stands}
+use Rattle.lk_healing.proofs.Envelopes.{kept, promises_first, promising, rejects_greater, reply_stands}
 use Rattle.lk_healing.specs.Contending.{MayStand}
 use Rattle.lk_healing.specs.Polls.{HearsAt, StandsAt}
 use Rattle.lk_healing.specs.Standing.{IsRejectionAt}

@@ -17,7 +17,7 @@ use Rattle.lk_agreement_laws.specs.Datagrams.{Datagram}
 use Rattle.lk_agreement_laws.specs.declared.party.Party.TheVariants as party
 use Rattle.lk_state.specs.Meanings.{Meaning}
 use Rattle.lk_learner.specs.Learners.{alpha, executed}
-use Rattle.lk_node_interface.specs.Letters.{LetterValue}
+use Rattle.lk_node_interface.specs.Envelopes.{EnvelopeValue}
 use Rattle.lk_node_interface.specs.declared.input.Input.{Input}
 use Rattle.lk_node_interface.specs.declared.input.Input.TheVariants.{Datagram as Heard}
 use Rattle.lk_node_interface.specs.declared.note.Note.{Note}
@@ -105,7 +105,7 @@ module _ (m : Meaning) (IsText : List ℕ → Type 0) (x from : ℕ) (v : Vote) 
     is_taken = g.takes
 
     taken : IsTaken m IsText ⊤ given.replica (Heard h.datagram.bytes) g.replica g.notes
-        (λ (ls : List LetterValue). ls ≡ is_taken.letters)
+        (λ (ls : List EnvelopeValue). ls ≡ is_taken.envelopes)
     taken = is_taken.taken
 
     was : IsUpAs old x given.replica

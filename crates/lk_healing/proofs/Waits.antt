@@ -14,7 +14,7 @@ use Rattle.lk_agreement_laws.specs.Datagrams.{Datagram}
 use Rattle.lk_members.specs.Ports.{AreAllAbove, is_named}
 use Rattle.lk_state.specs.Meanings.{Meaning}
 use Rattle.lk_learner.specs.Learners.{executed}
-use Rattle.lk_node_interface.specs.Letters.{LetterValue, batch_of, datagram_of}
+use Rattle.lk_node_interface.specs.Envelopes.{EnvelopeValue, batch_of, datagram_of}
 use Rattle.lk_node_interface.specs.Outboxes.{OutboxValue}
 use Rattle.lk_node_interface.specs.Saying.{saying}
 use Rattle.lk_node_interface.specs.Ticks.{is_enough}
@@ -23,7 +23,7 @@ use Rattle.lk_node.specs.Beginning.{BeginsBallot, beginning, greatest_round, nex
 use Rattle.lk_node.specs.Leavings.{header_of}
 use Rattle.lk_node.specs.NewBases.{with_snapshot}
 use Rattle.lk_node.specs.NodeValue.{NodeValue}
-use Rattle.lk_node.specs.Telling.{letter_to}
+use Rattle.lk_node.specs.Telling.{envelope_to}
 use Rattle.lk_node.specs.Waiting.{BeginsWhereDue, index_of, ticked}
 use Rattle.lk_progress.specs.Electing.{IsDue}
 use Rattle.lk_rebases.proofs.Rebases.{idle_begins}
@@ -138,9 +138,9 @@ module _ (m : Meaning) (IsText : List ℕ → Type 0) (n : ℕ) where
 
     module _ (begun : BeginsBallot (next_ballot (ticked s.start)) (ticked s.start) s.last s.out) where
       asks : IsMessage (saying s.start.header prepare)
-          × (s.out.letters ≡ map (letter_to (beginning b (ticked s.start)) prepare) begun.nodes)
+          × (s.out.envelopes ≡ map (envelope_to (beginning b (ticked s.start)) prepare) begun.nodes)
       asks = elim begun.asks [
-        | inl told ↦ (told.0, ap (λ (o : OutboxValue). o.letters) told.1)
+        | inl told ↦ (told.0, ap (λ (o : OutboxValue). o.envelopes) told.1)
         | inr none ↦ absurd (omega (arith, none.0, position))
       ]
 
@@ -152,27 +152,27 @@ module _ (m : Meaning) (IsText : List ℕ → Type 0) (n : ℕ) where
       grows : slice_get new.sent (length old.sent) ≡ None → ⊥
       grows none = by_nodes begun.nodes asks.1 named_there
         where
-          by_nodes : (ns : List ℕ) → s.out.letters ≡ map (letter_to (beginning b (ticked s.start)) prepare) ns
+          by_nodes : (ns : List ℕ) → s.out.envelopes ≡ map (envelope_to (beginning b (ticked s.start)) prepare) ns
               → Contains ns n → ⊥
-          by_nodes [] letters there = omega (arith, there.1)
-          by_nodes (k ∷ ks) letters there = cc (sym none
+          by_nodes [] envelopes there = omega (arith, there.1)
+          by_nodes (k ∷ ks) envelopes there = cc (sym none
               ∙ ap (λ (ds : List Datagram). slice_get ds (length old.sent))
-              (s.sent ∙ ap (λ (ls : List LetterValue). old.sent ++ batch_of n ls) letters)
+              (s.sent ∙ ap (λ (ls : List EnvelopeValue). old.sent ++ batch_of n ls) envelopes)
               ∙ at_end old.sent _ _)
 
       is_prepare : (d : Datagram) → slice_get new.sent (length old.sent) ≡ Some d
           → d.bytes ≡ spelling (saying s.start.header prepare)
       is_prepare d at = by_nodes begun.nodes asks.1
         where
-          by_nodes : (ns : List ℕ) → s.out.letters ≡ map (letter_to (beginning b (ticked s.start)) prepare) ns
+          by_nodes : (ns : List ℕ) → s.out.envelopes ≡ map (envelope_to (beginning b (ticked s.start)) prepare) ns
               → d.bytes ≡ spelling (saying s.start.header prepare)
-          by_nodes [] letters = absurd (cc (sym at ∙ ap (λ (ds : List Datagram). slice_get ds (length old.sent))
-              (s.sent ∙ ap (λ (ls : List LetterValue). old.sent ++ batch_of n ls) letters) ∙ none_at_end old.sent))
-          by_nodes (k ∷ ks) letters =
-              let first : LetterValue = letter_to (beginning b (ticked s.start)) prepare k in
+          by_nodes [] envelopes = absurd (cc (sym at ∙ ap (λ (ds : List Datagram). slice_get ds (length old.sent))
+              (s.sent ∙ ap (λ (ls : List EnvelopeValue). old.sent ++ batch_of n ls) envelopes) ∙ none_at_end old.sent))
+          by_nodes (k ∷ ks) envelopes =
+              let first : EnvelopeValue = envelope_to (beginning b (ticked s.start)) prepare k in
               let is : Some d ≡ Some (datagram_of n first) = sym at
               ∙ ap (λ (ds : List Datagram). slice_get ds (length old.sent))
-              (s.sent ∙ ap (λ (ls : List LetterValue). old.sent ++ batch_of n ls) letters)
+              (s.sent ∙ ap (λ (ls : List EnvelopeValue). old.sent ++ batch_of n ls) envelopes)
               ∙ at_end old.sent (datagram_of n first) _ in
               ap (λ (e : Datagram). e.bytes) (same_some d (datagram_of n first) is)
 
@@ -194,7 +194,7 @@ module _ (m : Meaning) (IsText : List ℕ → Type 0) (n : ℕ) where
       begun_one = elim begins [
         | inl begun ↦ begun.1
         | inr rests ↦ absurd (cc (sym at ∙ ap (λ (ds : List Datagram). slice_get ds (length old.sent))
-            (s.sent ∙ ap (λ (o : OutboxValue). old.sent ++ batch_of n o.letters) rests.2) ∙ none_at_end old.sent))
+            (s.sent ∙ ap (λ (o : OutboxValue). old.sent ++ batch_of n o.envelopes) rests.2) ∙ none_at_end old.sent))
       ]
 
       pub prepare_there : IsPrepare d

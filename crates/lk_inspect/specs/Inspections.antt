@@ -17,8 +17,8 @@ use Rattle.lk_locks.specs.Meaning.{table_meaning}
 use Rattle.lk_locks.specs.Packed.{IsTableText}
 use Rattle.lk_inspect.specs.declared.inspection.Inspection.{Inspection}
 
--- the length of the list, the members of the next positions, the names of its plain table with their slots, and how
--- many clients have had a request executed
+-- the length of the list, the members of the next positions, the names of its plain table with their lock entries, and
+-- how many clients have had a request executed
 pub record DescribesList (genesis : Genesis) (L : List Command) (i : Inspection) : Type 0 where
   pub executed : i.executed ≡ length L
   pub members : i.window ≡ sets_from genesis L (length L + 1) genesis.alpha

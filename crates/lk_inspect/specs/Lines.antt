@@ -7,8 +7,8 @@ use Rattle.std.specs.Fmt.{decimal}
 use Rattle.lk_types.specs.Limits.{max_client, max_names}
 use Rattle.lk_types.specs.declared.member.Member.{Member}
 use Rattle.lk_locks.specs.Packed.{Entry}
-use Rattle.lk_locks.specs.declared.slot.Holders.{Holders}
-use Rattle.lk_locks.specs.declared.slot.Holders.TheVariants.{Nobody, Alone, Together}
+use Rattle.lk_locks.specs.declared.lock_entry.Holders.{Holders}
+use Rattle.lk_locks.specs.declared.lock_entry.Holders.TheVariants.{Nobody, ExclusiveHold, SharedHold}
 use Rattle.lk_inspect.specs.declared.inspection.Inspection.{Inspection}
 use Rattle.lk_inspect.specs.declared.lines.Listing.{Listing}
 use Rattle.lk_inspect.specs.declared.lines.Listing.TheVariants as listing
@@ -64,8 +64,8 @@ sharer_lines name fence clients = flat_map (λ client. holder_line name client f
 -- the lines of a name by who holds it
 abbrev pub holders_lines : Listing → List ℕ → ℕ → Holders → List ℕ
 holders_lines which name fence Nobody = free_lines which name fence
-holders_lines which name fence (Alone client) = holder_line name client fence
-holders_lines which name fence (Together clients) = sharer_lines name fence clients
+holders_lines which name fence (ExclusiveHold client) = holder_line name client fence
+holders_lines which name fence (SharedHold clients) = sharer_lines name fence clients
 
 abbrev pub name_lines : Listing → Entry → List ℕ
 name_lines which e = holders_lines which e.0 e.1.fence e.1.holders

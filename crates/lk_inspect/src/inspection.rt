@@ -13,7 +13,7 @@ ghost use Rattle.lk_locks.specs.Packed.{IsTableText};
 ghost use Rattle.lk_inspect.specs.Inspections.{PacksNoState, DescribesList};
 
 use crate::state::state_of;
-use lk_locks::{Name, Slot};
+use lk_locks::{LockEntry, Name};
 use lk_members::Window;
 use lk_program_fault::ProgramFault;
 use lk_store_format::Standing;
@@ -27,8 +27,8 @@ pub struct Inspection {
     pub executed: Executed,
     /// The members of the next positions.
     pub window: Window,
-    /// The names of the table, rising, each with its slot.
-    pub names: Vec<(Name, Slot)>,
+    /// The names of the table, rising, each with its lock entry.
+    pub names: Vec<(Name, LockEntry)>,
     /// How many clients have had a request executed.
     pub clients: usize,
 }

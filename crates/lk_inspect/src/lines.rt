@@ -7,7 +7,7 @@ ghost use Rattle.lk_inspect.specs.Lines.{sharer_lines, free_line, free_lines, na
 ghost use Rattle.lk_inspect.specs.Lines.{counts_lines, executed_line, inspection_text};
 
 use crate::inspection::Inspection;
-use lk_locks::{Holders, Name, Slot};
+use lk_locks::{Holders, LockEntry, Name};
 use lk_members::{Window, WindowSet};
 use lk_types::limits::{MAX_CLIENT, MAX_NAMES};
 use lk_types::{ClientNo, Executed, Fence, Members};
@@ -150,24 +150,38 @@ fn write_free<W: Write>(listing: Listing, name: &Name, fence: Fence, out: &mut W
 }
 
 // Writes the lines of a name: one for each client that holds it, and if all names are listed, one for a free name.
-fn write_name<W: Write>(listing: Listing, name: &Name, slot: &Slot, out: &mut W) -> io::Result<()>
+fn write_name<W: Write>(
+    listing: Listing,
+    name: &Name,
+    lock_entry: &LockEntry,
+    out: &mut W,
+) -> io::Result<()>
     ensures { OnOk result (Appends (W.contents out.old) (W.contents out.new)
-        (name_lines listing (name.now, slot.now))) }
+        (name_lines listing (name.now, lock_entry.now))) }
 {
-    match &slot.holders {
-        Holders::Nobody => write_free(listing, name, slot.fence, out)?,
-        Holders::Alone(client) => write_holder(name, *client, slot.fence, out)?,
-        Holders::Together(clients) => write_sharers(name, clients.as_slice(), slot.fence, out)?,
+    match &lock_entry.holders {
+        Holders::Nobody => write_free(listing, name, lock_entry.fence, out)?,
+        Holders::ExclusiveHold(client) => write_holder(name, *client, lock_entry.fence, out)?,
+        Holders::SharedHold(clients) => write_sharers(
+            name,
+            clients.as_slice(),
+            lock_entry.fence,
+            out,
+        )?,
     }
     Ok(())
 }
 
 // Writes the lines of these names.
-fn write_names<W: Write>(listing: Listing, names: &[(Name, Slot)], out: &mut W) -> io::Result<()>
+fn write_names<W: Write>(
+    listing: Listing,
+    names: &[(Name, LockEntry)],
+    out: &mut W,
+) -> io::Result<()>
     ensures { OnOk result (Appends (W.contents out.old) (W.contents out.new) (names_lines listing names.now)) }
 {
-    'all: for (name, slot) in names {
-        write_name(listing, name, slot, out)?;
+    'all: for (name, lock_entry) in names {
+        write_name(listing, name, lock_entry, out)?;
     }
     Ok(())
 }

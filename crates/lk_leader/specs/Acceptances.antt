@@ -14,8 +14,8 @@ abbrev pub members_among : List Member → List ℕ → List ℕ
 members_among set nodes = map (λ m. m.node) (filter (λ m. list_any (λ n. n == m.node) nodes) set)
 
 -- the members of the set that have not been heard to accept, in rising order
-abbrev pub unheard : List Member → List ℕ → List ℕ
-unheard set accepted = filter (λ k. not (list_any (λ n. n == k) accepted)) (nodes_of set)
+abbrev pub yet_to_accept : List Member → List ℕ → List ℕ
+yet_to_accept set accepted = filter (λ k. not (list_any (λ n. n == k) accepted)) (nodes_of set)
 
 -- a majority of the members has accepted it since it was proposed
 abbrev pub HasMajority : List Member → ProposalValue → Type 0

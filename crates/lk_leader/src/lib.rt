@@ -1,6 +1,6 @@
 //! The leader's part of a node: which command its ballot proposes at which position, when a position is decided, and
-//! which requests wait. It has no access to a disk, a socket or bytes, and only `ask`, `promise` and `unheard` take
-//! memory.
+//! which requests wait. It has no access to a disk, a socket or bytes, and only `ask`, `promise` and `yet_to_accept`
+//! take memory.
 #![tactic(auto)]
 
 pub mod laws;
@@ -12,4 +12,4 @@ mod term;
 mod waiting;
 
 pub use leader::{Leader, Open};
-pub use proposal::unheard;
+pub use proposal::yet_to_accept;

@@ -1,6 +1,6 @@
 ghost use Rattle.std.specs.Prelude.{◌≡◌, false, ◌≤◌, ◌==◌, ◌+◌, ◌<◌, ◌&&◌, nat_lt, nat_le, length, ◌↔◌, [], IsTrue};
 ghost use Rattle.std.specs.Prelude.{IfOk};
-ghost use Rattle.lk_leader.specs.Acceptances.{members_among, unheard, HasMajority, heard, GainsMajority};
+ghost use Rattle.lk_leader.specs.Acceptances.{members_among, yet_to_accept, HasMajority, heard, GainsMajority};
 
 use arrayvec::ArrayVec;
 use lk_members::{Roster, is_among, is_majority, nodes_of};
@@ -90,8 +90,12 @@ impl Proposal {
 }
 
 /// Returns the members of the set that are not among `accepted`, in rising order.
-pub fn unheard(alloc: Global, set: &Members, accepted: &[NodeNo]) -> Result<Vec<NodeNo>, NoMemory>
-    ensures { IfOk result (λ ns. ns.items ≡ unheard set.now accepted.now) }
+pub fn yet_to_accept(
+    alloc: Global,
+    set: &Members,
+    accepted: &[NodeNo],
+) -> Result<Vec<NodeNo>, NoMemory>
+    ensures { IfOk result (λ ns. ns.items ≡ yet_to_accept set.now accepted.now) }
 {
     let mut nodes = nodes_of(alloc, set)?;
     nodes.retain(|node| !is_among(accepted, *node));

@@ -21,7 +21,7 @@ use Rattle.lk_leader.specs.Proposing.{AreMembersAt, IsElected, Leads, proposed, 
 use Rattle.lk_leader.specs.Terms.{ProposalValue, ReceivedPromise, TermValue, in_window, with_received}
 use Rattle.lk_leader.specs.Values.{has_vote_from, is_changing_at}
 use Rattle.lk_learner.specs.Learners.{LearnerValue, Pair, IsNext, alpha, executed}
-use Rattle.lk_node_interface.specs.Letters.{LetterValue}
+use Rattle.lk_node_interface.specs.Envelopes.{EnvelopeValue}
 use Rattle.lk_node_interface.specs.Outboxes.{OutboxValue}
 use Rattle.lk_node.specs.Leading.{DropsPromise, NothingToPropose, ProposesAll, ProposesVote, RecordsPromise}
 use Rattle.lk_node.specs.Leading.{having_proposed, received_from}
@@ -89,7 +89,7 @@ module _ (b : BallotValue) (l : LearnerValue) (whose : HeaderValue)
           ⊎ Contains (made ∷ []) q → IsLeftover p.term.received q
       by_part q (inl before) = k.leftovers p.term p.current q (filter_from _ p.term.proposals q before)
       by_part q (inr last) = subst (IsLeftover p.term.received) (only made q last)
-          (record { reported = value.0; keeps = value.1; unheard = refl })
+          (record { reported = value.0; keeps = value.1; yet_to_accept = refl })
 
   proposed_collects : (xs : List Vote) (old new : NodeValue) (before out : OutboxValue)
       → ProposesAll xs old new before out → Collects b l whose old → Collects b l whose new × NothingToPropose new
@@ -116,7 +116,7 @@ module _ (b : BallotValue) (l : LearnerValue) (whose : HeaderValue)
           record {
             reported = has_more q.position records.0.received (received_from from p ∷ []) left.reported;
             keeps = left.keeps;
-            unheard = left.unheard;
+            yet_to_accept = left.yet_to_accept;
           });
     })
       where
@@ -149,23 +149,23 @@ module _ (b : BallotValue) (l : LearnerValue) (whose : HeaderValue)
         by_bytes (inr foreign) = absurd (foreign.0 message h.spells refl)
 
   all_collect : (m : Meaning) (IsText : List ℕ → Type 0) (heard : List (ℕ × PromiseValue)) (old new : NodeValue)
-      (letters : List LetterValue)
+      (envelopes : List EnvelopeValue)
       → ((h : ℕ × PromiseValue) → Contains heard h → (v : Vote) → Contains h.1.votes v → KeepsMembers v.command)
-      → TakesEach m IsText (promises heard) old new letters → Collects b l whose old × NothingToPropose old
+      → TakesEach m IsText (promises heard) old new envelopes → Collects b l whose old × NothingToPropose old
       → Collects b l whose new × NothingToPropose new
-  all_collect m IsText [] old new letters keeps takes k =
+  all_collect m IsText [] old new envelopes keeps takes k =
       subst (λ (node : NodeValue). Collects b l whose node × NothingToPropose node) (sym takes.0) k
-  all_collect m IsText (h ∷ heard) old new letters keeps takes k =
+  all_collect m IsText (h ∷ heard) old new envelopes keeps takes k =
       all_collect m IsText heard takes.0 new takes.2 (λ g c. keeps g (contains_more h heard g c)) takes.4
       (one_collects h.0 h.1 (keeps h (0, omega arith, refl)) m IsText old takes.0 takes.1 takes.3 k.0)
 
 -- ---- with those of a majority
 
 module _ (m : Meaning) (IsText : List ℕ → Type 0) (law : PromisedNodeLeads m IsText) (old new : NodeValue)
-    (t : TermValue) (set : List Member) (heard : List (ℕ × PromiseValue)) (letters : List LetterValue)
+    (t : TermValue) (set : List Member) (heard : List (ℕ × PromiseValue)) (envelopes : List EnvelopeValue)
     (begun : HasBegun old t set) (nothing_open : NothingToPropose old) (may : MayBeHeard old t heard)
     (major : IsMajority (map (λ (h : ℕ × PromiseValue). h.0) heard) set)
-    (takes : TakesEach m IsText (promises heard) old new letters) where
+    (takes : TakesEach m IsText (promises heard) old new envelopes) where
   begins : Collects t.ballot old.learner old.header old
   begins = record {
     learner = refl;
@@ -188,11 +188,12 @@ module _ (m : Meaning) (IsText : List ℕ → Type 0) (law : PromisedNodeLeads m
       nothing p c = omega (arith, c.1)
 
   collected : Collects t.ballot old.learner old.header new × NothingToPropose new
-  collected = all_collect t.ballot old.learner old.header begun.unchanged m IsText heard old new letters may.keeps takes
+  collected = all_collect t.ballot old.learner old.header begun.unchanged m IsText heard old new envelopes
+      may.keeps takes
       (begins, nothing_open)
 
   leads : Leads new.leader new.learner.whole.roster
-  leads = law old new t set heard letters begun.current begun.members begun.room may.usable major takes
+  leads = law old new t set heard envelopes begun.current begun.members begun.room may.usable major takes
 
   on : (P : LearnerValue → Type 0) → P old.learner → P new.learner
   on P h = subst P (sym collected.0.learner) h
@@ -235,5 +236,5 @@ module _ (m : Meaning) (IsText : List ℕ → Type 0) (law : PromisedNodeLeads m
 
 pub promised_fills : (m : Meaning) (IsText : List ℕ → Type 0) → PromisedNodeLeads m IsText
     → PromisedCandidateFills m IsText
-promised_fills m IsText law old new t set heard letters begun none may major takes =
-    leads_to_fill m IsText law old new t set heard letters begun none may major takes
+promised_fills m IsText law old new t set heard envelopes begun none may major takes =
+    leads_to_fill m IsText law old new t set heard envelopes begun none may major takes

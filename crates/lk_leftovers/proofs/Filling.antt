@@ -13,7 +13,7 @@ use Rattle.lk_leader.specs.Acceptances.{members_among}
 use Rattle.lk_leader.specs.Terms.{ProposalValue, ReceivedPromise, TermValue, proposal_at}
 use Rattle.lk_leader.specs.Values.{has_vote_from, is_changing_at}
 use Rattle.lk_learner.specs.Learners.{executed}
-use Rattle.lk_node_interface.specs.Letters.{LetterValue}
+use Rattle.lk_node_interface.specs.Envelopes.{EnvelopeValue}
 use Rattle.lk_node.specs.Leading.{NothingToPropose}
 use Rattle.lk_node.specs.NodeValue.{NodeValue}
 use Rattle.lk_progress.specs.Deciding.{HasProposed, acceptances, vote_for_next}
@@ -71,7 +71,7 @@ module _ (m : Meaning) (IsText : List ℕ → Type 0) (node : NodeValue) (t : Te
     proposed = λ u is p c above.
         let left : IsLeftover t.received p = f.proposed p
         (subst (λ (x : TermValue). Contains x.proposals p) (sym (same_term u is)) c) above in
-        record { reported = left.reported; keeps = left.keeps; unheard = inr left.unheard };
+        record { reported = left.reported; keeps = left.keeps; yet_to_accept = inr left.yet_to_accept };
     waiting = f.waiting;
     unchanged = f.unchanged;
     some = (let lt = slice_get_within node.learner.whole.roster.sets (next - (executed node.learner + 1)) set
@@ -94,19 +94,19 @@ module _ (m : Meaning) (IsText : List ℕ → Type 0) (node : NodeValue) (t : Te
       proposal = at ∙ (λ i. Some (record {
         position = in_list.1 i;
         command = p.command;
-        accepted = leftover.unheard i;
+        accepted = leftover.yet_to_accept i;
       }));
       few = none_few set;
       known = f.leads.known;
     }
 
-    module _ (new : NodeValue) (voters : List ℕ) (letters : List LetterValue) (major : IsMajority voters set)
-        (takes : TakesEach m IsText (acceptances voters (vote_for_next node t p.command)) node new letters) where
+    module _ (new : NodeValue) (voters : List ℕ) (envelopes : List EnvelopeValue) (major : IsMajority voters set)
+        (takes : TakesEach m IsText (acceptances voters (vote_for_next node t p.command)) node new envelopes) where
       led : LeadsOn node t set new
-      led = leads node new t set p.command [] voters letters f.leads leftover.keeps has major takes
+      led = leads node new t set p.command [] voters envelopes f.leads leftover.keeps has major takes
 
       walk : Walks t.received next new × NothingToPropose new
-      walk = all_walk t.received next f.reports m IsText (vote_for_next node t p.command) voters node new letters refl
+      walk = all_walk t.received next f.reports m IsText (vote_for_next node t p.command) voters node new envelopes refl
           leftover.keeps takes (begins, f.all)
 
       still : (u : TermValue) → new.leader.term ≡ Some u → (q : ProposalValue) → Contains u.proposals q
@@ -116,7 +116,11 @@ module _ (m : Meaning) (IsText : List ℕ → Type 0) (node : NodeValue) (t : Te
           record {
             reported = k.reported;
             keeps = k.keeps;
-            unheard = elim k.unheard [ inl here ↦ absurd (omega (arith, here, above, led.moves)) | inr none ↦ none ];
+            yet_to_accept = elim k.yet_to_accept [
+              | inl here ↦ absurd (omega (arith, here, above, led.moves))
+              | inr
+                  none ↦ none
+            ];
           }
 
       fills : FillsOn node t set new
@@ -149,8 +153,8 @@ fills_on proposes m IsText leads node t set f reported =
     record {
       proposal = p.0;
       there = p.1;
-      goes_on = λ new voters letters major takes.
-          fills m IsText node t set f leads p.0 p.1 new voters letters major takes;
+      goes_on = λ new voters envelopes major takes.
+          fills m IsText node t set f leads p.0 p.1 new voters envelopes major takes;
     }
 
 -- ---- the end

@@ -26,7 +26,7 @@ use Rattle.lk_leader.specs.Terms.{ProposalValue, ReceivedPromise, TermValue, in_
 use Rattle.lk_learner.proofs.Learnerships.{ran_moves, with_only, without_from}
 use Rattle.lk_learner.specs.Learners.{LearnerValue, Pair, advanced, alpha, executed}
 use Rattle.lk_node_interface.specs.KeptReplies.{session_by}
-use Rattle.lk_node_interface.specs.Letters.{LetterValue}
+use Rattle.lk_node_interface.specs.Envelopes.{EnvelopeValue}
 use Rattle.lk_node_interface.specs.Outboxes.{OutboxValue}
 use Rattle.lk_node.proofs.Nodes.{map_has}
 use Rattle.lk_node.specs.Deciding.{HandlesAccepted, IsForProposal, with_vote}
@@ -36,9 +36,9 @@ use Rattle.lk_node.specs.Leading.{DropsPromise, ProposesAll, ProposesVote, Recor
 use Rattle.lk_node.specs.Leading.{received_from}
 use Rattle.lk_node.specs.Learning.{Learns, with_learner}
 use Rattle.lk_node.specs.NodeValue.{NodeValue}
-use Rattle.lk_node.specs.Telling.{letter_to}
+use Rattle.lk_node.specs.Telling.{envelope_to}
 use Rattle.lk_node.specs.Yielding.{without_term}
-use Rattle.lk_progress.proofs.Hearing.{Handled, handled, proposed_learner, proposed_letters}
+use Rattle.lk_progress.proofs.Hearing.{Handled, handled, proposed_learner, proposed_envelopes}
 use Rattle.lk_progress.proofs.LeadingOn.{Keeps, one_keeps}
 use Rattle.lk_progress.specs.Deciding.{acceptances}
 use Rattle.lk_progress.specs.Electing.{promises}
@@ -46,11 +46,11 @@ use Rattle.lk_progress.specs.Hearing.{Hears, TakesEach}
 use Rattle.lk_progress.specs.LeadingOn.{AreAll, KeepsMembers}
 use Rattle.lk_leftovers.proofs.Walking.{heard_was}
 
--- a node of this header sends that node this in one of these letters
-pub record Tells (whose : HeaderValue) (letters : List LetterValue) (y : NodeMessage) (n : ℕ) : Type 0 where
+-- a node of this header sends that node this in one of these envelopes
+pub record Tells (whose : HeaderValue) (envelopes : List EnvelopeValue) (y : NodeMessage) (n : ℕ) : Type 0 where
   pub node : NodeValue
   pub header : node.header ≡ whose
-  pub told : Contains letters (letter_to node y n)
+  pub told : Contains envelopes (envelope_to node y n)
 
 abbrev pub vote_in : BallotValue → ProposalValue → Vote
 vote_in b p = record { position = p.position; ballot = b; command = p.command }
@@ -83,7 +83,7 @@ set_is sets set s k all at =
 -- ---- what is proposed is offered
 
 module _ (b : BallotValue) (whose : HeaderValue) (a : AcceptorValue) (F G : Vote → Type 0) (set : List Member)
-    (all : List LetterValue)
+    (all : List EnvelopeValue)
     (told : (x : Vote) → ((n : ℕ) → Contains (nodes_of set) n → Tells whose all (kinds.Accept x) n) → F x) where
   vote_offers : (old : NodeValue) (x : Vote) (p : ProposesVote old x) → F x → Offers b whose a F G old
       → Offers b whose a F G (having_proposed old x p)
@@ -121,7 +121,7 @@ module _ (b : BallotValue) (whose : HeaderValue) (a : AcceptorValue) (F G : Vote
 
   proposed_offers : (xs : List Vote) (old new : NodeValue) (before out : OutboxValue)
       → ProposesAll xs old new before out → AreAll old.learner.whole.roster.sets set
-      → ((l : LetterValue) → Contains out.letters l → Contains all l) → Offers b whose a F G old
+      → ((l : EnvelopeValue) → Contains out.envelopes l → Contains all l) → Offers b whose a F G old
       → Offers b whose a F G new
   proposed_offers [] old new before out p fixed more k = subst (Offers b whose a F G) (sym p.1) k
   proposed_offers (x ∷ xs) old new before out p fixed more k =
@@ -129,11 +129,11 @@ module _ (b : BallotValue) (whose : HeaderValue) (a : AcceptorValue) (F G : Vote
       (vote_offers old x p.0 (told x (λ n c. record {
         node = old;
         header = k.header;
-        told = more (letter_to old (kinds.Accept x) n) (proposed_letters xs (having_proposed old x p.0) new _ out
-            (letter_to old (kinds.Accept x) n) p.1
-            (Contains-append_right before.letters (map (letter_to old (kinds.Accept x)) (nodes_of p.0.proposes.set))
-            (letter_to old (kinds.Accept x) n)
-            (map_has (letter_to old (kinds.Accept x)) (nodes_of p.0.proposes.set) n
+        told = more (envelope_to old (kinds.Accept x) n) (proposed_envelopes xs (having_proposed old x p.0) new _ out
+            (envelope_to old (kinds.Accept x) n) p.1
+            (Contains-append_right before.envelopes (map (envelope_to old (kinds.Accept x)) (nodes_of p.0.proposes.set))
+            (envelope_to old (kinds.Accept x) n)
+            (map_has (envelope_to old (kinds.Accept x)) (nodes_of p.0.proposes.set) n
             (subst (λ (s : List Member). Contains (nodes_of s) n) (sym same) c))));
       })) k)
     where
@@ -171,7 +171,7 @@ module _ (b : BallotValue) (whose : HeaderValue) (a : AcceptorValue) (F G : Vote
     one_promise : (from : ℕ) (p : PromiseValue) (old new : NodeValue) (out : OutboxValue)
         → ((v : Vote) → Contains p.votes v → G v) → Hears m IsText old from (kinds.Promise p) new out
         → AreAll old.learner.whole.roster.sets set
-        → ((l : LetterValue) → Contains out.letters l → Contains all l)
+        → ((l : EnvelopeValue) → Contains out.envelopes l → Contains all l)
         → Offers b whose a F G old → Offers b whose a F G new × (new.learner ≡ old.learner)
     one_promise from p old new out good takes fixed more k =
         by_handled (handled m IsText old (content.Node from (kinds.Promise p)) new out takes)
@@ -189,20 +189,20 @@ module _ (b : BallotValue) (whose : HeaderValue) (a : AcceptorValue) (F G : Vote
               proposed_learner h.proposes.0 h.mid new h.first out h.proposes.1 ∙ learner,
             )
 
-    pub promises_offer : (heard : List (ℕ × PromiseValue)) (old new : NodeValue) (letters : List LetterValue)
+    pub promises_offer : (heard : List (ℕ × PromiseValue)) (old new : NodeValue) (envelopes : List EnvelopeValue)
         → ((h : ℕ × PromiseValue) → Contains heard h → (v : Vote) → Contains h.1.votes v → G v)
-        → TakesEach m IsText (promises heard) old new letters → AreAll old.learner.whole.roster.sets set
-        → ((l : LetterValue) → Contains letters l → Contains all l)
+        → TakesEach m IsText (promises heard) old new envelopes → AreAll old.learner.whole.roster.sets set
+        → ((l : EnvelopeValue) → Contains envelopes l → Contains all l)
         → Offers b whose a F G old → Offers b whose a F G new
-    promises_offer [] old new letters good takes fixed more k = subst (Offers b whose a F G) (sym takes.0) k
-    promises_offer (h ∷ heard) old new letters good takes fixed more k =
-        let first : (l : LetterValue) → Contains (takes.1.letters ++ takes.2) l → Contains all l =
-        subst (λ (ls : List LetterValue). (l : LetterValue) → Contains ls l → Contains all l) takes.5 more in
+    promises_offer [] old new envelopes good takes fixed more k = subst (Offers b whose a F G) (sym takes.0) k
+    promises_offer (h ∷ heard) old new envelopes good takes fixed more k =
+        let first : (l : EnvelopeValue) → Contains (takes.1.envelopes ++ takes.2) l → Contains all l =
+        subst (λ (ls : List EnvelopeValue). (l : EnvelopeValue) → Contains ls l → Contains all l) takes.5 more in
         let one = one_promise h.0 h.1 old takes.0 takes.1 (good h (0, omega arith, refl)) takes.3 fixed
-        (λ l c. first l (Contains-append_left takes.1.letters takes.2 l c)) k in
+        (λ l c. first l (Contains-append_left takes.1.envelopes takes.2 l c)) k in
         promises_offer heard takes.0 new takes.2 (λ g c. good g (contains_more h heard g c)) takes.4
         (subst (λ (l : LearnerValue). AreAll l.whole.roster.sets set) (sym one.1) fixed)
-        (λ l c. first l (Contains-append_right takes.1.letters takes.2 l c)) one.0
+        (λ l c. first l (Contains-append_right takes.1.envelopes takes.2 l c)) one.0
 
   -- ---- acceptances
 
@@ -350,7 +350,7 @@ module _ (width last : ℕ) (some : 1 ≤ width) where
 -- ---- all acceptances
 
 module _ (b : BallotValue) (whose : HeaderValue) (a : AcceptorValue) (F G : Vote → Type 0) (set : List Member)
-    (all : List LetterValue)
+    (all : List EnvelopeValue)
     (told : (x : Vote) → ((n : ℕ) → Contains (nodes_of set) n → Tells whose all (kinds.Accept x) n) → F x)
     (width last : ℕ) (some : 1 ≤ width) (received : List ReceivedPromise) (m : Meaning)
     (IsText : List ℕ → Type 0) (x : Vote) (low : x.position ≤ last) (plain : KeepsMembers x.command) where
@@ -361,7 +361,7 @@ module _ (b : BallotValue) (whose : HeaderValue) (a : AcceptorValue) (F G : Vote
 
   one_fares : (from : ℕ) (old new : NodeValue) (out : OutboxValue)
       → Hears m IsText old from (kinds.Accepted x) new out
-      → ((l : LetterValue) → Contains out.letters l → Contains all l) → Fares old → Fares new
+      → ((l : EnvelopeValue) → Contains out.envelopes l → Contains all l) → Fares old → Fares new
   one_fares from old new out takes more k =
       by_handled (handled m IsText old (content.Node from (kinds.Accepted x)) new out takes)
     where
@@ -381,13 +381,13 @@ module _ (b : BallotValue) (whose : HeaderValue) (a : AcceptorValue) (F G : Vote
             keeps = later;
           }
 
-  pub all_fare : (voters : List ℕ) (old new : NodeValue) (letters : List LetterValue)
-      → TakesEach m IsText (acceptances voters x) old new letters
-      → ((l : LetterValue) → Contains letters l → Contains all l) → Fares old → Fares new
-  all_fare [] old new letters takes more k = subst Fares (sym takes.0) k
-  all_fare (n ∷ voters) old new letters takes more k =
-      let first : (l : LetterValue) → Contains (takes.1.letters ++ takes.2) l → Contains all l =
-      subst (λ (ls : List LetterValue). (l : LetterValue) → Contains ls l → Contains all l) takes.5 more in
+  pub all_fare : (voters : List ℕ) (old new : NodeValue) (envelopes : List EnvelopeValue)
+      → TakesEach m IsText (acceptances voters x) old new envelopes
+      → ((l : EnvelopeValue) → Contains envelopes l → Contains all l) → Fares old → Fares new
+  all_fare [] old new envelopes takes more k = subst Fares (sym takes.0) k
+  all_fare (n ∷ voters) old new envelopes takes more k =
+      let first : (l : EnvelopeValue) → Contains (takes.1.envelopes ++ takes.2) l → Contains all l =
+      subst (λ (ls : List EnvelopeValue). (l : EnvelopeValue) → Contains ls l → Contains all l) takes.5 more in
       all_fare voters takes.0 new takes.2 takes.4
-      (λ l c. first l (Contains-append_right takes.1.letters takes.2 l c))
-      (one_fares n old takes.0 takes.1 takes.3 (λ l c. first l (Contains-append_left takes.1.letters takes.2 l c)) k)
+      (λ l c. first l (Contains-append_right takes.1.envelopes takes.2 l c))
+      (one_fares n old takes.0 takes.1 takes.3 (λ l c. first l (Contains-append_left takes.1.envelopes takes.2 l c)) k)

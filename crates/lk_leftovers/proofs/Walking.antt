@@ -26,7 +26,7 @@ use Rattle.lk_leader.specs.Waits.{left_by}
 use Rattle.lk_learner.proofs.Learnerships.{ran_moves, with_only, without_from}
 use Rattle.lk_learner.specs.Learners.{Pair, WholeValue, advanced, alpha, executed}
 use Rattle.lk_node_interface.specs.KeptReplies.{session_by}
-use Rattle.lk_node_interface.specs.Letters.{LetterValue}
+use Rattle.lk_node_interface.specs.Envelopes.{EnvelopeValue}
 use Rattle.lk_node_interface.specs.Outboxes.{OutboxValue}
 use Rattle.lk_node.specs.Deciding.{HandlesAccepted, IsForProposal, with_vote}
 use Rattle.lk_node.specs.Executing.{EndsWaitIfAny, Executes, Runs, stays, goes_on, is_outside, without_term_if_outside}
@@ -66,7 +66,7 @@ same_change m (Request r) w keeps = by_test (is_new (session_of r.client w.sessi
 pub record IsKept (qs : List ReceivedPromise) (i : ℕ) (p : ProposalValue) : Type 0 where
   pub reported : has_vote_from qs p.position ≡ true
   pub keeps : KeepsMembers p.command
-  pub unheard : (p.position ≡ i) ⊎ (p.accepted ≡ [])
+  pub yet_to_accept : (p.position ≡ i) ⊎ (p.accepted ≡ [])
 
 -- whatever its term, if any, is
 pub record Walks (qs : List ReceivedPromise) (i : ℕ) (node : NodeValue) : Type 0 where
@@ -131,9 +131,9 @@ module _ (qs : List ReceivedPromise) (i : ℕ) where
           record {
             reported = subst (λ (j : ℕ). has_vote_from qs j ≡ true) (sym h.2) q.reported;
             keeps = subst KeepsMembers (sym h.3) q.keeps;
-            unheard = elim h.4 [
+            yet_to_accept = elim h.4 [
               | inl at ↦ inl (h.2 ∙ at)
-              | inr same ↦ elim q.unheard [ inl at ↦ inl (h.2 ∙ at) | inr none ↦ inr (same ∙ none) ]
+              | inr same ↦ elim q.yet_to_accept [ inl at ↦ inl (h.2 ∙ at) | inr none ↦ inr (same ∙ none) ]
             ];
           }
 
@@ -290,7 +290,7 @@ module _ (qs : List ReceivedPromise) (i : ℕ) where
         by_part q (inl before) above =
             w.proposed p.term p.current q (filter_from _ p.term.proposals q before) above
         by_part q (inr last) above = subst (IsKept qs i) (only made q last)
-            (record { reported = value.0; keeps = value.1; unheard = inr refl })
+            (record { reported = value.0; keeps = value.1; yet_to_accept = inr refl })
 
     proposed_walks : (xs : List Vote) (old new : NodeValue) (before out : OutboxValue)
         → ProposesAll xs old new before out → Walks qs i old → Walks qs i new × NothingToPropose new
@@ -329,11 +329,11 @@ module _ (qs : List ReceivedPromise) (i : ℕ) where
         by_bytes (inr foreign) = absurd (foreign.0 message k.spells refl)
 
     pub all_walk : (m : Meaning) (IsText : List ℕ → Type 0) (x : Vote) (voters : List ℕ) (old new : NodeValue)
-        (letters : List LetterValue) → x.position ≡ i → KeepsMembers x.command
-        → TakesEach m IsText (acceptances voters x) old new letters → Walks qs i old × NothingToPropose old
+        (envelopes : List EnvelopeValue) → x.position ≡ i → KeepsMembers x.command
+        → TakesEach m IsText (acceptances voters x) old new envelopes → Walks qs i old × NothingToPropose old
         → Walks qs i new × NothingToPropose new
-    all_walk m IsText x [] old new letters here plain takes w =
+    all_walk m IsText x [] old new envelopes here plain takes w =
         subst (λ (node : NodeValue). Walks qs i node × NothingToPropose node) (sym takes.0) w
-    all_walk m IsText x (n ∷ voters) old new letters here plain takes w =
+    all_walk m IsText x (n ∷ voters) old new envelopes here plain takes w =
         all_walk m IsText x voters takes.0 new takes.2 here plain takes.4
         (one_walks m IsText n x old takes.0 takes.1 here plain takes.3 w.0)

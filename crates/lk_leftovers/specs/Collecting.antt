@@ -12,7 +12,7 @@ use Rattle.lk_leader.specs.Proposing.{AreMembersAt}
 use Rattle.lk_leader.specs.Terms.{TermValue}
 use Rattle.lk_leader.specs.Values.{is_changing_at}
 use Rattle.lk_learner.specs.Learners.{Pair, executed}
-use Rattle.lk_node_interface.specs.Letters.{LetterValue}
+use Rattle.lk_node_interface.specs.Envelopes.{EnvelopeValue}
 use Rattle.lk_node.specs.Executing.{NothingToRun}
 use Rattle.lk_node.specs.Leading.{NothingToPropose}
 use Rattle.lk_node.specs.NodeValue.{NodeValue}
@@ -50,6 +50,6 @@ pub record LeadsToFill (old : NodeValue) (t : TermValue) (set : List Member) (ne
 
 abbrev pub PromisedCandidateFills : Meaning → (List ℕ → Type 0) → Type 0
 PromisedCandidateFills m IsText = (old new : NodeValue) (t : TermValue) (set : List Member)
-    (heard : List (ℕ × PromiseValue)) (letters : List LetterValue) → HasBegun old t set → NothingToPropose old
+    (heard : List (ℕ × PromiseValue)) (envelopes : List EnvelopeValue) → HasBegun old t set → NothingToPropose old
     → MayBeHeard old t heard → IsMajority (map (λ h. h.0) heard) set
-    → TakesEach m IsText (promises heard) old new letters → LeadsToFill old t set new
+    → TakesEach m IsText (promises heard) old new envelopes → LeadsToFill old t set new

@@ -9,7 +9,7 @@ use Rattle.lk_state.specs.Meanings.{Meaning}
 use Rattle.lk_leader.specs.Terms.{ProposalValue, ReceivedPromise, TermValue, proposal_at}
 use Rattle.lk_leader.specs.Values.{has_vote_from, is_changing_at}
 use Rattle.lk_learner.specs.Learners.{executed}
-use Rattle.lk_node_interface.specs.Letters.{LetterValue}
+use Rattle.lk_node_interface.specs.Envelopes.{EnvelopeValue}
 use Rattle.lk_node.specs.Leading.{NothingToPropose}
 use Rattle.lk_node.specs.NodeValue.{NodeValue}
 use Rattle.lk_progress.specs.Deciding.{IsReady, acceptances, vote_for_next}
@@ -27,7 +27,7 @@ ReportNoChange qs =
 pub record IsLeftover (qs : List ReceivedPromise) (p : ProposalValue) : Type 0 where
   pub reported : has_vote_from qs p.position ≡ true
   pub keeps : KeepsMembers p.command
-  pub unheard : p.accepted ≡ []
+  pub yet_to_accept : p.accepted ≡ []
 
 -- The node leads in this term, its members do not change, nothing waits, and it has proposed all it can: what it has
 -- proposed above the executed positions are leftovers.
@@ -53,8 +53,8 @@ pub record FillsNext (m : Meaning) (IsText : List ℕ → Type 0) (node : NodeVa
     (set : List Member) : Type 0 where
   pub proposal : ProposalValue
   pub there : proposal_at (executed node.learner + 1) t.proposals ≡ Some proposal
-  pub goes_on : (new : NodeValue) (voters : List ℕ) (letters : List LetterValue) → IsMajority voters set
-      → TakesEach m IsText (acceptances voters (vote_for_next node t proposal.command)) node new letters
+  pub goes_on : (new : NodeValue) (voters : List ℕ) (envelopes : List EnvelopeValue) → IsMajority voters set
+      → TakesEach m IsText (acceptances voters (vote_for_next node t proposal.command)) node new envelopes
       → FillsOn node t set new
 
 abbrev pub LeaderFillsOn : Meaning → (List ℕ → Type 0) → Type 0

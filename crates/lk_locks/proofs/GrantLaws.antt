@@ -22,9 +22,9 @@ use Rattle.lk_state.specs.Meanings.{Task, Running, Raising}
 use Rattle.lk_locks.specs.declared.body.Body.{Body}
 use Rattle.lk_locks.specs.declared.body.Body.TheVariants.{Acquire, Release, Ask, Check, Share, Break}
 use Rattle.lk_locks.specs.declared.transition.Transition.{Transition}
-use Rattle.lk_locks.specs.declared.slot.Holders.{Holders}
-use Rattle.lk_locks.specs.declared.slot.Holders.TheVariants.{Nobody, Alone, Together}
-use Rattle.lk_locks.specs.declared.slot.Slot.{Slot}
+use Rattle.lk_locks.specs.declared.lock_entry.Holders.{Holders}
+use Rattle.lk_locks.specs.declared.lock_entry.Holders.TheVariants.{Nobody, ExclusiveHold, SharedHold}
+use Rattle.lk_locks.specs.declared.lock_entry.LockEntry.{LockEntry}
 use Rattle.lk_locks.specs.Bodies.{body_of, name_of, is_known, known}
 use Rattle.lk_locks.specs.Holders.{is_held, left_by}
 use Rattle.lk_locks.specs.Sharers.{is_among}
@@ -40,12 +40,12 @@ use Rattle.lk_locks.specs.Grants.{Call, is_for, asks_for, fences, fences_from, o
 use Rattle.lk_locks.specs.Grants.{fences_in, numbers_from}
 
 -- the last fence of a name
-abbrev pub last_fence : Option Slot → ℕ
+abbrev pub last_fence : Option LockEntry → ℕ
 last_fence None = 0
 last_fence (Some s) = s.fence
 
 -- what a name has after a transition
-abbrev after : Option Slot → Option Slot → Option Slot
+abbrev after : Option LockEntry → Option LockEntry → Option LockEntry
 after s None = s
 after s (Some t) = Some t
 
@@ -58,13 +58,13 @@ Goes old new told =
 stays : (n : ℕ) (told : List ℕ) → told ≡ [] → Goes n n told
 stays n told e = inl (e, refl)
 
-abbrev RowGoes : Option Slot → Transition → Type 0
+abbrev RowGoes : Option LockEntry → Transition → Type 0
 RowGoes s r = Goes (last_fence s) (last_fence (after s r.change)) (fences r.answer)
 
 -- ---- each kind of body, at its own name
 
 -- what is given is the next fence, and is told so
-after_goes : (told : ℕ → Answer) (h : Holders) (s : Slot) → ((fence : ℕ) → fences (told fence) ≡ fence ∷ [])
+after_goes : (told : ℕ → Answer) (h : Holders) (s : LockEntry) → ((fence : ℕ) → fences (told fence) ≡ fence ∷ [])
     → RowGoes (Some s) (given told h (fence_after s.fence))
 after_goes told h s tells =
     elim (decided (ltb s.fence 281474976710656)) [
@@ -80,17 +80,17 @@ first_goes told h names tells =
       | inr e ↦ rw e (stays 0 [] refl)
     ]
 
-acquire_goes : (client : ℕ) (s : Option Slot) (names : ℕ) → RowGoes s (acquired client s names)
-acquire_goes client None names = first_goes Granted (Alone client) names (λ fence. refl)
+acquire_goes : (client : ℕ) (s : Option LockEntry) (names : ℕ) → RowGoes s (acquired client s names)
+acquire_goes client None names = first_goes Granted (ExclusiveHold client) names (λ fence. refl)
 acquire_goes client (Some s) names = by s.holders
   where
     by : (h : Holders) → RowGoes (Some s) (acquired_at client s.fence h)
-    by Nobody = after_goes Granted (Alone client) s (λ fence. refl)
-    by (Alone holder) = stays s.fence [] refl
-    by (Together clients) = stays s.fence [] refl
+    by Nobody = after_goes Granted (ExclusiveHold client) s (λ fence. refl)
+    by (ExclusiveHold holder) = stays s.fence [] refl
+    by (SharedHold clients) = stays s.fence [] refl
 
-share_goes : (client : ℕ) (s : Option Slot) (names : ℕ) → RowGoes s (shared client s names)
-share_goes client None names = first_goes Shared (Together (client ∷ [])) names (λ fence. refl)
+share_goes : (client : ℕ) (s : Option LockEntry) (names : ℕ) → RowGoes s (shared client s names)
+share_goes client None names = first_goes Shared (SharedHold (client ∷ [])) names (λ fence. refl)
 share_goes client (Some s) names = by s.holders
   where
     joined_goes : (clients : List ℕ) → RowGoes (Some s) (shared_with client s.fence clients)
@@ -101,11 +101,11 @@ share_goes client (Some s) names = by s.holders
     ]
 
     by : (h : Holders) → RowGoes (Some s) (shared_at client s.fence h)
-    by Nobody = after_goes Shared (Together (client ∷ [])) s (λ fence. refl)
-    by (Alone holder) = stays s.fence [] refl
-    by (Together clients) = joined_goes clients
+    by Nobody = after_goes Shared (SharedHold (client ∷ [])) s (λ fence. refl)
+    by (ExclusiveHold holder) = stays s.fence [] refl
+    by (SharedHold clients) = joined_goes clients
 
-release_goes : (client fence : ℕ) (s : Option Slot) → RowGoes s (released client fence s)
+release_goes : (client fence : ℕ) (s : Option LockEntry) → RowGoes s (released client fence s)
 release_goes client fence None = stays 0 [] refl
 release_goes client fence (Some s) =
     elim (decided (eqb s.fence fence)) [
@@ -117,7 +117,7 @@ release_goes client fence (Some s) =
     by None is = stays s.fence [] refl
     by (Some h) is = inl (refl, sym is)
 
-break_goes : (fence : ℕ) (s : Option Slot) → RowGoes s (broken fence s)
+break_goes : (fence : ℕ) (s : Option LockEntry) → RowGoes s (broken fence s)
 break_goes fence None = stays 0 [] refl
 break_goes fence (Some s) =
     elim (tested (is_held s.holders) s.fence fence) [
@@ -125,19 +125,19 @@ break_goes fence (Some s) =
       | inr h ↦ rw h (stays s.fence [] refl)
     ]
 
-pub ask_goes : (s : Option Slot) → fences (asked s) ≡ []
+pub ask_goes : (s : Option LockEntry) → fences (asked s) ≡ []
 ask_goes None = refl
 ask_goes (Some s) = by s.fence s.holders
   where
     by : (fence : ℕ) (h : Holders) → fences (asked_at fence h) ≡ []
     by fence Nobody = refl
-    by fence (Alone holder) = refl
-    by fence (Together clients) = refl
+    by fence (ExclusiveHold holder) = refl
+    by fence (SharedHold clients) = refl
 
-pub check_goes : (fence : ℕ) (s : Option Slot) → fences (checked fence s) ≡ []
+pub check_goes : (fence : ℕ) (s : Option LockEntry) → fences (checked fence s) ≡ []
 check_goes fence s = elim (is_held_at fence s) as (λ b. fences (cond b Valid Stale) ≡ []) [ true ↦ refl | false ↦ refl ]
 
-row_goes : (client : ℕ) (body : Body) (s : Option Slot) (names : ℕ) → RowGoes s (transition client body s names)
+row_goes : (client : ℕ) (body : Body) (s : Option LockEntry) (names : ℕ) → RowGoes s (transition client body s names)
 row_goes client (Acquire name) s names = acquire_goes client s names
 row_goes client (Release name fence) s names = release_goes client fence s
 row_goes client (Ask name) s names = stays _ _ (ask_goes s)
@@ -162,7 +162,7 @@ same_or_not q name =
     ]
 
 -- what a name has in the table after a change of another or of itself
-get-changed : (name : List ℕ) (change : Option Slot) (m : Names) (q : List ℕ)
+get-changed : (name : List ℕ) (change : Option LockEntry) (m : Names) (q : List ℕ)
     → map.get (changed name change m) q
     ≡ cond (eq_by_cmp (slice_cmp nat_cmp) q name) (after (map.get m name) change) (map.get m q)
 get-changed name None m q = elim (same_or_not q name) [
@@ -307,17 +307,17 @@ each_fence_is_listed name L r bytes body fence counts of_table asks is told =
 
 -- ---- Check
 
-abbrev HeldAt : ℕ → Option Slot → Type 0
+abbrev HeldAt : ℕ → Option LockEntry → Type 0
 HeldAt fence o =
     (holders : Holders) × (is_held holders ≡ true) × (o ≡ Some (record { fence = fence; holders = holders }))
 
-held_at : (fence : ℕ) (o : Option Slot) → is_held_at fence o ≡ true → HeldAt fence o
+held_at : (fence : ℕ) (o : Option LockEntry) → is_held_at fence o ≡ true → HeldAt fence o
 held_at fence None e = absurd cc
 held_at fence (Some s) e = elim (tested (is_held s.holders) s.fence fence) [
   | inl h ↦ (
     s.holders,
     is_and (is_held s.holders) (eqb s.fence fence) e,
-    ap (λ (n : ℕ). let t : Slot = record { fence = n; holders = s.holders } in Some t) h.1,
+    ap (λ (n : ℕ). let t : LockEntry = record { fence = n; holders = s.holders } in Some t) h.1,
   )
   | inr h ↦ let no : true ≡ false = sym e ∙ h in absurd cc
 ]
@@ -326,13 +326,13 @@ held_at fence (Some s) e = elim (tested (is_held s.holders) s.fence fence) [
     is_and true b e = refl
     is_and false b e = absurd cc
 
-valid_where_held : (fence : ℕ) (o : Option Slot) → checked fence o ≡ Valid → HeldAt fence o
+valid_where_held : (fence : ℕ) (o : Option LockEntry) → checked fence o ≡ Valid → HeldAt fence o
 valid_where_held fence o e = elim (decided (is_held_at fence o)) [
   | inl h ↦ held_at fence o h
   | inr h ↦ let no : Stale ≡ Valid = rw h at e in absurd cc
 ]
 
-held_is_valid : (fence : ℕ) (o : Option Slot) → HeldAt fence o → checked fence o ≡ Valid
+held_is_valid : (fence : ℕ) (o : Option LockEntry) → HeldAt fence o → checked fence o ≡ Valid
 held_is_valid fence o h = ap (checked fence) h.2 ∙ rw (h.1, eq-eqb fence fence refl) refl
 
 -- a Check is valid exactly where the name is held at that fence, in either mode; else it is stale
@@ -352,7 +352,7 @@ checks_tell_who_holds client bytes name fence t asks =
       one_of (map.get t.names name) told,
     )
   where
-    one_of : (o : Option Slot) → answer client bytes t ≡ checked fence o
+    one_of : (o : Option LockEntry) → answer client bytes t ≡ checked fence o
         → (answer client bytes t ≡ Valid) ⊎ (answer client bytes t ≡ Stale)
     one_of o told =
         elim (decided (is_held_at fence o)) [ inl e ↦ inl (told ∙ rw e refl) | inr e ↦ inr (told ∙ rw e refl) ]

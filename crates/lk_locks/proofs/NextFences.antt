@@ -11,9 +11,9 @@ use Rattle.lk_types.specs.declared.answer.Answer.TheVariants.{Granted, Shared}
 use Rattle.lk_members.specs.Effects.{Command, effects}
 use Rattle.lk_locks.specs.declared.body.Body.{Body}
 use Rattle.lk_locks.specs.declared.body.Body.TheVariants.{Acquire, Release, Ask, Check, Share, Break}
-use Rattle.lk_locks.specs.declared.slot.Holders.{Holders}
-use Rattle.lk_locks.specs.declared.slot.Holders.TheVariants.{Nobody, Alone, Together}
-use Rattle.lk_locks.specs.declared.slot.Slot.{Slot}
+use Rattle.lk_locks.specs.declared.lock_entry.Holders.{Holders}
+use Rattle.lk_locks.specs.declared.lock_entry.Holders.TheVariants.{Nobody, ExclusiveHold, SharedHold}
+use Rattle.lk_locks.specs.declared.lock_entry.LockEntry.{LockEntry}
 use Rattle.lk_locks.specs.Bodies.{body_of, name_of, is_known, known}
 use Rattle.lk_locks.specs.Free.{IsFree}
 use Rattle.lk_locks.specs.Holders.{is_held, left_by}
@@ -66,7 +66,7 @@ first_gives : (told : ℕ → Answer) (h : Holders) (names : ℕ) → ((n : ℕ)
 first_gives told h names tells =
     elim (decided (ltb names 512)) [ inl e ↦ rw e (inr (tells 1)) | inr e ↦ rw e (inl refl) ]
 
-release_gives : (client fence : ℕ) (s : Option Slot) → fences (released client fence s).answer ≡ []
+release_gives : (client fence : ℕ) (s : Option LockEntry) → fences (released client fence s).answer ≡ []
 release_gives client fence None = refl
 release_gives client fence (Some s) =
     elim (decided (eqb s.fence fence)) [ inl e ↦ rw e (by (left_by client s.holders)) | inr e ↦ rw e refl ]
@@ -75,16 +75,17 @@ release_gives client fence (Some s) =
     by None = refl
     by (Some h) = refl
 
-break_gives : (fence : ℕ) (s : Option Slot) → fences (broken fence s).answer ≡ []
+break_gives : (fence : ℕ) (s : Option LockEntry) → fences (broken fence s).answer ≡ []
 break_gives fence s = elim (decided (is_held_at fence s)) [ inl e ↦ rw e refl | inr e ↦ rw e refl ]
 
-free_gives : (client : ℕ) (body : Body) (s : Option Slot) (names : ℕ) → IsFree s
+free_gives : (client : ℕ) (body : Body) (s : Option LockEntry) (names : ℕ) → IsFree s
     → GivesNext (last_fence s) (fences (transition client body s names).answer)
-free_gives client (Acquire name) None names free = first_gives Granted (Alone client) names (λ n. refl)
-free_gives client (Acquire name) (Some s) names free = rw free (after_gives Granted (Alone client) s.fence (λ n. refl))
-free_gives client (Share name) None names free = first_gives Shared (Together (client ∷ [])) names (λ n. refl)
+free_gives client (Acquire name) None names free = first_gives Granted (ExclusiveHold client) names (λ n. refl)
+free_gives client (Acquire name) (Some s) names free =
+    rw free (after_gives Granted (ExclusiveHold client) s.fence (λ n. refl))
+free_gives client (Share name) None names free = first_gives Shared (SharedHold (client ∷ [])) names (λ n. refl)
 free_gives client (Share name) (Some s) names free =
-    rw free (after_gives Shared (Together (client ∷ [])) s.fence (λ n. refl))
+    rw free (after_gives Shared (SharedHold (client ∷ [])) s.fence (λ n. refl))
 free_gives client (Release name fence) s names free = inl (release_gives client fence s)
 free_gives client (Ask name) s names free = inl (ask_goes s)
 free_gives client (Check name fence) s names free = inl (check_goes fence s)
@@ -136,15 +137,15 @@ next_of_free client bytes body fence L asks free told =
 -- ---- granted to one
 
 -- the transition grants the name to one client alone only where nobody holds it
-granted_free : (client : ℕ) (body : Body) (s : Option Slot) (names : ℕ) (fence : ℕ)
+granted_free : (client : ℕ) (body : Body) (s : Option LockEntry) (names : ℕ) (fence : ℕ)
     → (transition client body s names).answer ≡ Granted fence → IsFree s
 granted_free client body None names fence e = tt
 granted_free client (Acquire name) (Some s) names fence e = by s.holders e
   where
     by : (h : Holders) → (acquired_at client s.fence h).answer ≡ Granted fence → h ≡ Nobody
     by Nobody e = refl
-    by (Alone holder) e = cc
-    by (Together clients) e = cc
+    by (ExclusiveHold holder) e = cc
+    by (SharedHold clients) e = cc
 granted_free client (Share name) (Some s) names fence e = absurd (by s.holders e)
   where
     joined_not : (clients : List ℕ) → (shared_with client s.fence clients).answer ≡ Granted fence → ⊥
@@ -157,8 +158,8 @@ granted_free client (Share name) (Some s) names fence e = absurd (by s.holders e
     by : (h : Holders) → (shared_at client s.fence h).answer ≡ Granted fence → ⊥
     by Nobody e = elim (decided (ltb s.fence 281474976710656))
         [ inl a ↦ let no = rw a at e in cc | inr a ↦ let no = rw a at e in cc ]
-    by (Alone holder) e = cc
-    by (Together clients) e = joined_not clients e
+    by (ExclusiveHold holder) e = cc
+    by (SharedHold clients) e = joined_not clients e
 granted_free client (Release name f) (Some s) names fence e = absurd (not_given (release_gives client f (Some s)) e)
 granted_free client (Ask name) (Some s) names fence e = absurd (not_given (ask_goes (Some s)) e)
 granted_free client (Check name f) (Some s) names fence e = absurd (not_given (check_goes f (Some s)) e)

@@ -13,7 +13,7 @@ use Rattle.std.specs.FinMap.Entries.{below_all}
 use Rattle.lk_locks.specs.Plain.{Names, Table}
 use Rattle.lk_locks.specs.Packed.{Entry, entry, entries, read_entry, read_size, read_entries, read_table, table_text}
 use Rattle.lk_locks.specs.Packed.{rise, DoNotRise}
-use Rattle.lk_locks.specs.declared.slot.Slot.{Slot}
+use Rattle.lk_locks.specs.declared.lock_entry.LockEntry.{LockEntry}
 use Rattle.lk_codec.specs.Fields.{two}
 use Rattle.lk_codec.specs.FieldReading.{read_two}
 use Rattle.lk_codec.specs.Parser.{◌>>=◌, many, made, whole}
@@ -93,14 +93,14 @@ rises_on es l e h =
     ]
 
 -- whether a name is below one more, by the last that stands
-pub below_is : (m : Names) (es : List Entry) (l : Entry) (name : List ℕ) (s : Slot) → map.entries m ≡ es ++ l ∷ []
+pub below_is : (m : Names) (es : List Entry) (l : Entry) (name : List ℕ) (s : LockEntry) → map.entries m ≡ es ++ l ∷ []
     → is_lt (slice_cmp nat_cmp l.0 name) ≡ rise (map.entries m ++ (name, s) ∷ [])
 below_is m es l name s e =
     rw e (sym (rises_on es l (name, s) (subst (λ (fs : List Entry). rise fs ≡ true) e (entries_rise m))))
 
 -- ---- a table with one more name, above all others
 
-put_last : (es : List Entry) (name : List ℕ) (s : Slot) → AreBelow es name
+put_last : (es : List Entry) (name : List ℕ) (s : LockEntry) → AreBelow es name
     → map.put (slice_cmp nat_cmp) name s es ≡ es ++ (name, s) ∷ []
 put_last [] name s below = refl
 put_last (x ∷ es) name s below =
@@ -108,7 +108,7 @@ put_last (x ∷ es) name s below =
     ∙ ap ordering_reverse below.0 in
     rw after (ap (λ (t : List Entry). x ∷ t) (put_last es name s below.1))
 
-pub push_is : (m : Names) (name : List ℕ) (s : Slot) → rise (map.entries m ++ (name, s) ∷ []) ≡ true
+pub push_is : (m : Names) (name : List ℕ) (s : LockEntry) → rise (map.entries m ++ (name, s) ∷ []) ≡ true
     → map.entries (map.insert m name s) ≡ map.entries m ++ (name, s) ∷ []
 push_is m name s h = map.entries-insert nat_list_cmp_total m name s
     ∙ put_last (map.entries m) name s (rise_below (map.entries m) (name, s) h)
@@ -140,7 +140,7 @@ none_before (Some x) = refl
 none_before None = refl
 
 pub starts : (raised : Bool) (count : ℕ) (bytes : List ℕ)
-    → with_front (map.entries {X = Slot} {R = slice_cmp nat_cmp} map.empty)
+    → with_front (map.entries {X = LockEntry} {R = slice_cmp nat_cmp} map.empty)
     (many (read_entry raised) (count - 0) bytes) ≡ many (read_entry raised) count bytes
 starts raised count bytes = let all : count - 0 ≡ count = omega arith in
     rw (all, empty_entries) (none_before (many (read_entry raised) count bytes))

@@ -1,7 +1,7 @@
 pub mod Names
 pub mod Sharers
 pub mod Holders
-pub mod Slots
+pub mod LockEntries
 pub mod Bodies
 pub mod Plain
 pub mod Packed

@@ -22,12 +22,12 @@ use Rattle.lk_locks.specs.Plain.{given}
 use Rattle.lk_locks.specs.Plain.{fence_after, first_fence, acquired_at, acquired, shared_with, shared_at, shared}
 use Rattle.lk_locks.specs.Plain.{left_at}
 use Rattle.lk_locks.specs.Plain.{released, is_held_at, broken, asked_at, asked, checked}
-use Rattle.lk_locks.specs.Packed.{Entry, IsSlotIn, IsTableEntry, AreNames, IsTable, IsTableText, table_in}
+use Rattle.lk_locks.specs.Packed.{Entry, IsLockEntryIn, IsTableEntry, AreNames, IsTable, IsTableText, table_in}
 use Rattle.lk_locks.specs.declared.body.Body.{Body}
 use Rattle.lk_locks.specs.declared.body.Body.TheVariants.{Acquire, Release, Ask, Check, Share, Break}
-use Rattle.lk_locks.specs.declared.slot.Holders.{Holders}
-use Rattle.lk_locks.specs.declared.slot.Holders.TheVariants.{Nobody, Alone, Together}
-use Rattle.lk_locks.specs.declared.slot.Slot.{Slot}
+use Rattle.lk_locks.specs.declared.lock_entry.Holders.{Holders}
+use Rattle.lk_locks.specs.declared.lock_entry.Holders.TheVariants.{Nobody, ExclusiveHold, SharedHold}
+use Rattle.lk_locks.specs.declared.lock_entry.LockEntry.{LockEntry}
 use Rattle.lk_locks.specs.PackedLaws.{decided, text_is, insert_are_names, raised_are_names}
 use Rattle.lk_types.specs.declared.answer.Answer.TheVariants.{Granted, Shared, NoRoom, Spent, Raised, AlreadyRaised}
 use Rattle.lk_types.specs.declared.answer.Answer.{Answer}
@@ -118,19 +118,19 @@ err_is : (a b : Answer) → err_of a ≡ Err b → a ≡ b
 err_is a b e = cc
 
 module _ (raised_now : Bool) where
-  abbrev pub IsKept : Option Slot → Type 0
+  abbrev pub IsKept : Option LockEntry → Type 0
   IsKept None = Unit {0}
-  IsKept (Some s) = IsSlotIn raised_now s
+  IsKept (Some s) = IsLockEntryIn raised_now s
 
-  abbrev pub IsNextSlot : Option Slot → ℕ → Option Slot → Type 0
-  IsNextSlot old names None = Unit {0}
-  IsNextSlot old names (Some s) = IsSlotIn raised_now s × (old ≡ None → names < 512)
+  abbrev pub IsNextLockEntry : Option LockEntry → ℕ → Option LockEntry → Type 0
+  IsNextLockEntry old names None = Unit {0}
+  IsNextLockEntry old names (Some s) = IsLockEntryIn raised_now s × (old ≡ None → names < 512)
 
   -- what is given: a fence in its range, and for a new name there is room
-  abbrev MayGive : Option Slot → ℕ → Result ℕ Answer → Type 0
+  abbrev MayGive : Option LockEntry → ℕ → Result ℕ Answer → Type 0
   MayGive old names r = IfOk r (λ fence. IsCount fence × (old ≡ None → names < 512))
 
-  after_may : (s : Slot) (names : ℕ) → IsCount s.fence → MayGive (Some s) names (fence_after s.fence)
+  after_may : (s : LockEntry) (names : ℕ) → IsCount s.fence → MayGive (Some s) names (fence_after s.fence)
   after_may s names fits =
       elim (decided (ltb s.fence 281474976710656)) [
         | inl e ↦ let below : s.fence < 281474976710656 = ltb-true _ _ e in
@@ -145,32 +145,32 @@ module _ (raised_now : Bool) where
         | inr e ↦ rw e tt
       ]
 
-  given_may : (told : ℕ → Answer) (h : Holders) (old : Option Slot) (names : ℕ) (r : Result ℕ Answer) → IsHolders h
-      → is_kept raised_now h ≡ true → MayGive old names r → IsNextSlot old names (given told h r).change
+  given_may : (told : ℕ → Answer) (h : Holders) (old : Option LockEntry) (names : ℕ) (r : Result ℕ Answer) → IsHolders h
+      → is_kept raised_now h ≡ true → MayGive old names r → IsNextLockEntry old names (given told h r).change
   given_may told h old names (Ok fence) is_holders is_known may = ((may.0, (is_holders, is_known)), may.1)
   given_may told h old names (Err refusal) is_holders is_known may = tt
 
-  acquired_may : (client : ℕ) (old : Option Slot) (names : ℕ) → IsClient client → IsKept old
-      → IsNextSlot old names (acquired client old names).change
+  acquired_may : (client : ℕ) (old : Option LockEntry) (names : ℕ) → IsClient client → IsKept old
+      → IsNextLockEntry old names (acquired client old names).change
   acquired_may client None names is_client fits =
-      given_may Granted (Alone client) None names (first_fence names) is_client refl (first_may names)
+      given_may Granted (ExclusiveHold client) None names (first_fence names) is_client refl (first_may names)
   acquired_may client (Some s) names is_client fits = by s.holders
     where
-      by : (h : Holders) → IsNextSlot (Some s) names (acquired_at client s.fence h).change
-      by Nobody = given_may Granted (Alone client) (Some s) names (fence_after s.fence) is_client refl
+      by : (h : Holders) → IsNextLockEntry (Some s) names (acquired_at client s.fence h).change
+      by Nobody = given_may Granted (ExclusiveHold client) (Some s) names (fence_after s.fence) is_client refl
           (after_may s names fits.0)
-      by (Alone holder) = tt
-      by (Together clients) = tt
+      by (ExclusiveHold holder) = tt
+      by (SharedHold clients) = tt
 
-  shared_may : (client : ℕ) (old : Option Slot) (names : ℕ) → raised_now ≡ true → IsClient client → IsKept old
-      → IsNextSlot old names (shared client old names).change
+  shared_may : (client : ℕ) (old : Option LockEntry) (names : ℕ) → raised_now ≡ true → IsClient client → IsKept old
+      → IsNextLockEntry old names (shared client old names).change
   shared_may client None names is_raised is_client fits =
-      given_may Shared (Together (client ∷ [])) None names (first_fence names)
+      given_may Shared (SharedHold (client ∷ [])) None names (first_fence names)
       (one_sharer client is_client) is_raised (first_may names)
   shared_may client (Some s) names is_raised is_client fits = by s.holders fits.1.0
     where
       shared_with_may : (clients : List ℕ) → AreSharers clients
-          → IsNextSlot (Some s) names (shared_with client s.fence clients).change
+          → IsNextLockEntry (Some s) names (shared_with client s.fence clients).change
       shared_with_may clients are = elim (decided (is_among client clients)) [
         | inl e ↦ rw e tt
         | inr new ↦ elim (decided (ltb (length clients) 8)) [
@@ -182,33 +182,33 @@ module _ (raised_now : Bool) where
         ]
       ]
 
-      by : (h : Holders) → IsHolders h → IsNextSlot (Some s) names (shared_at client s.fence h).change
-      by Nobody is = given_may Shared (Together (client ∷ [])) (Some s) names (fence_after s.fence)
+      by : (h : Holders) → IsHolders h → IsNextLockEntry (Some s) names (shared_at client s.fence h).change
+      by Nobody is = given_may Shared (SharedHold (client ∷ [])) (Some s) names (fence_after s.fence)
           (one_sharer client is_client) is_raised (after_may s names fits.0)
-      by (Alone holder) is = tt
-      by (Together clients) is = shared_with_may clients is
+      by (ExclusiveHold holder) is = tt
+      by (SharedHold clients) is = shared_with_may clients is
 
-  left_may : (client fence : ℕ) (old : Option Slot) (names : ℕ) (s : Slot) → old ≡ Some s → IsCount fence
+  left_may : (client fence : ℕ) (old : Option LockEntry) (names : ℕ) (s : LockEntry) → old ≡ Some s → IsCount fence
       → (o : Option Holders) → ((h : Holders) → o ≡ Some h → IsHolders h × (is_kept raised_now h ≡ true))
-      → IsNextSlot old names (left_at fence o).change
+      → IsNextLockEntry old names (left_at fence o).change
   left_may client fence old names s is fits None h = tt
   left_may client fence old names s is fits (Some holders) h =
       ((fits, h holders refl), λ none. let no : Some s ≡ None = sym is ∙ none in absurd cc)
 
-  kept_less : (cs ds : List ℕ) → is_kept raised_now (Together cs) ≡ true → is_kept raised_now (held_by ds) ≡ true
+  kept_less : (cs ds : List ℕ) → is_kept raised_now (SharedHold cs) ≡ true → is_kept raised_now (held_by ds) ≡ true
   kept_less cs [] e = refl
   kept_less cs (d ∷ ds) e = e
 
   left_fits : (client : ℕ) (h left : Holders) → IsHolders h → is_kept raised_now h ≡ true
       → left_by client h ≡ Some left → IsHolders left × (is_kept raised_now left ≡ true)
   left_fits client Nobody left fits kept e = absurd cc
-  left_fits client (Alone holder) left fits kept e =
+  left_fits client (ExclusiveHold holder) left fits kept e =
       elim (chosen (eqb holder client) (Some Nobody) None (Some left) e) [
         | inl yes_ ↦
             subst (λ (h : Holders). IsHolders h × (is_kept raised_now h ≡ true)) (some_is Nobody left yes_.1) (tt, refl)
         | inr no_ ↦ let bad = no_.1 in absurd cc
       ]
-  left_fits client (Together cs) left fits kept e =
+  left_fits client (SharedHold cs) left fits kept e =
       elim (chosen (is_among client cs) (Some (held_by (without client cs))) None (Some left) e) [
         | inl yes_ ↦ subst (λ (h : Holders). IsHolders h × (is_kept raised_now h ≡ true))
             (some_is (held_by (without client cs)) left yes_.1)
@@ -216,8 +216,8 @@ module _ (raised_now : Bool) where
         | inr no_ ↦ let bad = no_.1 in absurd cc
       ]
 
-  released_may : (client fence : ℕ) (old : Option Slot) (names : ℕ) → IsKept old
-      → IsNextSlot old names (released client fence old).change
+  released_may : (client fence : ℕ) (old : Option LockEntry) (names : ℕ) → IsKept old
+      → IsNextLockEntry old names (released client fence old).change
   released_may client fence None names fits = tt
   released_may client fence (Some s) names fits = elim (decided (eqb s.fence fence)) [
     | inl e ↦ rw e (left_may client fence (Some s) names s refl (subst IsCount (eqb-true s.fence fence e) fits.0)
@@ -225,15 +225,16 @@ module _ (raised_now : Bool) where
     | inr e ↦ rw e tt
   ]
 
-  broken_may : (fence : ℕ) (old : Option Slot) (names : ℕ) → IsKept old → IsNextSlot old names (broken fence old).change
+  broken_may : (fence : ℕ) (old : Option LockEntry) (names : ℕ) → IsKept old → IsNextLockEntry old names
+      (broken fence old).change
   broken_may fence None names fits = tt
   broken_may fence (Some s) names fits = elim (tested (is_held s.holders) s.fence fence) [
     | inl h ↦ rw h.0 ((subst IsCount h.1 fits.0, (tt, refl)), λ none. absurd cc)
     | inr h ↦ rw h tt
   ]
 
-  row_may : (client : ℕ) (body : Body) (old : Option Slot) (names : ℕ) → is_known raised_now body ≡ true
-      → IsClient client → IsKept old → IsNextSlot old names (transition client body old names).change
+  row_may : (client : ℕ) (body : Body) (old : Option LockEntry) (names : ℕ) → is_known raised_now body ≡ true
+      → IsClient client → IsKept old → IsNextLockEntry old names (transition client body old names).change
   row_may client (Acquire name) old names is_known is_client fits = acquired_may client old names is_client fits
   row_may client (Release name fence) old names is_known is_client fits = released_may client fence old names fits
   row_may client (Ask name) old names is_known is_client fits = tt
@@ -257,14 +258,15 @@ module _ (raised_now : Bool) where
   unfolding AreNames
   kept m name fits = subst IsKept (sym (map.get-entries m name)) (found_fits name (map.entries m) fits.1)
 
-  changed_are_names : (m : Names) (name : List ℕ) (change : Option Slot) → AreNames raised_now m → IsName name
-      → IsNextSlot (map.get m name) (map.len m) change → AreNames raised_now (changed name change m)
+  changed_are_names : (m : Names) (name : List ℕ) (change : Option LockEntry) → AreNames raised_now m → IsName name
+      → IsNextLockEntry (map.get m name) (map.len m) change → AreNames raised_now (changed name change m)
   changed_are_names m name None fits named may = fits
   changed_are_names m name (Some s) fits named may = insert_are_names raised_now m name s fits (named, may.0) may.1
 
   -- what a transition writes may be in a table
   pub row_in_may : (client : ℕ) (body : Body) (m : Names) → is_known raised_now body ≡ true → IsClient client
-      → AreNames raised_now m → IsNextSlot (map.get m (name_of body)) (map.len m) (transition_in client body m).change
+      → AreNames raised_now m → IsNextLockEntry (map.get m (name_of body)) (map.len m)
+      (transition_in client body m).change
   row_in_may client body m is_known is_client fits =
       row_may client body (map.get m (name_of body)) (map.len m) is_known is_client (kept m (name_of body) fits)
 
@@ -312,7 +314,7 @@ next_is_text client Raising before is_client t =
 -- ---- each answer is in its range
 
 module _ (raised_now : Bool) where
-  given_answers : (told : ℕ → Answer) (h : Holders) (old : Option Slot) (names : ℕ) (r : Result ℕ Answer)
+  given_answers : (told : ℕ → Answer) (h : Holders) (old : Option LockEntry) (names : ℕ) (r : Result ℕ Answer)
       → ((fence : ℕ) → IsCount fence → IsAnswer (told fence)) → MayGive raised_now old names r
       → ((a : Answer) → r ≡ Err a → IsAnswer a) → IsAnswer (given told h r).answer
   given_answers told h old names (Ok fence) f may refused = f fence may.0
@@ -330,23 +332,23 @@ module _ (raised_now : Bool) where
     | inr n ↦ let is : err_of NoRoom ≡ Err a = rw n at e in subst IsAnswer (err_is NoRoom a is) tt
   ]
 
-  acquired_answers : (client : ℕ) (old : Option Slot) (names : ℕ) → IsKept raised_now old
+  acquired_answers : (client : ℕ) (old : Option LockEntry) (names : ℕ) → IsKept raised_now old
       → IsAnswer (acquired client old names).answer
   acquired_answers client None names fits =
-      given_answers Granted (Alone client) None names (first_fence names) (λ fence f. f)
+      given_answers Granted (ExclusiveHold client) None names (first_fence names) (λ fence f. f)
       (first_may raised_now names) (first_refuses names)
   acquired_answers client (Some s) names fits = by s.holders fits.1.0
     where
       by : (h : Holders) → IsHolders h → IsAnswer (acquired_at client s.fence h).answer
-      by Nobody is = given_answers Granted (Alone client) (Some s) names (fence_after s.fence) (λ fence f. f)
+      by Nobody is = given_answers Granted (ExclusiveHold client) (Some s) names (fence_after s.fence) (λ fence f. f)
           (after_may raised_now s names fits.0) (after_refuses s.fence)
-      by (Alone holder) is = (is, fits.0)
-      by (Together clients) is = (least-fits clients is, fits.0)
+      by (ExclusiveHold holder) is = (is, fits.0)
+      by (SharedHold clients) is = (least-fits clients is, fits.0)
 
-  shared_answers : (client : ℕ) (old : Option Slot) (names : ℕ) → IsKept raised_now old
+  shared_answers : (client : ℕ) (old : Option LockEntry) (names : ℕ) → IsKept raised_now old
       → IsAnswer (shared client old names).answer
   shared_answers client None names fits =
-      given_answers Shared (Together (client ∷ [])) None names (first_fence names) (λ fence f. f)
+      given_answers Shared (SharedHold (client ∷ [])) None names (first_fence names) (λ fence f. f)
       (first_may raised_now names) (first_refuses names)
   shared_answers client (Some s) names fits = by s.holders fits.1.0
     where
@@ -359,37 +361,37 @@ module _ (raised_now : Bool) where
       ]
 
       by : (h : Holders) → IsHolders h → IsAnswer (shared_at client s.fence h).answer
-      by Nobody is = given_answers Shared (Together (client ∷ [])) (Some s) names (fence_after s.fence) (λ fence f. f)
+      by Nobody is = given_answers Shared (SharedHold (client ∷ [])) (Some s) names (fence_after s.fence) (λ fence f. f)
           (after_may raised_now s names fits.0) (after_refuses s.fence)
-      by (Alone holder) is = (is, fits.0)
-      by (Together clients) is = shared_with_answers clients is
+      by (ExclusiveHold holder) is = (is, fits.0)
+      by (SharedHold clients) is = shared_with_answers clients is
 
   left_answers : (fence : ℕ) (o : Option Holders) → IsAnswer (left_at fence o).answer
   left_answers fence None = tt
   left_answers fence (Some h) = tt
 
-  released_answers : (client fence : ℕ) (old : Option Slot) → IsAnswer (released client fence old).answer
+  released_answers : (client fence : ℕ) (old : Option LockEntry) → IsAnswer (released client fence old).answer
   released_answers client fence None = tt
   released_answers client fence (Some s) =
       elim (decided (eqb s.fence fence))
       [ inl e ↦ rw e (left_answers fence (left_by client s.holders)) | inr e ↦ rw e tt ]
 
-  broken_answers : (fence : ℕ) (old : Option Slot) → IsAnswer (broken fence old).answer
+  broken_answers : (fence : ℕ) (old : Option LockEntry) → IsAnswer (broken fence old).answer
   broken_answers fence old = elim (decided (is_held_at fence old)) [ inl e ↦ rw e tt | inr e ↦ rw e tt ]
 
-  asked_answers : (old : Option Slot) → IsKept raised_now old → IsAnswer (asked old)
+  asked_answers : (old : Option LockEntry) → IsKept raised_now old → IsAnswer (asked old)
   asked_answers None fits = omega arith
   asked_answers (Some s) fits = by s.holders fits.1.0
     where
       by : (h : Holders) → IsHolders h → IsAnswer (asked_at s.fence h)
       by Nobody is = fits.0.1
-      by (Alone client) is = (is, fits.0)
-      by (Together clients) is = ((is.0, is.1), fits.0)
+      by (ExclusiveHold client) is = (is, fits.0)
+      by (SharedHold clients) is = ((is.0, is.1), fits.0)
 
-  checked_answers : (fence : ℕ) (old : Option Slot) → IsAnswer (checked fence old)
+  checked_answers : (fence : ℕ) (old : Option LockEntry) → IsAnswer (checked fence old)
   checked_answers fence old = elim (decided (is_held_at fence old)) [ inl e ↦ rw e tt | inr e ↦ rw e tt ]
 
-  row_answers : (client : ℕ) (body : Body) (old : Option Slot) (names : ℕ) → IsKept raised_now old
+  row_answers : (client : ℕ) (body : Body) (old : Option LockEntry) (names : ℕ) → IsKept raised_now old
       → IsAnswer (transition client body old names).answer
   row_answers client (Acquire name) old names fits = acquired_answers client old names fits
   row_answers client (Release name fence) old names fits = released_answers client fence old

@@ -15,46 +15,46 @@ use Rattle.lk_locks.specs.Bodies.{lock_name, read_name}
 use Rattle.lk_locks.specs.Holders.{IsHolders, is_kept}
 use Rattle.lk_locks.specs.Sharers.{are_clients_above}
 use Rattle.lk_locks.specs.Plain.{Table, Names, empty}
-use Rattle.lk_locks.specs.declared.slot.Holders.{Holders}
-use Rattle.lk_locks.specs.declared.slot.Holders.TheVariants.{Nobody, Alone, Together}
-use Rattle.lk_locks.specs.declared.slot.Slot.{Slot}
+use Rattle.lk_locks.specs.declared.lock_entry.Holders.{Holders}
+use Rattle.lk_locks.specs.declared.lock_entry.Holders.TheVariants.{Nobody, ExclusiveHold, SharedHold}
+use Rattle.lk_locks.specs.declared.lock_entry.LockEntry.{LockEntry}
 
--- a name and its slot
+-- a name and its lock entry
 abbrev pub Entry : Type 0
-Entry = List ℕ × Slot
+Entry = List ℕ × LockEntry
 
 -- the holder as a table that was not raised has it: 0 for nobody
 abbrev pub holder_number : Holders → ℕ
 holder_number Nobody = 0
-holder_number (Alone client) = client
-holder_number (Together clients) = 0
+holder_number (ExclusiveHold client) = client
+holder_number (SharedHold clients) = 0
 
 -- the mode that precedes the holders in a raised table
 abbrev pub mode : Holders → ℕ
 mode Nobody = 0
-mode (Alone client) = 1
-mode (Together clients) = 2
+mode (ExclusiveHold client) = 1
+mode (SharedHold clients) = 2
 
 abbrev pub sharers : List ℕ → List ℕ
 sharers clients = one (length clients) ++ flat_map two clients
 
 abbrev pub in_mode : Holders → List ℕ
 in_mode Nobody = []
-in_mode (Alone client) = two client
-in_mode (Together clients) = sharers clients
+in_mode (ExclusiveHold client) = two client
+in_mode (SharedHold clients) = sharers clients
 
 abbrev pub holders : Bool → Holders → List ℕ
 holders false h = two (holder_number h)
 holders true h = mode h ∷ in_mode h
 
 -- the last fence, and then who holds it
-abbrev pub slot : Bool → Slot → List ℕ
-slot raised s = eight s.fence ++ holders raised s.holders
+abbrev pub lock_entry : Bool → LockEntry → List ℕ
+lock_entry raised s = eight s.fence ++ holders raised s.holders
 
 abbrev pub entry : Bool → Entry → List ℕ
-entry raised e = lock_name e.0 ++ slot raised e.1
+entry raised e = lock_name e.0 ++ lock_entry raised e.1
 
--- how many names, and then each with its slot
+-- how many names, and then each with its lock entry
 abbrev pub entries : Bool → List Entry → List ℕ
 entries raised es = two (length es) ++ flat_map (entry raised) es
 
@@ -73,14 +73,14 @@ table_text t = packed_table (t.raised, map.entries t.names)
 -- ---- which tables there are
 
 -- the fence and the holders are in range, and a table of this version may have such holders
-abbrev pub IsSlotIn : Bool → Slot → Type 0
-IsSlotIn raised s = IsCount s.fence × (IsHolders s.holders × IsTrue (is_kept raised s.holders))
+abbrev pub IsLockEntryIn : Bool → LockEntry → Type 0
+IsLockEntryIn raised s = IsCount s.fence × (IsHolders s.holders × IsTrue (is_kept raised s.holders))
 
-abbrev pub IsSlot : Slot → Type 0
-IsSlot s = IsCount s.fence × IsHolders s.holders
+abbrev pub IsLockEntry : LockEntry → Type 0
+IsLockEntry s = IsCount s.fence × IsHolders s.holders
 
 abbrev pub IsTableEntry : Bool → Entry → Type 0
-IsTableEntry raised e = IsName e.0 × IsSlotIn raised e.1
+IsTableEntry raised e = IsName e.0 × IsLockEntryIn raised e.1
 
 -- at most 512 names
 unfoldable pub AreNames : Bool → Names → Type 0
@@ -96,7 +96,7 @@ IsTableText bytes = (t : Table) × IsTable t × (bytes ≡ table_text t)
 -- ---- the same, from the bytes to the table
 
 abbrev pub holder_of : ℕ → Holders
-holder_of number = if number == 0 then Nobody else Alone number
+holder_of number = if number == 0 then Nobody else ExclusiveHold number
 
 unfoldable pub read_holder : List ℕ → Option (Holders × List ℕ)
 read_holder = made holder_of (tested (λ n. nat_le n max_client) read_two)
@@ -105,17 +105,18 @@ unfoldable pub read_sharers : List ℕ → Option (List ℕ × List ℕ)
 read_sharers = tested (are_clients_above 0) (counted (tested (is_from_1_to max_sharers) read_byte) read_client)
 
 unfoldable pub holders_of : ℕ → List ℕ → Option (Holders × List ℕ)
-holders_of = kind 0 (bare Nobody) (kind 1 (made Alone read_client) (kind 2 (made Together read_sharers) no_kind))
+holders_of = kind 0 (bare Nobody) (kind 1 (made ExclusiveHold read_client)
+    (kind 2 (made SharedHold read_sharers) no_kind))
 
 abbrev pub read_holders : Bool → List ℕ → Option (Holders × List ℕ)
 read_holders false = read_holder
 read_holders true = tagged holders_of
 
-unfoldable pub read_slot : Bool → List ℕ → Option (Slot × List ℕ)
-read_slot raised = made (λ s. record { fence = s.0; holders = s.1 }) (both read_count (read_holders raised))
+unfoldable pub read_lock_entry : Bool → List ℕ → Option (LockEntry × List ℕ)
+read_lock_entry raised = made (λ s. record { fence = s.0; holders = s.1 }) (both read_count (read_holders raised))
 
 unfoldable pub read_entry : Bool → List ℕ → Option (Entry × List ℕ)
-read_entry raised = both read_name (read_slot raised)
+read_entry raised = both read_name (read_lock_entry raised)
 
 unfoldable pub read_size : List ℕ → Option (ℕ × List ℕ)
 read_size = tested (λ n. nat_le n 512) read_two

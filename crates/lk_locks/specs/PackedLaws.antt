@@ -26,14 +26,14 @@ use Rattle.lk_locks.specs.Bodies.{lock_name, read_name}
 use Rattle.lk_locks.specs.Holders.{IsHolders, is_kept}
 use Rattle.lk_locks.specs.Sharers.{AreSharers, are_clients_above}
 use Rattle.lk_locks.specs.Plain.{Names, Table, empty}
-use Rattle.lk_locks.specs.Packed.{Entry, holder_number, mode, sharers, in_mode, holders, slot, entry, entries}
-use Rattle.lk_locks.specs.Packed.{raised_mark, packed_table, table_text, IsSlotIn, IsTableEntry, AreNames, IsTable}
+use Rattle.lk_locks.specs.Packed.{Entry, holder_number, mode, sharers, in_mode, holders, lock_entry, entry, entries}
+use Rattle.lk_locks.specs.Packed.{raised_mark, packed_table, table_text, IsLockEntryIn, IsTableEntry, AreNames, IsTable}
 use Rattle.lk_locks.specs.Packed.{IsTableText, holder_of, read_holder, read_sharers, holders_of, read_holders}
-use Rattle.lk_locks.specs.Packed.{read_slot, read_entry, read_size, rise, read_entries, read_by, read_table}
+use Rattle.lk_locks.specs.Packed.{read_lock_entry, read_entry, read_size, rise, read_entries, read_by, read_table}
 use Rattle.lk_locks.specs.Packed.{table_of_entries, table_in}
-use Rattle.lk_locks.specs.declared.slot.Holders.{Holders}
-use Rattle.lk_locks.specs.declared.slot.Holders.TheVariants.{Nobody, Alone, Together}
-use Rattle.lk_locks.specs.declared.slot.Slot.{Slot}
+use Rattle.lk_locks.specs.declared.lock_entry.Holders.{Holders}
+use Rattle.lk_locks.specs.declared.lock_entry.Holders.TheVariants.{Nobody, ExclusiveHold, SharedHold}
+use Rattle.lk_locks.specs.declared.lock_entry.LockEntry.{LockEntry}
 use Rattle.lk_locks.specs.NameLaws.{name_length, name_reads}
 
 pub decided : (b : Bool) → (b ≡ true) ⊎ (b ≡ false)
@@ -49,11 +49,11 @@ holder_again : (h : Holders) (rest : List ℕ) → FitsIn false h
     → read_holder (two (holder_number h) ++ rest) ≡ Some (h, rest)
 unfolding read_holder
 holder_again Nobody rest fits = rw (two_reads.again 0 rest (omega arith)) refl
-holder_again (Alone client) rest fits =
+holder_again (ExclusiveHold client) rest fits =
     let low : eqb client 0 ≡ false = ne_eqb client 0 (λ e. omega (arith, e, fits.0.0)) in
     let high : leb client 256 ≡ true = le-leb _ _ fits.0.1 in
     rw (two_reads.again client rest (omega (arith, fits.0)), high, low) refl
-holder_again (Together clients) rest fits = let no = fits.1 in absurd cc
+holder_again (SharedHold clients) rest fits = let no = fits.1 in absurd cc
 
 above : (n : ℕ) → (n ≡ 0 → ⊥) → 1 ≤ n
 above zero h = absurd (h refl)
@@ -92,22 +92,22 @@ mode_takes : TakesKinds mode in_mode IsHolders holders_of
 unfolding holders_of
 mode_takes =
     bare_takes mode in_mode IsHolders 0 Nobody refl refl tt _
-    (kind_takes mode in_mode IsHolders 1 Alone read_client two IsClient client_reads
+    (kind_takes mode in_mode IsHolders 1 ExclusiveHold read_client two IsClient client_reads
     (λ y. refl) (λ y. refl) (λ y f. f) _
-    (kind_takes mode in_mode IsHolders 2 Together read_sharers sharers AreSharers sharers_reads
+    (kind_takes mode in_mode IsHolders 2 SharedHold read_sharers sharers AreSharers sharers_reads
     (λ y. refl) (λ y. refl) (λ y f. f) _
     (no_kind_takes mode in_mode IsHolders)))
 
 mode_again : (h : Holders) (rest : List ℕ) → IsHolders h → holders_of (mode h) (in_mode h ++ rest) ≡ Some (h, rest)
 unfolding holders_of
 mode_again Nobody rest fits = refl
-mode_again (Alone client) rest fits = rw (client_reads.again client rest fits) refl
-mode_again (Together clients) rest fits = rw (sharers_reads.again clients rest fits) refl
+mode_again (ExclusiveHold client) rest fits = rw (client_reads.again client rest fits) refl
+mode_again (SharedHold clients) rest fits = rw (sharers_reads.again clients rest fits) refl
 
 all_kept : (h : Holders) → is_kept true h ≡ true
 all_kept Nobody = refl
-all_kept (Alone client) = refl
-all_kept (Together clients) = refl
+all_kept (ExclusiveHold client) = refl
+all_kept (SharedHold clients) = refl
 
 pub holders_reads : (raised : Bool) → Reads (read_holders raised) (holders raised) (FitsIn raised)
 holders_reads false = holder_reads
@@ -115,19 +115,20 @@ holders_reads true =
     fitting (tagged holders_of) (holders true) IsHolders (FitsIn true) (λ h f. (f, all_kept h)) (λ h f. f.0)
     (tagged_reads mode in_mode IsHolders holders_of mode_takes mode_again)
 
--- ---- a slot, an entry, all entries
+-- ---- a lock entry, an entry, all entries
 
-slot_reads : (raised : Bool) → Reads (read_slot raised) (slot raised) (IsSlotIn raised)
-unfolding read_slot
-slot_reads raised = made_reads (λ (s : ℕ × Holders). let x : Slot = record { fence = s.0; holders = s.1 } in x)
-    (λ (s : Slot). (s.fence, s.holders)) (λ x. refl) (λ y. refl) _ _ _
+lock_entry_reads : (raised : Bool) → Reads (read_lock_entry raised) (lock_entry raised) (IsLockEntryIn raised)
+unfolding read_lock_entry
+lock_entry_reads raised = made_reads (λ (s : ℕ × Holders). let x : LockEntry =
+    record { fence = s.0; holders = s.1 } in x)
+    (λ (s : LockEntry). (s.fence, s.holders)) (λ x. refl) (λ y. refl) _ _ _
     (both_reads read_count eight IsCount (read_holders raised) (holders raised)
     (FitsIn raised) count_reads (holders_reads raised))
 
 pub entry_reads : (raised : Bool) → Reads (read_entry raised) (entry raised) (IsTableEntry raised)
 unfolding read_entry
-entry_reads raised = both_reads read_name lock_name IsName (read_slot raised) (slot raised)
-    (IsSlotIn raised) name_reads (slot_reads raised)
+entry_reads raised = both_reads read_name lock_name IsName (read_lock_entry raised) (lock_entry raised)
+    (IsLockEntryIn raised) name_reads (lock_entry_reads raised)
 
 size_reads : Reads read_size two (λ (n : ℕ). n ≤ 512)
 unfolding read_size
@@ -278,15 +279,15 @@ clients_length (c ∷ cs) =
 holders_length : (raised : Bool) (h : Holders) → IsHolders h → length (holders raised h) ≤ 18
 holders_length false h fits = omega (arith, two_length (holder_number h))
 holders_length true Nobody fits = omega arith
-holders_length true (Alone client) fits = omega (arith, two_length client)
-holders_length true (Together clients) fits = omega (arith, clients_length clients, fits.1)
+holders_length true (ExclusiveHold client) fits = omega (arith, two_length client)
+holders_length true (SharedHold clients) fits = omega (arith, clients_length clients, fits.1)
 
 entry_length : (raised : Bool) (e : Entry) → IsTableEntry raised e → length (entry raised e) ≤ 59
 entry_length raised e fits =
     let short = (name_length e.0 fits.0).1 in
     omega (
       arith,
-      length-append (lock_name e.0) (slot raised e.1),
+      length-append (lock_name e.0) (lock_entry raised e.1),
       length-append (eight e.1.fence) (holders raised e.1.holders),
       eight_length e.1.fence,
       holders_length raised e.1.holders fits.1.1.0,
@@ -338,20 +339,20 @@ at_most_30631 bytes t = omega (arith, short bytes t)
 
 -- ---- what keeps a table one
 
-pub empty_entries : map.entries {X = Slot} {R = slice_cmp nat_cmp} map.empty ≡ []
-empty_entries = nil_from_length _ (sym (map.len-entries map.empty) ∙ map.len-empty (slice_cmp nat_cmp) Slot)
+pub empty_entries : map.entries {X = LockEntry} {R = slice_cmp nat_cmp} map.empty ≡ []
+empty_entries = nil_from_length _ (sym (map.len-entries map.empty) ∙ map.len-empty (slice_cmp nat_cmp) LockEntry)
 
 pub empty_are_names : (raised : Bool) → AreNames raised map.empty
 unfolding AreNames
 empty_are_names raised =
-    let len : map.len {X = Slot} map.empty ≡ 0 = map.len-empty (slice_cmp nat_cmp) Slot in
+    let len : map.len {X = LockEntry} map.empty ≡ 0 = map.len-empty (slice_cmp nat_cmp) LockEntry in
     (rw len (omega arith), rw empty_entries tt)
 
 pub empty_is_text : IsTableText (table_text empty)
 empty_is_text = (empty, empty_are_names false, refl)
 
 module _ (raised : Bool) where
-  all_put : (name : List ℕ) (s : Slot) (es : List Entry) → IsTableEntry raised (name, s)
+  all_put : (name : List ℕ) (s : LockEntry) (es : List Entry) → IsTableEntry raised (name, s)
       → AllByRecursion (IsTableEntry raised) es
       → AllByRecursion (IsTableEntry raised) (map.put (slice_cmp nat_cmp) name s es)
   all_put name s [] new fits = (new, tt)
@@ -364,7 +365,7 @@ module _ (raised : Bool) where
       by Equal rest = ((fits.0.0, new.1), fits.1)
       by Greater rest = (fits.0, rest)
 
-  pub insert_are_names : (m : Names) (name : List ℕ) (s : Slot) → AreNames raised m → IsTableEntry raised (name, s)
+  pub insert_are_names : (m : Names) (name : List ℕ) (s : LockEntry) → AreNames raised m → IsTableEntry raised (name, s)
       → (map.get m name ≡ None → map.len m < 512) → AreNames raised (map.insert m name s)
   unfolding AreNames
   insert_are_names m name s fits new room = (
@@ -373,7 +374,8 @@ module _ (raised : Bool) where
         (all_put name s (map.entries m) new fits.1),
   )
     where
-      len_after : (o : Option Slot) → (o ≡ None → map.len m < 512) → cond (is_some o) (map.len m) (map.len m + 1) ≤ 512
+      len_after : (o : Option LockEntry) → (o ≡ None → map.len m < 512) → cond (is_some o) (map.len m)
+          (map.len m + 1) ≤ 512
       len_after None room = omega (arith, room refl)
       len_after (Some t) room = fits.0
 

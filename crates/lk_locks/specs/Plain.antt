@@ -13,16 +13,16 @@ use Rattle.lk_types.specs.declared.answer.Answer.TheVariants.{Raised, AlreadyRai
 use Rattle.lk_locks.specs.Bodies.{body_of, name_of, known}
 use Rattle.lk_locks.specs.Holders.{is_held, left_by}
 use Rattle.lk_locks.specs.Sharers.{is_among, with_client, least}
-use Rattle.lk_locks.specs.Slots.{slot_code}
+use Rattle.lk_locks.specs.LockEntries.{lock_entry_code}
 use Rattle.lk_locks.specs.declared.body.Body.{Body}
 use Rattle.lk_locks.specs.declared.body.Body.TheVariants.{Acquire, Release, Ask, Check, Share, Break}
 use Rattle.lk_locks.specs.declared.transition.Transition.{Transition}
-use Rattle.lk_locks.specs.declared.slot.Holders.{Holders}
-use Rattle.lk_locks.specs.declared.slot.Holders.TheVariants.{Nobody, Alone, Together}
-use Rattle.lk_locks.specs.declared.slot.Slot.{Slot}
+use Rattle.lk_locks.specs.declared.lock_entry.Holders.{Holders}
+use Rattle.lk_locks.specs.declared.lock_entry.Holders.TheVariants.{Nobody, ExclusiveHold, SharedHold}
+use Rattle.lk_locks.specs.declared.lock_entry.LockEntry.{LockEntry}
 
 abbrev pub Names : Type 0
-Names = map.FinMap (slice_cmp nat_cmp) Slot
+Names = map.FinMap (slice_cmp nat_cmp) LockEntry
 
 -- the names, and whether the table was raised: then it is of version 2, and otherwise of version 1
 pub record Table : Type 0 where
@@ -31,7 +31,7 @@ pub record Table : Type 0 where
 
 -- a table is stored as the pair of both
 abbrev pub table_code : Coded Table
-table_code = code_by (Bool × Names) (coded× coded_bool (map.code (coded_list coded_ℕ) slot_code))
+table_code = code_by (Bool × Names) (coded× coded_bool (map.code (coded_list coded_ℕ) lock_entry_code))
     (λ t. (t.raised, t.names)) (λ p. record { raised = p.0; names = p.1 }) (λ _. refl)
 
 abbrev pub empty : Table
@@ -57,12 +57,12 @@ given told holders (Ok fence) =
 given told holders (Err refusal) = unchanged refusal
 
 abbrev pub acquired_at : ℕ → ℕ → Holders → Transition
-acquired_at client fence Nobody = given Granted (Alone client) (fence_after fence)
-acquired_at client fence (Alone holder) = unchanged (Busy holder fence)
-acquired_at client fence (Together clients) = unchanged (Busy (least clients) fence)
+acquired_at client fence Nobody = given Granted (ExclusiveHold client) (fence_after fence)
+acquired_at client fence (ExclusiveHold holder) = unchanged (Busy holder fence)
+acquired_at client fence (SharedHold clients) = unchanged (Busy (least clients) fence)
 
-abbrev pub acquired : ℕ → Option Slot → ℕ → Transition
-acquired client None names = given Granted (Alone client) (first_fence names)
+abbrev pub acquired : ℕ → Option LockEntry → ℕ → Transition
+acquired client None names = given Granted (ExclusiveHold client) (first_fence names)
 acquired client (Some s) names = acquired_at client s.fence s.holders
 
 -- one more client shares the name, at the same fence
@@ -72,17 +72,17 @@ shared_with client fence clients =
     else if nat_lt (length clients) max_sharers then
     record {
       answer = Shared fence;
-      change = Some (record { fence = fence; holders = Together (with_client client clients) });
+      change = Some (record { fence = fence; holders = SharedHold (with_client client clients) });
     }
     else unchanged (Busy (least clients) fence)
 
 abbrev pub shared_at : ℕ → ℕ → Holders → Transition
-shared_at client fence Nobody = given Shared (Together (client ∷ [])) (fence_after fence)
-shared_at client fence (Alone holder) = unchanged (Busy holder fence)
-shared_at client fence (Together clients) = shared_with client fence clients
+shared_at client fence Nobody = given Shared (SharedHold (client ∷ [])) (fence_after fence)
+shared_at client fence (ExclusiveHold holder) = unchanged (Busy holder fence)
+shared_at client fence (SharedHold clients) = shared_with client fence clients
 
-abbrev pub shared : ℕ → Option Slot → ℕ → Transition
-shared client None names = given Shared (Together (client ∷ [])) (first_fence names)
+abbrev pub shared : ℕ → Option LockEntry → ℕ → Transition
+shared client None names = given Shared (SharedHold (client ∷ [])) (first_fence names)
 shared client (Some s) names = shared_at client s.fence s.holders
 
 -- ---- Release and Break: the fence stays
@@ -91,16 +91,16 @@ abbrev pub left_at : ℕ → Option Holders → Transition
 left_at fence None = unchanged NotHeld
 left_at fence (Some holders) = record { answer = Released; change = Some (record { fence = fence; holders = holders }) }
 
-abbrev pub released : ℕ → ℕ → Option Slot → Transition
+abbrev pub released : ℕ → ℕ → Option LockEntry → Transition
 released client fence None = unchanged NotHeld
 released client fence (Some s) =
     if s.fence == fence then left_at fence (left_by client s.holders) else unchanged NotHeld
 
-abbrev pub is_held_at : ℕ → Option Slot → Bool
+abbrev pub is_held_at : ℕ → Option LockEntry → Bool
 is_held_at fence None = false
 is_held_at fence (Some s) = is_held s.holders && s.fence == fence
 
-abbrev pub broken : ℕ → Option Slot → Transition
+abbrev pub broken : ℕ → Option LockEntry → Transition
 broken fence s =
     if is_held_at fence s then record { answer = Broken; change = Some (record { fence = fence; holders = Nobody }) }
     else unchanged Stale
@@ -109,20 +109,20 @@ broken fence s =
 
 abbrev pub asked_at : ℕ → Holders → Answer
 asked_at fence Nobody = Free fence
-asked_at fence (Alone holder) = Held holder fence
-asked_at fence (Together clients) = HeldShared (length clients) fence
+asked_at fence (ExclusiveHold holder) = Held holder fence
+asked_at fence (SharedHold clients) = HeldShared (length clients) fence
 
-abbrev pub asked : Option Slot → Answer
+abbrev pub asked : Option LockEntry → Answer
 asked None = Free 0
 asked (Some s) = asked_at s.fence s.holders
 
-abbrev pub checked : ℕ → Option Slot → Answer
+abbrev pub checked : ℕ → Option LockEntry → Answer
 checked fence s = if is_held_at fence s then Valid else Stale
 
 -- ---- all bodies
 
--- given the name's slot, and how many names there are
-abbrev pub transition : ℕ → Body → Option Slot → ℕ → Transition
+-- given the name's lock entry, and how many names there are
+abbrev pub transition : ℕ → Body → Option LockEntry → ℕ → Transition
 transition client (Acquire name) s names = acquired client s names
 transition client (Release name fence) s names = released client fence s
 transition client (Ask name) s names = unchanged (asked s)
@@ -133,7 +133,7 @@ transition client (Break name fence) s names = broken fence s
 abbrev pub transition_in : ℕ → Body → Names → Transition
 transition_in client body m = transition client body (map.get m (name_of body)) (map.len m)
 
-abbrev pub changed : List ℕ → Option Slot → Names → Names
+abbrev pub changed : List ℕ → Option LockEntry → Names → Names
 changed name None m = m
 changed name (Some s) m = map.insert m name s
 

@@ -87,7 +87,7 @@ fn read_whole(bytes: &[u8]) -> Option<Body>
 }
 
 // Returns the bytes of a body: its kind, its name after its length, and `rest`, which is a fence or nothing.
-fn spelled(kind: u8, name: &Name, rest: &[u8]) -> Payload
+fn encode(kind: u8, name: &Name, rest: &[u8]) -> Payload
     requires { length rest.now ≤ 8 }
     ensures { result ≡ kind ∷ (lock_name name.now ++ rest.now) }
 {
@@ -117,12 +117,12 @@ impl Body {
         ensures value { result ≡ spelling self.now }
     {
         match self {
-            Body::Acquire(name) => spelled(1, name, &[]),
-            Body::Release(name, fence) => spelled(2, name, &fence.get().to_be_bytes()),
-            Body::Ask(name) => spelled(3, name, &[]),
-            Body::Check(name, fence) => spelled(4, name, &fence.get().to_be_bytes()),
-            Body::Share(name) => spelled(5, name, &[]),
-            Body::Break(name, fence) => spelled(6, name, &fence.get().to_be_bytes()),
+            Body::Acquire(name) => encode(1, name, &[]),
+            Body::Release(name, fence) => encode(2, name, &fence.get().to_be_bytes()),
+            Body::Ask(name) => encode(3, name, &[]),
+            Body::Check(name, fence) => encode(4, name, &fence.get().to_be_bytes()),
+            Body::Share(name) => encode(5, name, &[]),
+            Body::Break(name, fence) => encode(6, name, &fence.get().to_be_bytes()),
         }
     }
 

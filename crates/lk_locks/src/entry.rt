@@ -1,4 +1,4 @@
-//! A name and its slot as bytes, read and written: one format for a raised table, another for one that is not.
+//! A name and its lock entry as bytes, read and written: one format for a raised table, another for one that is not.
 ghost use Rattle.std.specs.Prelude.{◌≡◌, ◌<◌, ◌≤◌, [], ◌∷◌, ◌++◌, true, false, length, OnOk, OnErr, IfSome};
 ghost use Rattle.lk_types.specs.Limits.{max_sharers};
 ghost use Rattle.lk_codec.specs.Fields.{two};
@@ -7,13 +7,13 @@ ghost use Rattle.lk_codec.specs.Parser.{Finds, many, tagged};
 ghost use Rattle.lk_codec.specs.Fronts.{KeepsFront};
 ghost use Rattle.lk_locks.specs.Bodies.{lock_name};
 ghost use Rattle.lk_locks.specs.Holders.{is_kept};
-ghost use Rattle.lk_locks.specs.Packed.{holder_number, sharers, holders, slot, entry, read_holder, read_sharers};
-ghost use Rattle.lk_locks.specs.Packed.{holders_of, read_holders, read_slot, read_entry};
+ghost use Rattle.lk_locks.specs.Packed.{holder_number, sharers, holders, lock_entry, entry, read_holder, read_sharers};
+ghost use Rattle.lk_locks.specs.Packed.{holders_of, read_holders, read_lock_entry, read_entry};
 
 use crate::body::read_name;
+use crate::lock_entry::{Holders, LockEntry};
 use crate::name::Name;
 use crate::sharers::Sharers;
-use crate::slot::{Holders, Slot};
 use arrayvec::ArrayVec;
 use bytes::{BufMut, BytesMut};
 use lk_codec::{
@@ -36,7 +36,7 @@ fn read_holder(bytes: &[u8]) -> Option<(Holders, &[u8])>
     let Some(client) = ClientNo::of(number) else {
         return None;
     };
-    Some((Holders::Alone(client), rest))
+    Some((Holders::ExclusiveHold(client), rest))
 }
 
 // Appends a client to a list that is not full.
@@ -96,13 +96,13 @@ fn read_mode(bytes: &[u8]) -> Option<(Holders, &[u8])>
             let Some((client, rest)) = read_client(rest) else {
                 return None;
             };
-            Some((Holders::Alone(client), rest))
+            Some((Holders::ExclusiveHold(client), rest))
         }
         2 => {
             let Some((clients, rest)) = read_sharers(rest) else {
                 return None;
             };
-            Some((Holders::Together(clients), rest))
+            Some((Holders::SharedHold(clients), rest))
         }
         _ => None,
     }
@@ -121,9 +121,9 @@ fn read_holders(raised: bool, bytes: &[u8]) -> Option<(Holders, &[u8])>
 }
 
 // Reads the last fence of a name, and who holds it.
-#[tactic(auto, unfolding(crate::specs::Packed::read_slot))]
-fn read_slot(raised: bool, bytes: &[u8]) -> Option<(Slot, &[u8])>
-    ensures read { Finds (λ x. (x.0, x.1.now)) result (read_slot raised bytes.now) }
+#[tactic(auto, unfolding(crate::specs::Packed::read_lock_entry))]
+fn read_lock_entry(raised: bool, bytes: &[u8]) -> Option<(LockEntry, &[u8])>
+    ensures read { Finds (λ x. (x.0, x.1.now)) result (read_lock_entry raised bytes.now) }
     ensures kept { IfSome result (λ x. is_kept raised x.0.holders ≡ true) }
 {
     let Some((fence, rest)) = read_fence(bytes) else {
@@ -132,22 +132,22 @@ fn read_slot(raised: bool, bytes: &[u8]) -> Option<(Slot, &[u8])>
     let Some((holders, rest)) = read_holders(raised, rest) else {
         return None;
     };
-    Some((Slot { fence, holders }, rest))
+    Some((LockEntry { fence, holders }, rest))
 }
 
-/// Reads a name and its slot, in the format of a raised table or of one that is not.
+/// Reads a name and its lock entry, in the format of a raised table or of one that is not.
 #[tactic(auto, unfolding(crate::specs::Packed::read_entry))]
-pub fn read_entry(raised: bool, bytes: &[u8]) -> Option<(Name, Slot, &[u8])>
+pub fn read_entry(raised: bool, bytes: &[u8]) -> Option<(Name, LockEntry, &[u8])>
     ensures read { Finds (λ x. ((x.0, x.1), x.2.now)) result (read_entry raised bytes.now) }
     ensures kept { IfSome result (λ x. is_kept raised x.1.holders ≡ true) }
 {
     let Some((name, rest)) = read_name(bytes) else {
         return None;
     };
-    let Some((slot, rest)) = read_slot(raised, rest) else {
+    let Some((lock_entry, rest)) = read_lock_entry(raised, rest) else {
         return None;
     };
-    Some((name, slot, rest))
+    Some((name, lock_entry, rest))
 }
 
 // Appends the length of a name in a byte, and its bytes. Out of memory, each `put_` of this file may leave a prefix.
@@ -170,8 +170,8 @@ fn put_holder(out: &mut BytesMut, value: &Holders) -> Result<(), AllocError>
     ensures err { OnErr result (KeepsFront out.old.items out.new.items) }
 {
     let number = match value {
-        Holders::Alone(client) => client.get(),
-        Holders::Nobody | Holders::Together(_) => 0,
+        Holders::ExclusiveHold(client) => client.get(),
+        Holders::Nobody | Holders::SharedHold(_) => 0,
     };
     put_u16(out, number)?;
     Ok(())
@@ -199,11 +199,11 @@ fn put_mode(out: &mut BytesMut, value: &Holders) -> Result<(), AllocError>
 {
     match value {
         Holders::Nobody => put_u8(out, 0)?,
-        Holders::Alone(client) => {
+        Holders::ExclusiveHold(client) => {
             put_u8(out, 1)?;
             put_client(out, *client)?;
         }
-        Holders::Together(clients) => {
+        Holders::SharedHold(clients) => {
             put_u8(out, 2)?;
             put_sharers(out, clients)?;
         }
@@ -225,8 +225,8 @@ fn put_holders(out: &mut BytesMut, raised: bool, value: &Holders) -> Result<(), 
 
 // Appends the last fence of a name, and who holds it.
 #[tactic(auto, using(lk_codec::proofs::Spellings::keeps_same, lk_codec::proofs::Spellings::keeps_behind))]
-fn put_slot(out: &mut BytesMut, raised: bool, value: &Slot) -> Result<(), AllocError>
-    ensures ok { OnOk result (out.new.items ≡ out.old.items ++ slot raised value.now) }
+fn put_lock_entry(out: &mut BytesMut, raised: bool, value: &LockEntry) -> Result<(), AllocError>
+    ensures ok { OnOk result (out.new.items ≡ out.old.items ++ lock_entry raised value.now) }
     ensures err { OnErr result (KeepsFront out.old.items out.new.items) }
 {
     put_fence(out, value.fence)?;
@@ -234,19 +234,19 @@ fn put_slot(out: &mut BytesMut, raised: bool, value: &Slot) -> Result<(), AllocE
     Ok(())
 }
 
-/// Appends a name and its slot, in the format of a raised table or of one that is not. Out of memory it may leave a
-/// prefix of the two.
+/// Appends a name and its lock entry, in the format of a raised table or of one that is not. Out of memory it may leave
+/// a prefix of the two.
 #[tactic(auto, using(lk_codec::proofs::Spellings::keeps_same, lk_codec::proofs::Spellings::keeps_behind))]
 pub fn put_entry(
     out: &mut BytesMut,
     raised: bool,
     name: &Name,
-    value: &Slot,
+    value: &LockEntry,
 ) -> Result<(), AllocError>
     ensures ok { OnOk result (out.new.items ≡ out.old.items ++ entry raised (name.now, value.now)) }
     ensures err { OnErr result (KeepsFront out.old.items out.new.items) }
 {
     put_name(out, name)?;
-    put_slot(out, raised, value)?;
+    put_lock_entry(out, raised, value)?;
     Ok(())
 }

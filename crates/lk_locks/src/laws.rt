@@ -9,8 +9,8 @@ ghost use Rattle.lk_members.specs.Effects.{Command, RequestValue, Request, in_ef
 ghost use Rattle.lk_state.specs.States.{text_of};
 ghost use Rattle.lk_locks.specs.declared.body.Body.{Body};
 ghost use Rattle.lk_locks.specs.declared.body.Body.TheVariants.{Check, Break};
-ghost use Rattle.lk_locks.specs.declared.slot.Holders.{Holders};
-ghost use Rattle.lk_locks.specs.declared.slot.Holders.TheVariants.{Nobody};
+ghost use Rattle.lk_locks.specs.declared.lock_entry.Holders.{Holders};
+ghost use Rattle.lk_locks.specs.declared.lock_entry.Holders.TheVariants.{Nobody};
 ghost use Rattle.lk_locks.specs.Bodies.{SpellsBody, body_of, name_of};
 ghost use Rattle.lk_locks.specs.Free.{IsFree};
 ghost use Rattle.lk_locks.specs.Holders.{is_held};

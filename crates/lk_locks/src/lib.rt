@@ -4,16 +4,16 @@
 mod body;
 mod entry;
 pub mod laws;
+mod lock_entry;
 mod machine;
 mod name;
 mod sharers;
-mod slot;
 mod table;
 mod transition;
 mod transitions;
 
 pub use body::Body;
+pub use lock_entry::{Holders, LockEntry};
 pub use name::Name;
 pub use sharers::Sharers;
-pub use slot::{Holders, Slot};
 pub use table::LockTable;

@@ -15,7 +15,8 @@ use lk_types::limits::MAX_NAMES;
 use lk_types::{Answer, ClientNo, NoMemory};
 use std::alloc::Global;
 
-// Reads this many names with their slots into a new table. `NotPacked`: one is invalid, or the names do not rise.
+// Reads this many names with their lock entries into a new table. `NotPacked`: one is invalid, or the names do not
+// rise.
 fn read_entries(
     alloc: Global,
     raised: bool,
@@ -30,17 +31,17 @@ fn read_entries(
     let mut table = LockTable::new(alloc, raised);
     let mut rest = bytes;
     for _ in 0..count {
-        let Some((name, slot, after)) = read_entry(raised, rest) else {
+        let Some((name, lock_entry, after)) = read_entry(raised, rest) else {
             return Err(UnpackFault::NotPacked);
         };
-        table.push(name, slot)?;
+        table.push(name, lock_entry)?;
         rest = after;
     }
     Ok((table, rest))
 }
 
-// Reads a table, `raised` to its second version or not: the number of its names, then each name with its slot, up to
-// the last byte.
+// Reads a table, `raised` to its second version or not: the number of its names, then each name with its lock entry, up
+// to the last byte.
 #[tactic(auto, using(crate::proofs::TableLaws::read_is), unfolding(crate::specs::Packed::read_entries, crate::specs::Packed::read_size))]
 fn read_names(alloc: Global, raised: bool, bytes: &[u8]) -> Result<LockTable, UnpackFault>
     ensures ok { IfOk result (λ t. whole (read_entries raised) bytes.now ≡ Some (map.entries t.names)) }

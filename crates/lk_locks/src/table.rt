@@ -7,14 +7,14 @@ ghost use Rattle.lk_types.specs.Limits.{max_names};
 ghost use Rattle.lk_locks.specs.Bodies.{body_of, is_known, known};
 ghost use Rattle.lk_locks.specs.Holders.{is_kept};
 ghost use Rattle.lk_locks.specs.Packed.{IsTable, rise, entries, table_text};
-ghost use Rattle.lk_locks.specs.declared.slot.Slot.{Slot};
+ghost use Rattle.lk_locks.specs.declared.lock_entry.LockEntry.{LockEntry};
 ghost use Rattle.lk_codec.specs.Fronts.{KeepsFront};
 ghost use Rattle.lk_locks.specs.Plain.{transition_in, next_by, answer, next, raise_answer, raised, IsNewName};
 
 use crate::body::Body;
 use crate::entry::put_entry;
+use crate::lock_entry::LockEntry;
 use crate::name::Name;
-use crate::slot::Slot;
 use crate::transition::Transition;
 use crate::transitions::transition;
 use bytes::BytesMut;
@@ -33,7 +33,7 @@ pub(crate) const RAISED_MARK: u16 = 0xff02;
 #[derive(Drop)]
 pub struct LockTable {
     raised: bool,
-    slots: BTreeMap<Name, Slot>,
+    lock_entries: BTreeMap<Name, LockEntry>,
 }
 
 impl Model for LockTable {
@@ -49,10 +49,10 @@ impl Model for LockTable {
 
     ghost coded = { table_code };
 
-    ghost view = { λ t. record { raised = t.raised; names = map.from_entries t.slots.entries } };
+    ghost view = { λ t. record { raised = t.raised; names = map.from_entries t.lock_entries.entries } };
 
-    ghost invariant = { λ t. IsOrdered (slice_cmp nat_cmp) t.slots
-        × IsTable (record { raised = t.raised; names = map.from_entries t.slots.entries }) };
+    ghost invariant = { λ t. IsOrdered (slice_cmp nat_cmp) t.lock_entries
+        × IsTable (record { raised = t.raised; names = map.from_entries t.lock_entries.entries }) };
 }
 
 impl LockTable {
@@ -62,7 +62,7 @@ impl LockTable {
     {
         LockTable {
             raised,
-            slots: BTreeMap::new(alloc),
+            lock_entries: BTreeMap::new(alloc),
         }
     }
 
@@ -71,68 +71,68 @@ impl LockTable {
         ensures len { result ≡ map.len self.now.names }
         ensures short { result ≤ max_names }
     {
-        self.slots.len()
+        self.lock_entries.len()
     }
 
     /// Shows the prover that there are at most 512 names, and each part is in its range. Does nothing at run time.
     pub fn facts(&self)
         ensures { IsTable self.now }
     {
-        let _ = &self.slots;
+        let _ = &self.lock_entries;
     }
 
-    /// Returns a copy of the slot of a name, or `None` if the table does not have the name.
-    pub fn slot(&self, name: &Name) -> Option<Slot>
+    /// Returns a copy of the lock entry of a name, or `None` if the table does not have the name.
+    pub fn lock_entry(&self, name: &Name) -> Option<LockEntry>
         ensures { result ≡ map.get self.now.names name.now }
     {
-        match self.slots.get(name) {
-            Some(slot) => Some(slot.copy()),
+        match self.lock_entries.get(name) {
+            Some(lock_entry) => Some(lock_entry.copy()),
             None => None,
         }
     }
 
-    // Inserts or replaces the slot of a name. Only a new name takes memory. An `Err` changes nothing.
-    fn set(&mut self, name: Name, slot: Slot) -> Result<(), NoMemory>
-        requires kept { is_kept self.old.raised slot.holders ≡ true }
+    // Inserts or replaces the lock entry of a name. Only a new name takes memory. An `Err` changes nothing.
+    fn set(&mut self, name: Name, lock_entry: LockEntry) -> Result<(), NoMemory>
+        requires kept { is_kept self.old.raised lock_entry.holders ≡ true }
         requires room { map.get self.old.names name ≡ None → map.len self.old.names < max_names }
         ensures ok { OnOk result
-            (self.new ≡ record { raised = self.old.raised; names = map.insert self.old.names name slot }) }
+            (self.new ≡ record { raised = self.old.raised; names = map.insert self.old.names name lock_entry }) }
         ensures err { OnErr result (self.new ≡ self.old) }
         ensures absent { OnErr result (map.get self.old.names name ≡ None) }
     {
         name.facts();
-        slot.facts();
-        self.slots.insert(name, slot)?;
+        lock_entry.facts();
+        self.lock_entries.insert(name, lock_entry)?;
         Ok(())
     }
 
     // Returns whether all of the table's names are below this one, in the order of their bytes.
     fn is_below(&self, name: &Name) -> bool
-        ensures { (s : Slot) → result ≡ rise (map.entries self.now.names ++ (name.now, s) ∷ []) }
+        ensures { (s : LockEntry) → result ≡ rise (map.entries self.now.names ++ (name.now, s) ∷ []) }
     {
-        match self.slots.iter().next_back() {
+        match self.lock_entries.iter().next_back() {
             Some((last, _)) => last.cmp(name).is_lt(),
             None => true,
         }
     }
 
     // Adds a name that was unpacked. `NotPacked`: it is not above all of the table's names.
-    pub(crate) fn push(&mut self, name: Name, slot: Slot) -> Result<(), UnpackFault>
+    pub(crate) fn push(&mut self, name: Name, lock_entry: LockEntry) -> Result<(), UnpackFault>
         requires room { map.len self.old.names < max_names }
-        requires kept { is_kept self.old.raised slot.holders ≡ true }
-        ensures ok { OnOk result (map.entries self.new.names ≡ map.entries self.old.names ++ (name, slot) ∷ []) }
+        requires kept { is_kept self.old.raised lock_entry.holders ≡ true }
+        ensures ok { OnOk result (map.entries self.new.names ≡ map.entries self.old.names ++ (name, lock_entry) ∷ []) }
         ensures version { OnOk result (self.new.raised ≡ self.old.raised) }
         ensures not_packed { IsErrOf result UnpackFault.NotPacked
-            → rise (map.entries self.old.names ++ (name, slot) ∷ []) ≡ false }
+            → rise (map.entries self.old.names ++ (name, lock_entry) ∷ []) ≡ false }
     {
         if !self.is_below(&name) {
             return Err(UnpackFault::NotPacked);
         }
-        self.set(name, slot)?;
+        self.set(name, lock_entry)?;
         Ok(())
     }
 
-    // Appends how many names there are, and then each with its slot. Out of memory it may leave a prefix of that.
+    // Appends how many names there are, and then each with its lock entry. Out of memory it may leave a prefix of that.
     #[tactic(auto, using(lk_codec::proofs::Spellings::keeps_same, lk_codec::proofs::Spellings::keeps_behind))]
     fn put_names(&self, out: &mut BytesMut) -> Result<(), AllocError>
         ensures ok { OnOk result
@@ -140,8 +140,8 @@ impl LockTable {
         ensures err { OnErr result (KeepsFront out.old.items out.new.items) }
     {
         put_u16(out, self.len() as u16)?;
-        for (name, slot) in self.slots.iter() {
-            put_entry(out, self.raised, name, slot)?;
+        for (name, lock_entry) in self.lock_entries.iter() {
+            put_entry(out, self.raised, name, lock_entry)?;
         }
         Ok(())
     }
@@ -160,13 +160,13 @@ impl LockTable {
         self.put_names(out)
     }
 
-    /// Returns all names, rising, each with its slot.
-    pub fn names(&self, alloc: Global) -> Result<Vec<(Name, Slot)>, NoMemory>
+    /// Returns all names, rising, each with its lock entry.
+    pub fn names(&self, alloc: Global) -> Result<Vec<(Name, LockEntry)>, NoMemory>
         ensures { IfOk result (λ names. names.items ≡ map.entries self.now.names) }
     {
         let mut names = Vec::new(alloc);
-        for (name, slot) in self.slots.iter() {
-            names.push((name.copy(), slot.copy()))?;
+        for (name, lock_entry) in self.lock_entries.iter() {
+            names.push((name.copy(), lock_entry.copy()))?;
         }
         Ok(names)
     }
@@ -184,9 +184,14 @@ impl LockTable {
         let _ = client.get();
         self.facts();
         let name = body.name();
-        let Transition { answer, change } = transition(client, &body, self.slot(name), self.len());
-        if let Some(slot) = change {
-            self.set(name.copy(), slot)?;
+        let Transition { answer, change } = transition(
+            client,
+            &body,
+            self.lock_entry(name),
+            self.len(),
+        );
+        if let Some(lock_entry) = change {
+            self.set(name.copy(), lock_entry)?;
         }
         Ok(answer)
     }

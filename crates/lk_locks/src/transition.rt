@@ -1,9 +1,9 @@
-use crate::slot::Slot;
+use crate::lock_entry::LockEntry;
 use lk_types::Answer;
 
-/// The result of a body: its answer, and the name's new slot, if it changes.
+/// The result of a body: its answer, and the name's new lock entry, if it changes.
 #[derive(Drop)]
 pub struct Transition {
     pub answer: Answer,
-    pub change: Option<Slot>,
+    pub change: Option<LockEntry>,
 }

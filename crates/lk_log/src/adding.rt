@@ -12,7 +12,7 @@ ghost use Rattle.lk_log.specs.Stores.{HoldsOn, KeepsAtLeastOn};
 
 use crate::fault::StoreFault;
 use lk_disk::{DeviceFault, LogDisk, Side};
-use lk_store_format::{entries_facts, spelled};
+use lk_store_format::{encode, entries_facts};
 use lk_types::Entry;
 use std::alloc::Global;
 
@@ -60,7 +60,7 @@ pub fn add<D: LogDisk>(
         → IsMetered (D.meter device.old) (D.meter device.new) (put_calls entries.now sync) result }
 {
     entries_facts(entries);
-    let bytes = spelled(alloc, entries)?;
+    let bytes = encode(alloc, entries)?;
     append_some(device, live, &bytes)?;
     if !sync {
         return Ok(());

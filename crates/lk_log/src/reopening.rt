@@ -26,7 +26,7 @@ use crate::opening::{cut_and_sync, find};
 use crate::replaying::replay;
 use crate::store::Store;
 use lk_disk::{DeviceFault, LogDisk, Side};
-use lk_store_format::{Base, Header, Standing, Stored, format_of, spelled_base};
+use lk_store_format::{Base, Header, Standing, Stored, encode_base, format_of};
 use lk_types::{Ballot, Executed};
 use std::alloc::{AllocError, Global};
 
@@ -111,7 +111,7 @@ fn create_store<D: LogDisk>(
     ensures metered { D.is_metered → D.is_honest → IsMetered (D.meter device.old) (D.meter device.new) 3 result }
 {
     let base = first_base(alloc, header, zero)?;
-    let bytes = spelled_base(alloc, &base)?;
+    let bytes = encode_base(alloc, &base)?;
     write_over(device, Side::A, &bytes)?;
     let Base {
         generation,

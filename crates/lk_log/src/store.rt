@@ -20,7 +20,7 @@ use crate::adding::add;
 use crate::fault::StoreFault;
 use crate::rebasing::{other, switch_files};
 use lk_disk::{LogDisk, Side, Trap, Trapped};
-use lk_store_format::{Header, Standing, spelled_parts};
+use lk_store_format::{Header, Standing, encode_parts};
 use lk_types::Entry;
 use lk_types::limits::MAX_COUNT;
 use std::alloc::Global;
@@ -177,7 +177,7 @@ impl<D: LogDisk + Drop> Store<D> {
         self.header.facts();
         standing.facts();
         self.failed = true;
-        let bytes = spelled_parts(self.alloc, self.generation + 1, 2, &self.header, standing)?;
+        let bytes = encode_parts(self.alloc, self.generation + 1, 2, &self.header, standing)?;
         switch_files(&mut self.device, self.live, &bytes)?;
         self.live = other(self.live);
         self.generation += 1;

@@ -6,7 +6,7 @@ use Rattle.lk_disk.specs.Disk.{Disk}
 use Rattle.lk_disk.specs.declared.device.Side.{Side}
 use Rattle.lk_locks.specs.Meaning.{table_meaning}
 use Rattle.lk_locks.specs.Packed.{IsTableText}
-use Rattle.lk_node_interface.specs.Letters.{LetterValue}
+use Rattle.lk_node_interface.specs.Envelopes.{EnvelopeValue}
 use Rattle.lk_replica.specs.ReplicaValue.{ReplicaValue}
 use Rattle.lk_transport.specs.Streams.{Stream}
 use Rattle.lk_program_fault.specs.declared.fault.ProgramFault.{ProgramFault}
@@ -22,11 +22,11 @@ use Rattle.lk_main.specs.Plans.{PlansNode}
 use Rattle.lk_main.specs.Subcommands.{AreOfSubcommand}
 
 -- `is_text`, `is_store` and `is_bound` say what the platform's files and sockets are, `honest` that the device is
--- honest, `disk` what it has, `Says` relates a replica's input to its letters, and `observable` says that the socket
+-- honest, `disk` what it has, `Says` relates a replica's input to its envelopes, and `observable` says that the socket
 -- reveals what it sends and finds
 module _ {D S : Type 0} (is_text : List ℕ → List ℕ → Type 0) (is_store : List ℕ → Bool → D → Type 0)
     (is_bound : SocketAddr → S → Type 0) (honest : Type 0) (disk : D → Side → Disk)
-    (Says : ReplicaValue → List (Option (List ℕ)) → List LetterValue → ReplicaValue → Type 0) (observable : Type 0)
+    (Says : ReplicaValue → List (Option (List ℕ)) → List EnvelopeValue → ReplicaValue → Type 0) (observable : Type 0)
     (sent : S → List (SocketAddr × List ℕ)) (failures : S → ℕ) (incoming : S → Stream) where
   -- what a node is given beside the device of its store, where it runs on these resources
   abbrev pub given_by : Resources D S → Surroundings

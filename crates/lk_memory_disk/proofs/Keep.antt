@@ -32,7 +32,7 @@ kept_front n s m b l cut size =
 pub keeps_image : (n : ℕ) (d : Disk) → MayLeave d (contents (after_stop n d))
 keeps_image n d = (n, append-nil (d.synced ++ take n d.unsynced))
 
--- also of a file that was shortened, whose synced bytes after that place need not be left
+-- also of a file that was truncated, whose synced bytes after that place need not be left
 pub keeps_image_of : (n : ℕ) (shown : Option ℕ) (d : Disk)
     → MayLeave (left_of (file_showing shown d)) (contents (after_stop n d))
 keeps_image_of n None d = keeps_image n d

@@ -183,7 +183,7 @@ impl MemoryDisk {
     }
 
     // Cuts the disk to its first `len` bytes.
-    fn shorten(&mut self, side: Side, len: usize)
+    fn truncate(&mut self, side: Side, len: usize)
         ensures { self.new ≡ with_disk side (cut_to len (disk_of self.old side)) self.old }
     {
         match side {
@@ -308,11 +308,11 @@ impl LogDisk for MemoryDisk {
         match stop {
             Some(bytes) => {
                 // The machine stops within the cut, which leaves any length from `len` to the present one.
-                self.shorten(side, bytes.max(len).min(size));
+                self.truncate(side, bytes.max(len).min(size));
                 Err(self.fail())
             }
             None => {
-                self.shorten(side, len);
+                self.truncate(side, len);
                 Ok(())
             }
         }

@@ -2,7 +2,7 @@
 ghost use Rattle.std.specs.Prelude.{◌≡◌, ◌↔◌, ◌≤◌, ◌+◌, ℕ, [], length, Ok, ⊤, slice_range, IsOk, OnOk, OnErr};
 ghost use Rattle.lk_disk.specs.Disk.{Disk, MayLeave, contents, appended, fully_synced, cut_to, after_stop, one_more};
 ghost use Rattle.lk_disk.specs.Disk.{HasCause};
-ghost use Rattle.lk_disk.specs.Files.{whole, shortened, left_of, IsWhole};
+ghost use Rattle.lk_disk.specs.Files.{whole, truncated, left_of, IsWhole};
 ghost use Rattle.lk_memory_disk.specs.CountedFile.{bytes_of};
 
 use crate::disk_bytes::DiskBytes;
@@ -10,12 +10,12 @@ use lk_disk::{AppendFile, FileFault};
 use std::alloc::Global;
 use std::marker::Model;
 
-/// One file in memory. An append fails when it is out of memory; a read or a shorten past the end fails. Between a
-/// shorten and the next sync each of these fails. A failed call does not change the file.
+/// One file in memory. An append fails when it is out of memory; a read or a truncation past the end fails. Between a
+/// truncation and the next sync each of these fails. A failed call does not change the file.
 #[derive(Drop)]
 pub struct MemoryFile {
     bytes: DiskBytes,
-    // how many of its bytes it shows, if it was shortened and not yet synced
+    // how many of its bytes it shows, if it was truncated and not yet synced
     shown: Option<usize>,
     failures: u64,
 }
@@ -40,8 +40,8 @@ impl MemoryFile {
         }
     }
 
-    /// Simulates a stop of the machine: keeps up to this many of the unsynced bytes, and undoes a shorten that was not
-    /// synced. What is left is synced.
+    /// Simulates a stop of the machine: keeps up to this many of the unsynced bytes, and undoes a truncation that was
+    /// not synced. What is left is synced.
     pub fn stop(&mut self, unsynced: usize)
         ensures after { self.new ≡ record self.old { file = whole (after_stop unsynced (bytes_of self.old.file)) } }
         ensures image { MayLeave (left_of self.old.file) (contents (left_of self.new.file)) }
@@ -110,7 +110,7 @@ impl AppendFile for MemoryFile {
     fn sync(&mut self) -> Result<(), FileFault>
         ensures ok { IsOk result }
         ensures whole { IsWhole self.old.file → self.new.file ≡ whole (fully_synced (left_of self.old.file)) }
-        ensures short { (n : ℕ) (d : Disk) → self.old.file ≡ shortened n d → self.new.file ≡ whole (cut_to n d) }
+        ensures short { (n : ℕ) (d : Disk) → self.old.file ≡ truncated n d → self.new.file ≡ whole (cut_to n d) }
         ensures failures { self.new.failures ≡ self.old.failures }
     {
         match self.shown {
@@ -121,9 +121,9 @@ impl AppendFile for MemoryFile {
         Ok(())
     }
 
-    fn shorten(&mut self, len: usize) -> Result<(), FileFault>
+    fn truncate(&mut self, len: usize) -> Result<(), FileFault>
         ensures ok { IsWhole self.old.file → len ≤ length (contents (left_of self.old.file))
-            → IsOk result × (self.new.file ≡ shortened len (left_of self.old.file)) }
+            → IsOk result × (self.new.file ≡ truncated len (left_of self.old.file)) }
         ensures cause { HasCause self.old.failures self.new.failures result }
     {
         if self.shown.is_some() || self.bytes.len() < len {

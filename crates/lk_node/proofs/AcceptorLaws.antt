@@ -26,7 +26,7 @@ use Rattle.lk_acceptor.specs.declared.response.Response.{Response}
 use Rattle.lk_acceptor.proofs.Acceptors.{prepare_may, accept_may, prepare_covered, accept_covered, prepare_written}
 use Rattle.lk_acceptor.proofs.Acceptors.{accept_written, takes_vote}
 use Rattle.lk_node_interface.specs.Grants.{is_granted}
-use Rattle.lk_node_interface.specs.Letters.{LetterValue, batch_of}
+use Rattle.lk_node_interface.specs.Envelopes.{EnvelopeValue, batch_of}
 use Rattle.lk_node_interface.specs.Outboxes.{OutboxValue, nothing, with_optional}
 use Rattle.lk_node_interface.specs.Saying.{saying}
 use Rattle.lk_node_interface.specs.declared.note.Note.{Note}
@@ -50,7 +50,7 @@ pub record Moves (h : History) (n : ℕ) (old new : AcceptorState) (o : Option E
       → PaxosFits h.genesis h.sent n (holding_acceptor w new)
   pub rests : (e : Entry) → o ≡ Some e → Rests h e
 
-optional_entries : (o : Option Entry) → (with_optional o nothing).letters ≡ []
+optional_entries : (o : Option Entry) → (with_optional o nothing).envelopes ≡ []
 optional_entries None = refl
 optional_entries (Some e) = refl
 
@@ -106,7 +106,7 @@ moves_goes_on m Heard node a o written binding moves = record {
       };
 }
   where
-    none : (l : LetterValue) → Contains [] l → ⊥
+    none : (l : EnvelopeValue) → Contains [] l → ⊥
     none l c = omega (arith, c.1)
 
     no_datagram : (n : ℕ) (d : Datagram) → Contains [] d → ⊥

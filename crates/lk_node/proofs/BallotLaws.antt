@@ -26,7 +26,7 @@ use Rattle.lk_node.specs.SafeSteps.{ActsSafely}
 use Rattle.lk_node.specs.Telling.{telling}
 use Rattle.lk_node.specs.Waiting.{ticked}
 use Rattle.lk_node.proofs.Changing.{alike_goes_on}
-use Rattle.lk_node.proofs.ManyLetters.{says_all}
+use Rattle.lk_node.proofs.ManyEnvelopes.{says_all}
 use Rattle.lk_node.proofs.SafeSteps.{then_goes_on}
 
 is_begun : (b : BallotValue) (k : TermValue) → Some (begun b) ≡ Some k → begun b ≡ k

@@ -21,7 +21,7 @@ use Rattle.lk_node.specs.Keeping.{IsKnown, IsHeld, LeadsOn}
 use Rattle.lk_node.specs.Calls.{MayGo}
 use Rattle.lk_node.specs.Holdings.{Holding, HoldingFits}
 use Rattle.lk_node.specs.NodeValue.{NodeValue}
-use Rattle.lk_node.specs.SafeSteps.{IsCoveredLetter, Binds, IsSafeStep, ActsSafely}
+use Rattle.lk_node.specs.SafeSteps.{IsCoveredEnvelope, Binds, IsSafeStep, ActsSafely}
 use Rattle.lk_leader.specs.Terms.{is_term_below}
 use Rattle.lk_node.specs.Yielding.{without_term, yielded}
 
@@ -38,8 +38,8 @@ binds_alike first old new out like b = record {
   written = ap (λ (a : AcceptorValue). a.state) like.acceptor ∙ b.written;
   unsynced = b.unsynced;
   still = λ e. ap (λ (a : AcceptorValue). a.state) like.acceptor ∙ b.still e;
-  tells = λ l c. subst (λ (w : HeaderValue). IsCoveredLetter w new.acceptor.state out.rebase l) (sym like.header)
-      (subst (λ (a : AcceptorValue). IsCoveredLetter old.header a.state out.rebase l) (sym like.acceptor)
+  tells = λ l c. subst (λ (w : HeaderValue). IsCoveredEnvelope w new.acceptor.state out.rebase l) (sym like.header)
+      (subst (λ (a : AcceptorValue). IsCoveredEnvelope old.header a.state out.rebase l) (sym like.acceptor)
       (b.tells l c));
 }
 
@@ -178,8 +178,8 @@ change_goes_on m Heard old new out header state f = record {
     written = state ∙ b.written;
     unsynced = b.unsynced;
     still = λ e. state ∙ b.still e;
-    tells = λ l c. subst (λ (w : HeaderValue). IsCoveredLetter w new.acceptor.state out.rebase l) (sym header)
-        (subst (λ (a : AcceptorState). IsCoveredLetter old.header a out.rebase l) (sym state) (b.tells l c));
+    tells = λ l c. subst (λ (w : HeaderValue). IsCoveredEnvelope w new.acceptor.state out.rebase l) (sym header)
+        (subst (λ (a : AcceptorState). IsCoveredEnvelope old.header a out.rebase l) (sym state) (b.tells l c));
   };
   continues = λ h n loose s heard.
       let u = f h n loose s heard in

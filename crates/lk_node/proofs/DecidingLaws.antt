@@ -33,12 +33,12 @@ use Rattle.lk_leader.proofs.Leaderships.{majority_rests, accepted_by, majority_l
 use Rattle.lk_learner.specs.Learners.{executed, advanced}
 use Rattle.lk_node_interface.specs.KeptReplies.{session_by}
 use Rattle.lk_node_interface.specs.DecidedMessages.{decided_message}
-use Rattle.lk_node_interface.specs.Letters.{LetterValue}
-use Rattle.lk_node_interface.specs.Outboxes.{OutboxValue, nothing, with_note, with_letter, with_letters}
+use Rattle.lk_node_interface.specs.Envelopes.{EnvelopeValue}
+use Rattle.lk_node_interface.specs.Outboxes.{OutboxValue, nothing, with_note, with_envelope, with_envelopes}
 use Rattle.lk_node_interface.specs.Saying.{saying}
 use Rattle.lk_node_interface.specs.declared.note.Note.TheVariants as note
 use Rattle.lk_node.specs.Deciding.{IsForProposal, with_vote, BringsMajority, IsOnlyHeard}
-use Rattle.lk_node.specs.Deciding.{HandlesVote, AreDecidedLetters}
+use Rattle.lk_node.specs.Deciding.{HandlesVote, AreDecidedEnvelopes}
 use Rattle.lk_node.specs.Deciding.{HandlesAccepted, Decides}
 use Rattle.lk_node.specs.Executing.{EndsWaitIfAny, is_outside, without_term_if_outside, Executes, Runs, stays, goes_on}
 use Rattle.lk_node.specs.Histories.{History}
@@ -48,12 +48,12 @@ use Rattle.lk_node.specs.NodeValue.{NodeValue}
 use Rattle.lk_node.specs.Proposed.{ProposesNothing, ProposesNothingIf}
 use Rattle.lk_node.specs.Saying.{to_node}
 use Rattle.lk_node.specs.SafeSteps.{IsSafeStep, ActsSafely}
-use Rattle.lk_node.specs.Telling.{letter_to}
+use Rattle.lk_node.specs.Telling.{envelope_to}
 use Rattle.lk_node.specs.Yielding.{without_term}
 use Rattle.lk_node.proofs.Changing.{change_goes_on}
 use Rattle.lk_node.proofs.Decisions.{for_proposal_or_not}
 use Rattle.lk_node.proofs.HeardNothing.{heard_brings_nothing}
-use Rattle.lk_node.proofs.LearnerLaws.{Chooses, unheard}
+use Rattle.lk_node.proofs.LearnerLaws.{Chooses, yet_to_accept}
 use Rattle.lk_node.proofs.SafeSteps.{rests_here, then_goes_on, heard_goes_on, says, notes}
 
 -- ---- what the leader tells of a vote
@@ -295,28 +295,29 @@ chosen_alone h i v chosen (suc k) u at = absurd (nothing k at)
     nothing zero e = cc e
     nothing (suc j) e = cc e
 
-abbrev lettered : OutboxValue → List LetterValue → OutboxValue
-lettered out ls =
-    record { rebase = out.rebase; entries = out.entries; sync = out.sync; notes = out.notes; letters = ls }
+abbrev enveloped : OutboxValue → List EnvelopeValue → OutboxValue
+enveloped out ls =
+    record { rebase = out.rebase; entries = out.entries; sync = out.sync; notes = out.notes; envelopes = ls }
 
 decided_go_on : (m : Meaning) (i : ℕ) (v : Command) (was node : NodeValue) (out : OutboxValue) (nodes : List ℕ)
     → node.header ≡ was.header → IsMessage (saying was.header (decided_message (i, v)))
-    → ActsSafely m (Chooses i v) node node out (with_letters (map (letter_to was (decided_message (i, v))) nodes) out)
+    → ActsSafely m (Chooses i v) node node out
+    (with_envelopes (map (envelope_to was (decided_message (i, v))) nodes) out)
 decided_go_on m i v was node out [] same fits =
-    subst (λ (ls : List LetterValue). ActsSafely m (Chooses i v) node node out (lettered out ls))
-    (sym (append-nil out.letters)) (rests_here m (Chooses i v) node out)
+    subst (λ (ls : List EnvelopeValue). ActsSafely m (Chooses i v) node node out (enveloped out ls))
+    (sym (append-nil out.envelopes)) (rests_here m (Chooses i v) node out)
 decided_go_on m i v was node out (k ∷ nodes) same fits =
-    let one : LetterValue = letter_to was (decided_message (i, v)) k in
-    let sent : OutboxValue = with_letter one out in
+    let one : EnvelopeValue = envelope_to was (decided_message (i, v)) k in
+    let sent : OutboxValue = with_envelope one out in
     let bytes : spelling (saying node.header (decided_message (i, v)))
     ≡ spelling (saying was.header (decided_message (i, v))) =
     ap (λ (w : HeaderValue). spelling (saying w (decided_message (i, v)))) same in
-    subst (λ (ls : List LetterValue). ActsSafely m (Chooses i v) node node out (lettered out ls))
-    (append_assoc out.letters (one ∷ []) (map (letter_to was (decided_message (i, v))) nodes))
+    subst (λ (ls : List EnvelopeValue). ActsSafely m (Chooses i v) node node out (enveloped out ls))
+    (append_assoc out.envelopes (one ∷ []) (map (envelope_to was (decided_message (i, v))) nodes))
     (then_goes_on m (Chooses i v) node node node out sent
-    (with_letters (map (letter_to was (decided_message (i, v))) nodes) sent)
+    (with_envelopes (map (envelope_to was (decided_message (i, v))) nodes) sent)
     (subst (λ (bs : List ℕ). ActsSafely m (Chooses i v) node node out
-    (with_letter (record { to = to_node was k; bytes = bs }) out)) bytes
+    (with_envelope (record { to = to_node was k; bytes = bs }) out)) bytes
     (says m (Chooses i v) node out (to_node was k) (decided_message (i, v))
     (subst (λ (w : HeaderValue). IsMessage (saying w (decided_message (i, v)))) (sym same) fits) tt (λ e. tt)
     (λ h n loose s heard. (
@@ -361,22 +362,23 @@ runs_header m old before new after (goes_on {mid} {between} runs one) =
 -- ---- in all
 
 pub decides_goes_on : (m : Meaning) (set : List Member) (i : ℕ) (v : Command) (whose : ℕ) (old learned new : NodeValue)
-    (before written ran : OutboxValue) (letters : List LetterValue) → AreMembersAt old.learner.whole.roster i set
-    → AreDecidedLetters old (i, v) letters
+    (before written ran : OutboxValue) (envelopes : List EnvelopeValue) → AreMembersAt old.learner.whole.roster i set
+    → AreDecidedEnvelopes old (i, v) envelopes
     → Learns (i, v) old (with_note (note.Counted whose i set v) before) learned written → Runs m learned written new ran
     → ActsSafely m (Chooses i v) old learned (with_note (note.Counted whose i set v) before) written
     → ActsSafely m (λ h. Unit {0}) learned new written ran
-    → ActsSafely m (Chooses i v) old new before (with_letters letters ran)
-decides_goes_on m set i v whose old learned new before written ran letters at news learns runs f g =
+    → ActsSafely m (Chooses i v) old new before (with_envelopes envelopes ran)
+decides_goes_on m set i v whose old learned new before written ran envelopes at news learns runs f g =
     let noted : OutboxValue = with_note (note.Counted whose i set v) before in
     let same : new.header ≡ old.header = runs_header m learned written new ran runs
     ∙ learns_header (i, v) old noted learned written learns in
-    then_goes_on m (Chooses i v) old old new before noted (with_letters letters ran)
+    then_goes_on m (Chooses i v) old old new before noted (with_envelopes envelopes ran)
     (notes_counted m old before whose i set v at)
-    (then_goes_on m (Chooses i v) old learned new noted written (with_letters letters ran) f
-    (then_goes_on m (Chooses i v) learned new new written ran (with_letters letters ran)
-    (unheard m (Chooses i v) learned new written ran g)
-    (subst (λ (ls : List LetterValue). ActsSafely m (Chooses i v) new new ran (with_letters ls ran)) (sym news.comes_to)
+    (then_goes_on m (Chooses i v) old learned new noted written (with_envelopes envelopes ran) f
+    (then_goes_on m (Chooses i v) learned new new written ran (with_envelopes envelopes ran)
+    (yet_to_accept m (Chooses i v) learned new written ran g)
+    (subst (λ (ls : List EnvelopeValue). ActsSafely m (Chooses i v) new new ran (with_envelopes ls ran))
+    (sym news.comes_to)
     (decided_go_on m i v old new ran news.nodes same news.fits))))
 
 pub only_heard_goes_on : (m : Meaning) (from : ℕ) (x : Vote) (old new : NodeValue) (out : OutboxValue)

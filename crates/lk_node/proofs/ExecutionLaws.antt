@@ -31,7 +31,7 @@ use Rattle.lk_learner.specs.Learners.{LearnerValue, IsLearner, executed, IsNext,
 use Rattle.lk_learner.specs.Pairs.{without}
 use Rattle.lk_learner.proofs.Learnerships.{ran_moves, advanced_follows, next_stands, running_changes, served_stands}
 use Rattle.lk_node_interface.specs.KeptReplies.{session_reply, session_by}
-use Rattle.lk_node_interface.specs.Outboxes.{OutboxValue, with_note, with_letter}
+use Rattle.lk_node_interface.specs.Outboxes.{OutboxValue, with_note, with_envelope}
 use Rattle.lk_node_interface.specs.Saying.{saying}
 use Rattle.lk_node_interface.specs.declared.note.Note.TheVariants as note
 use Rattle.lk_node_interface.specs.declared.to.To.TheVariants as to
@@ -319,7 +319,7 @@ tells_client m Heard node out s number le at fits = by_test (nat_lt number s.num
 
     by_test : (below : Bool) → nat_lt number s.number ≡ below → IsMessage (saying node.header (message below))
         → ActsSafely m Heard node node out
-        (with_letter (record { to = to.Client s.client; bytes = spelling (saying node.header (message below)) }) out)
+        (with_envelope (record { to = to.Client s.client; bytes = spelling (saying node.header (message below)) }) out)
     by_test true e f = says m Heard node out (to.Client s.client) (message true) f tt (λ e. tt) (λ h n loose k heard.
         let w : PaxosState = k.holding.paxos in (
           tt,

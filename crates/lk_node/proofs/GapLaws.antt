@@ -17,8 +17,8 @@ use Rattle.lk_learner.specs.Following.{AgreesWithList}
 use Rattle.lk_learner.specs.Learners.{LearnerValue, decided_from, wanted}
 use Rattle.lk_learner.specs.Parts.{start_of}
 use Rattle.lk_learner.proofs.Learnerships.{served_chosen, parts_slice}
-use Rattle.lk_node_interface.specs.Letters.{LetterValue}
-use Rattle.lk_node_interface.specs.Outboxes.{OutboxValue, nothing, with_letter}
+use Rattle.lk_node_interface.specs.Envelopes.{EnvelopeValue}
+use Rattle.lk_node_interface.specs.Outboxes.{OutboxValue, nothing, with_envelope}
 use Rattle.lk_node_interface.specs.Saying.{saying}
 use Rattle.lk_node_interface.specs.declared.to.To.{To}
 use Rattle.lk_node.specs.CatchingUp.{sending_parts, FeedsParts, Feeds, AsksOn, ClosesGap, HandlesNack, following}
@@ -29,11 +29,11 @@ use Rattle.lk_node.specs.Replying.{SaysAlone}
 use Rattle.lk_node.specs.Saying.{to_node}
 use Rattle.lk_node.specs.BorneOut.{BearsOutMessage}
 use Rattle.lk_node.specs.SafeSteps.{IsSafeStep, ActsSafely}
-use Rattle.lk_node.specs.Telling.{letter_to}
+use Rattle.lk_node.specs.Telling.{envelope_to}
 use Rattle.lk_node.specs.Yielding.{with_round, seeing}
 use Rattle.lk_node.proofs.Changing.{alike_goes_on, yielded_goes_on}
 use Rattle.lk_node.proofs.Lists.{contains_more}
-use Rattle.lk_node.proofs.ManyLetters.{lettered}
+use Rattle.lk_node.proofs.ManyEnvelopes.{enveloped}
 use Rattle.lk_node.proofs.SafeSteps.{rests_here, then_goes_on, says}
 
 -- nothing is done, and nothing comes of it
@@ -99,13 +99,15 @@ sends_parts : (m : Meaning) (Heard : History → Type 0) (node : NodeValue) (oth
     × (p.bytes ≡ take (length p.bytes) (drop p.offset node.learner.snapshot)))
     → ActsSafely m Heard node node out (sending_parts node other ps out)
 sends_parts m Heard node other [] out fits slices =
-    subst (λ (ls : List LetterValue). ActsSafely m Heard node node out (lettered out ls)) (sym (append-nil out.letters))
+    subst (λ (ls : List EnvelopeValue). ActsSafely m Heard node node out (enveloped out ls))
+    (sym (append-nil out.envelopes))
     (rests_here m Heard node out)
 sends_parts m Heard node other (p ∷ ps) out fits slices =
-    let one : LetterValue = letter_to node (kinds.Part p) other in
-    subst (λ (ls : List LetterValue). ActsSafely m Heard node node out (lettered out ls))
-    (append_assoc out.letters (one ∷ []) (map (λ (q : PartValue). letter_to node (kinds.Part q) other) ps))
-    (then_goes_on m Heard node node node out (with_letter one out) (sending_parts node other ps (with_letter one out))
+    let one : EnvelopeValue = envelope_to node (kinds.Part p) other in
+    subst (λ (ls : List EnvelopeValue). ActsSafely m Heard node node out (enveloped out ls))
+    (append_assoc out.envelopes (one ∷ []) (map (λ (q : PartValue). envelope_to node (kinds.Part q) other) ps))
+    (then_goes_on m Heard node node node out (with_envelope one out) (sending_parts node other ps
+    (with_envelope one out))
     (says m Heard node out (to_node node other) (kinds.Part p) (fits p (0, omega arith, refl)) tt
     (λ e. tt) (λ h n loose s heard.
     let w : PaxosState = s.holding.paxos in (
@@ -116,7 +118,7 @@ sends_parts m Heard node other (p ∷ ps) out fits slices =
         bears = part_borne m h w.done w.pairs node.learner p s.held.follows (slices p (0, omega arith, refl));
       },
     )))
-    (sends_parts m Heard node other ps (with_letter one out) (λ q c. fits q (contains_more p ps q c))
+    (sends_parts m Heard node other ps (with_envelope one out) (λ q c. fits q (contains_more p ps q c))
     (λ q c. slices q (contains_more p ps q c))))
 
 feeds_parts_goes_on : (m : Meaning) (Heard : History → Type 0) (node : NodeValue) (other offset : ℕ)

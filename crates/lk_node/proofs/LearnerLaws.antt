@@ -147,16 +147,17 @@ abbrev pub Chooses : ℕ → Command → History → Type 0
 Chooses i v h = ChosenAt h.genesis h.sent i v
 
 -- it heard no more than what it needs
-pub unheard : (m : Meaning) (Heard : History → Type 0) (old new : NodeValue) (before after : OutboxValue)
+pub yet_to_accept : (m : Meaning) (Heard : History → Type 0) (old new : NodeValue) (before after : OutboxValue)
     → ActsSafely m (λ h. Unit {0}) old new before after → ActsSafely m Heard old new before after
-unheard m Heard old new before after f =
+yet_to_accept m Heard old new before after f =
     heard_goes_on m Heard (λ h. Unit {0}) old new before after (λ h n loose s heard. tt) f
 
 pub pair_goes_on : (m : Meaning) (i : ℕ) (v : Command) (old mid new : NodeValue) (before between after : OutboxValue)
     → ActsSafely m (Chooses i v) old mid before between
     → ActsSafely m (λ h. Unit {0}) mid new between after → ActsSafely m (Chooses i v) old new before after
 pair_goes_on m i v old mid new before between after f g =
-    then_goes_on m (Chooses i v) old mid new before between after f (unheard m (Chooses i v) mid new between after g)
+    then_goes_on m (Chooses i v) old mid new before between after f (yet_to_accept m (Chooses i v) mid new
+    between after g)
 
 -- a command whose position is not wanted is stepped over, and what can be is executed: so it is taken
 pub stepped_over : (m : Meaning) (position : ℕ) (commands : List Command) (left : Option (List Command))
@@ -171,7 +172,7 @@ stepped_over m position commands (Some others) old new before after other runs g
       command = skips.0;
       stands = skips.1;
       learns = record { learned = old; written = before; learns = inr (other, refl, refl); runs = runs };
-      goes_on = unheard m (Chooses position skips.0) old new before after goes_on;
+      goes_on = yet_to_accept m (Chooses position skips.0) old new before after goes_on;
     }
 
 -- ---- pairs that are told

@@ -1,6 +1,6 @@
 mod Lists
 mod SafeSteps
-mod ManyLetters
+mod ManyEnvelopes
 mod Changing
 mod TermLaws
 mod Proposals

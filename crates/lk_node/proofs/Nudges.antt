@@ -11,7 +11,7 @@ use Rattle.lk_node.specs.SafeSteps.{ActsSafely}
 use Rattle.lk_node.proofs.Changing.{alike_goes_on}
 use Rattle.lk_node.proofs.GapLaws.{idles}
 use Rattle.lk_node.proofs.InstallLaws.{throws_goes_on}
-use Rattle.lk_node.proofs.ManyLetters.{says_all}
+use Rattle.lk_node.proofs.ManyEnvelopes.{says_all}
 use Rattle.lk_node.proofs.SafeSteps.{then_goes_on}
 
 -- ---- what is forgotten

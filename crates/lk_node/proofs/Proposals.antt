@@ -46,7 +46,7 @@ use Rattle.lk_node.specs.SafeSteps.{IsSafeStep, ActsSafely}
 use Rattle.lk_node.specs.Telling.{telling}
 use Rattle.lk_node.proofs.Changing.{change_goes_on}
 use Rattle.lk_node.proofs.Lists.{only}
-use Rattle.lk_node.proofs.ManyLetters.{says_all}
+use Rattle.lk_node.proofs.ManyEnvelopes.{says_all}
 use Rattle.lk_node.proofs.SafeSteps.{then_goes_on}
 use Rattle.lk_node.proofs.TermLaws.{term_followed, some_value}
 

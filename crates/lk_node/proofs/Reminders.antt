@@ -11,7 +11,7 @@ use Rattle.lk_agreement_laws.specs.Acceptors.{AcceptorState}
 use Rattle.std.proofs.lemmas.Option.{slice_get_within}
 use Rattle.lk_members.specs.Effects.{Command}
 use Rattle.lk_members.specs.Windows.{RosterValue}
-use Rattle.lk_leader.specs.Acceptances.{IsOpen, unheard}
+use Rattle.lk_leader.specs.Acceptances.{IsOpen, yet_to_accept}
 use Rattle.lk_leader.specs.Terms.{ProposalValue, TermValue, LeaderValue, proposal_at}
 use Rattle.lk_learner.specs.Learners.{executed}
 use Rattle.lk_node_interface.specs.Outboxes.{OutboxValue}
@@ -21,7 +21,7 @@ use Rattle.lk_node.specs.Promised.{IsTermPromised}
 use Rattle.lk_node.specs.Reminding.{IsTermOf, TellsThese, AsksAgain, vote_for, OffersAgain, TellsLead}
 use Rattle.lk_node.specs.SafeSteps.{ActsSafely}
 use Rattle.lk_node.proofs.Lists.{contains_more}
-use Rattle.lk_node.proofs.ManyLetters.{says_all}
+use Rattle.lk_node.proofs.ManyEnvelopes.{says_all}
 use Rattle.lk_node.proofs.Proposals.{accept_may}
 use Rattle.lk_node.proofs.SafeSteps.{rests_here}
 
@@ -85,7 +85,8 @@ offer_goes_on m Heard node b i before out promised is (inl offers) =
     let same : o.term.ballot ≡ b = ap (λ (k : TermValue). k.ballot) (some_value o.term is.0 (sym o.current ∙ is.1))
     ∙ is.2 in
     subst (ActsSafely m Heard node node before) (sym offers.2.1)
-    (says_all m Heard node before (unheard o.set offers.0.accepted) (kinds.Accept (vote_for b i offers.0)) offers.2.0
+    (says_all m Heard node before (yet_to_accept o.set offers.0.accepted)
+    (kinds.Accept (vote_for b i offers.0)) offers.2.0
     (term_promised node b promised is) (λ e. tt)
     (λ out h n loose s heard. accept_may m h n loose node out s o.term offers.0 (vote_for b i offers.0) o.current at.0
     (λ j. record { position = sym at.1 j; ballot = sym same j; command = offers.0.command })))
@@ -97,7 +98,7 @@ pub offered : (node : NodeValue) (b : BallotValue) (i : ℕ) (p : ProposalValue)
     (accepted nodes : List ℕ) (v : Command) (before out : OutboxValue)
     → IsOpen node.leader node.learner.whole.roster i p
     → slice_get node.learner.whole.roster.sets (i - (node.learner.whole.roster.executed + 1)) ≡ Some set
-    → p.command ≡ v → p.accepted ≡ accepted → nodes ≡ unheard set accepted
+    → p.command ≡ v → p.accepted ≡ accepted → nodes ≡ yet_to_accept set accepted
     → TellsThese node nodes (kinds.Accept (record { position = i; ballot = b; command = v })) before out
     → OffersAgain node b i before out
 offered node b i p set accepted nodes v before out open_there at command heard is tells =
@@ -108,7 +109,7 @@ offered node b i p set accepted nodes v before out open_there at command heard i
       open_there,
       subst₂ (λ (ns : List ℕ) (w : Command). TellsThese node ns
           (kinds.Accept (record { position = i; ballot = b; command = w })) before out)
-          (is ∙ (λ j. unheard (one j) (sym heard j))) (sym command) tells,
+          (is ∙ (λ j. yet_to_accept (one j) (sym heard j))) (sym command) tells,
     )
 
 -- what is open stands in the window

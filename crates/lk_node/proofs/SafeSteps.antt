@@ -12,8 +12,8 @@ use Rattle.lk_state.specs.Meanings.{Meaning}
 use Rattle.lk_agreement_laws.specs.Acceptors.{Covers}
 use Rattle.lk_agreement_laws.specs.Datagrams.{said_by}
 use Rattle.lk_agreement_laws.specs.Nodes.{MaySend}
-use Rattle.lk_node_interface.specs.Letters.{LetterValue, datagram_of, batch_of}
-use Rattle.lk_node_interface.specs.Outboxes.{OutboxValue, nothing, with_letter, with_note}
+use Rattle.lk_node_interface.specs.Envelopes.{EnvelopeValue, datagram_of, batch_of}
+use Rattle.lk_node_interface.specs.Outboxes.{OutboxValue, nothing, with_envelope, with_note}
 use Rattle.lk_node_interface.specs.Saying.{saying}
 use Rattle.lk_node_interface.specs.declared.note.Note.{Note}
 use Rattle.lk_node_interface.specs.declared.to.To.{To}
@@ -22,7 +22,7 @@ use Rattle.lk_node.specs.Histories.{History, Genesis, IsHeard}
 use Rattle.lk_node.specs.Leavings.{header_of}
 use Rattle.lk_node.specs.NodeValue.{NodeValue}
 use Rattle.lk_node.specs.BorneOut.{MessageIsBorneOut, IsOfNode, IsBorneOut}
-use Rattle.lk_node.specs.SafeSteps.{IsNeitherPromiseNorVote, IsCoveredLetter, IsSafeStep, ActsSafely}
+use Rattle.lk_node.specs.SafeSteps.{IsNeitherPromiseNorVote, IsCoveredEnvelope, IsSafeStep, ActsSafely}
 use Rattle.lk_node.specs.Steps.{WasHeard}
 use Rattle.lk_node.proofs.Lists.{only}
 
@@ -46,38 +46,38 @@ pub heard_goes_on : (m : Meaning) (Heard Had : History → Type 0) (old new : No
 heard_goes_on m Heard Had old new before after has f =
     record { binds = f.binds; continues = λ h n loose s heard. f.continues h n loose s (has h n loose s heard) }
 
--- the datagram of a letter is the node's
-pub letter_spelled : (genesis : Genesis) (n : ℕ) (whose : HeaderValue) (message : NodeMessage) (bytes : List ℕ)
+-- the datagram of an envelope is the node's
+pub envelope_spelled : (genesis : Genesis) (n : ℕ) (whose : HeaderValue) (message : NodeMessage) (bytes : List ℕ)
     → whose ≡ header_of genesis n → IsMessage (saying whose message) → bytes ≡ spelling (saying whose message)
     → Spells (said_by genesis n message) bytes
-letter_spelled genesis n whose message bytes is fits spelled =
+envelope_spelled genesis n whose message bytes is fits spelled =
     subst (λ (w : HeaderValue). IsMessage (saying w message) × (bytes ≡ spelling (saying w message))) is (fits, spelled)
 
-pub mapped_append : (n : ℕ) (xs : List LetterValue) (l : LetterValue)
+pub mapped_append : (n : ℕ) (xs : List EnvelopeValue) (l : EnvelopeValue)
     → batch_of n (xs ++ l ∷ []) ≡ batch_of n xs ++ datagram_of n l ∷ []
 mapped_append n [] l = refl
 mapped_append n (x ∷ xs) l = ap (λ ds. datagram_of n x ∷ ds) (mapped_append n xs l)
 
-abbrev letter : NodeValue → To → NodeMessage → LetterValue
-letter node to message = record { to = to; bytes = spelling (saying node.header message) }
+abbrev envelope : NodeValue → To → NodeMessage → EnvelopeValue
+envelope node to message = record { to = to; bytes = spelling (saying node.header message) }
 
--- a letter of a message that the node may send, and that its acceptor covers
+-- an envelope of a message that the node may send, and that its acceptor covers
 pub says : (m : Meaning) (Heard : History → Type 0) (node : NodeValue) (out : OutboxValue) (to : To)
     (message : NodeMessage) → IsMessage (saying node.header message) → Covers node.acceptor.state message
     → (out.rebase ≡ true → IsNeitherPromiseNorVote message)
     → ((h : History) (n : ℕ) (loose : List Entry) (s : IsSafeStep m h n loose node out) → Heard h
     → MaySend h.genesis h.sent s.holding.paxos message × MessageIsBorneOut m h message)
-    → ActsSafely m Heard node node out (with_letter (letter node to message) out)
+    → ActsSafely m Heard node node out (with_envelope (envelope node to message) out)
 says m Heard node out to message fits covers neither may = record {
   binds = λ first b. record {
     header = b.header;
     written = b.written;
     unsynced = b.unsynced;
     still = b.still;
-    tells = λ l c. elim (Contains-append_cases out.letters (letter node to message ∷ []) l c) [
+    tells = λ l c. elim (Contains-append_cases out.envelopes (envelope node to message ∷ []) l c) [
       | inl before ↦ b.tells l before
-      | inr now ↦ subst (IsCoveredLetter node.header node.acceptor.state out.rebase) (only
-          (letter node to message) l now)
+      | inr now ↦ subst (IsCoveredEnvelope node.header node.acceptor.state out.rebase) (only
+          (envelope node to message) l now)
           (record { message = message; fits = fits; bytes = refl; covers = covers; rebased = neither })
     ];
   };
@@ -90,15 +90,16 @@ says m Heard node out to message fits covers neither may = record {
     rests = s.rests;
     known = s.known;
     known_unsynced = s.known_unsynced;
-    may = λ d c. elim (Contains-append_cases (batch_of n out.letters) (datagram_of n (letter node to message) ∷ []) d
-        (subst (λ ds. Contains ds d) (mapped_append n out.letters (letter node to message)) c)) [
+    may = λ d c. elim (Contains-append_cases (batch_of n out.envelopes)
+        (datagram_of n (envelope node to message) ∷ []) d
+        (subst (λ ds. Contains ds d) (mapped_append n out.envelopes (envelope node to message)) c)) [
           | inl before ↦ s.may d before
           | inr now ↦ subst (MayGo m h n s.holding.paxos)
-              (only (datagram_of n (letter node to message)) d now) (record {
+              (only (datagram_of n (envelope node to message)) d now) (record {
                 message = message;
                 from = refl;
                 spelled =
-                    letter_spelled h.genesis n node.header message
+                    envelope_spelled h.genesis n node.header message
                     (spelling (saying node.header message)) s.whose fits refl;
                 may = (may h n loose s heard).0;
                 borne_out = (may h n loose s heard).1;

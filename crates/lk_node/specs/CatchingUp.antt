@@ -9,17 +9,17 @@ use Rattle.lk_messages.specs.declared.message.Nack.{Nack}
 use Rattle.lk_messages.specs.declared.message.NodeMessage.TheVariants as kinds
 use Rattle.lk_learner.specs.Learners.{executed, IsRetained, decided_from, wanted}
 use Rattle.lk_learner.specs.Parts.{start_of, AreParts}
-use Rattle.lk_node_interface.specs.Outboxes.{OutboxValue, nothing, with_letters}
+use Rattle.lk_node_interface.specs.Outboxes.{OutboxValue, nothing, with_envelopes}
 use Rattle.lk_node_interface.specs.Saying.{saying}
 use Rattle.lk_node.specs.NodeValue.{NodeValue}
 use Rattle.lk_node.specs.Replying.{SaysAlone}
 use Rattle.lk_node.specs.Saying.{to_node}
-use Rattle.lk_node.specs.Telling.{letter_to}
+use Rattle.lk_node.specs.Telling.{envelope_to}
 use Rattle.lk_node.specs.Yielding.{seeing}
 
 -- the other node is sent these parts of a snapshot, in order
 abbrev pub sending_parts : NodeValue → ℕ → List PartValue → OutboxValue → OutboxValue
-sending_parts node other parts out = with_letters (map (λ p. letter_to node (kinds.Part p) other) parts) out
+sending_parts node other parts out = with_envelopes (map (λ p. envelope_to node (kinds.Part p) other) parts) out
 
 -- it is sent the snapshot's text from the offset on, or from its start if the offset is not below its length
 pub record FeedsParts (node : NodeValue) (other offset : ℕ) (out : OutboxValue) : Type 0 where

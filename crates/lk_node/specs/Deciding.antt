@@ -7,15 +7,15 @@ use Rattle.lk_state.specs.Meanings.{Meaning}
 use Rattle.lk_leader.specs.Acceptances.{IsVoteFor, heard_at, GainsMajority}
 use Rattle.lk_leader.specs.Terms.{TermValue, ProposalValue, with_term, with_proposals}
 use Rattle.lk_learner.specs.Learners.{Pair}
-use Rattle.lk_node_interface.specs.Letters.{LetterValue}
+use Rattle.lk_node_interface.specs.Envelopes.{EnvelopeValue}
 use Rattle.lk_node_interface.specs.DecidedMessages.{decided_message}
-use Rattle.lk_node_interface.specs.Outboxes.{OutboxValue, nothing, with_note, with_letters}
+use Rattle.lk_node_interface.specs.Outboxes.{OutboxValue, nothing, with_note, with_envelopes}
 use Rattle.lk_node_interface.specs.Saying.{saying}
 use Rattle.lk_node_interface.specs.declared.note.Note.TheVariants as note
 use Rattle.lk_node.specs.Executing.{RunsAll}
 use Rattle.lk_node.specs.Learning.{Learns}
 use Rattle.lk_node.specs.NodeValue.{NodeValue}
-use Rattle.lk_node.specs.Telling.{AreOthers, letter_to}
+use Rattle.lk_node.specs.Telling.{AreOthers, envelope_to}
 
 -- ---- the vote
 
@@ -53,12 +53,12 @@ HandlesVote from x old new (Some set) =
 
 -- ---- the pair is decided
 
--- letters to the window's other nodes that tell them of the pair
-pub record AreDecidedLetters (node : NodeValue) (p : Pair) (letters : List LetterValue) : Type 0 where
+-- envelopes to the window's other nodes that tell them of the pair
+pub record AreDecidedEnvelopes (node : NodeValue) (p : Pair) (envelopes : List EnvelopeValue) : Type 0 where
   pub nodes : List ℕ
   pub others : AreOthers node nodes
   pub fits : IsMessage (saying node.header (decided_message p))
-  pub comes_to : letters ≡ map (letter_to node (decided_message p)) nodes
+  pub comes_to : envelopes ≡ map (envelope_to node (decided_message p)) nodes
 
 -- The pair is decided, by a majority of this set: that is noted, the pair is learned, everything that can be is
 -- executed, and the other nodes of the earlier window are told.
@@ -69,9 +69,9 @@ pub record Decides (m : Meaning) (set : List Member) (p : Pair) (old : NodeValue
   pub learns : Learns p old (with_note (note.Counted old.header.node p.0 set p.1) before) learned written
   pub ran : OutboxValue
   pub runs : RunsAll m learned written new ran
-  pub letters : List LetterValue
-  pub told : AreDecidedLetters old p letters
-  pub comes_to : after ≡ with_letters letters ran
+  pub envelopes : List EnvelopeValue
+  pub told : AreDecidedEnvelopes old p envelopes
+  pub comes_to : after ≡ with_envelopes envelopes ran
 
 -- a node was heard to accept: if with that a majority has, the pair is decided; otherwise nothing follows
 abbrev pub HandlesAccepted : Meaning → ℕ → Vote → NodeValue → NodeValue → OutboxValue → Type 0

@@ -12,7 +12,7 @@ use Rattle.lk_leader.specs.Terms.{has_term}
 use Rattle.lk_leader.specs.Waits.{waiting_of, number_up_to, left_by}
 use Rattle.lk_learner.specs.Learners.{executed, IsNext, advanced}
 use Rattle.lk_node_interface.specs.KeptReplies.{session_reply, session_by}
-use Rattle.lk_node_interface.specs.Outboxes.{OutboxValue, with_letter, with_note}
+use Rattle.lk_node_interface.specs.Outboxes.{OutboxValue, with_envelope, with_note}
 use Rattle.lk_node_interface.specs.Saying.{saying}
 use Rattle.lk_node_interface.specs.declared.note.Note.TheVariants as note
 use Rattle.lk_node_interface.specs.declared.to.To.TheVariants as to
@@ -26,11 +26,11 @@ use Rattle.lk_node.specs.Yielding.{without_term}
 abbrev pub waiting_number : Session → NodeValue → Option ℕ
 waiting_number s node = number_up_to s.number (waiting_of s.client node.leader.waiting)
 
--- with a letter to the client, if its request of this number waits
+-- with an envelope to the client, if its request of this number waits
 abbrev pub with_session_reply : HeaderValue → Session → Option ℕ → OutboxValue → OutboxValue
 with_session_reply whose s None out = out
 with_session_reply whose s (Some number) out =
-    with_letter (record { to = to.Client s.client; bytes = spelling (saying whose (session_reply s number)) }) out
+    with_envelope (record { to = to.Client s.client; bytes = spelling (saying whose (session_reply s number)) }) out
 
 -- the client's requests up to the session's wait no longer
 abbrev pub no_longer_waiting : Session → NodeValue → NodeValue

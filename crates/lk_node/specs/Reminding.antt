@@ -6,7 +6,7 @@ use Rattle.lk_types.specs.declared.vote.Vote.{Vote}
 use Rattle.lk_messages.specs.Grammar.{IsMessage}
 use Rattle.lk_messages.specs.declared.message.NodeMessage.{NodeMessage}
 use Rattle.lk_messages.specs.declared.message.NodeMessage.TheVariants as kinds
-use Rattle.lk_leader.specs.Acceptances.{IsOpen, unheard}
+use Rattle.lk_leader.specs.Acceptances.{IsOpen, yet_to_accept}
 use Rattle.lk_leader.specs.Terms.{ProposalValue, TermValue, LeaderValue, silent_among}
 use Rattle.lk_learner.specs.Learners.{executed, alpha}
 use Rattle.lk_node_interface.specs.Outboxes.{OutboxValue, nothing}
@@ -47,7 +47,7 @@ vote_for b i p = record { position = i; ballot = b; command = p.command }
 abbrev pub OffersAgain : NodeValue → BallotValue → ℕ → OutboxValue → OutboxValue → Type 0
 OffersAgain node b i before out =
     ((p : ProposalValue) × (o : IsOpen node.leader node.learner.whole.roster i p)
-    × TellsThese node (unheard o.set p.accepted) (kinds.Accept (vote_for b i p)) before out)
+    × TellsThese node (yet_to_accept o.set p.accepted) (kinds.Accept (vote_for b i p)) before out)
     ⊎ (((p : ProposalValue) → IsOpen node.leader node.learner.whole.roster i p → ⊥) × (out ≡ before))
 
 -- the same at the position this far after the next one, if there is one

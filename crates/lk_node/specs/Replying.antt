@@ -2,7 +2,7 @@
 use Rattle.std.specs.Prelude.{◌≡◌}
 use Rattle.lk_messages.specs.Grammar.{spelling, IsMessage}
 use Rattle.lk_messages.specs.declared.message.NodeMessage.{NodeMessage}
-use Rattle.lk_node_interface.specs.Outboxes.{OutboxValue, nothing, with_letter}
+use Rattle.lk_node_interface.specs.Outboxes.{OutboxValue, nothing, with_envelope}
 use Rattle.lk_node_interface.specs.Saying.{saying}
 use Rattle.lk_node_interface.specs.declared.to.To.{To}
 use Rattle.lk_node.specs.NodeValue.{NodeValue}
@@ -11,4 +11,4 @@ use Rattle.lk_node.specs.NodeValue.{NodeValue}
 abbrev pub SaysAlone : NodeValue → To → NodeMessage → OutboxValue → Type 0
 SaysAlone node to message out =
     IsMessage (saying node.header message)
-    × (out ≡ with_letter (record { to = to; bytes = spelling (saying node.header message) }) nothing)
+    × (out ≡ with_envelope (record { to = to; bytes = spelling (saying node.header message) }) nothing)

@@ -5,7 +5,7 @@ use Rattle.lk_messages.specs.declared.message.NodeMessage.{NodeMessage}
 use Rattle.lk_acceptor.specs.AcceptorValue.{AcceptorValue}
 use Rattle.lk_acceptor.specs.declared.response.Response.{Response}
 use Rattle.lk_node_interface.specs.Grants.{is_granted}
-use Rattle.lk_node_interface.specs.Outboxes.{OutboxValue, nothing, with_letter, with_optional}
+use Rattle.lk_node_interface.specs.Outboxes.{OutboxValue, nothing, with_envelope, with_optional}
 use Rattle.lk_node_interface.specs.Saying.{saying}
 use Rattle.lk_node.specs.NodeValue.{NodeValue}
 use Rattle.lk_node.specs.Saying.{to_node}
@@ -20,7 +20,7 @@ replied reply node = yielded node.acceptor.state.promised (if is_granted reply t
 
 -- the response's entry is written, and its reply goes to the node that asked
 abbrev pub reply_to : NodeValue → ℕ → Response → OutboxValue
-reply_to node from r = with_letter (record { to = to_node node from; bytes = spelling (saying node.header r.reply) })
+reply_to node from r = with_envelope (record { to = to_node node from; bytes = spelling (saying node.header r.reply) })
     (with_optional r.entry nothing)
 
 -- the node's acceptor gives this response, and its reply fits into a datagram

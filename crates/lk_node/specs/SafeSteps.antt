@@ -9,7 +9,7 @@ use Rattle.lk_store_format.specs.Values.{HeaderValue}
 use Rattle.lk_state.specs.Meanings.{Meaning}
 use Rattle.lk_agreement_laws.specs.Acceptors.{AcceptorState, Covers}
 use Rattle.lk_acceptor.specs.States.{acceptor_with}
-use Rattle.lk_node_interface.specs.Letters.{LetterValue, batch_of}
+use Rattle.lk_node_interface.specs.Envelopes.{EnvelopeValue, batch_of}
 use Rattle.lk_node_interface.specs.Outboxes.{OutboxValue}
 use Rattle.lk_node_interface.specs.Saying.{saying}
 use Rattle.lk_node_interface.specs.declared.note.Note.{Note}
@@ -28,10 +28,10 @@ IsNeitherPromiseNorVote (kinds.Promise p) = ⊥
 IsNeitherPromiseNorVote (kinds.Accepted x) = ⊥
 IsNeitherPromiseNorVote _ = Unit {0}
 
--- the letter spells a message of a node of this header, which what its acceptor holds covers; if the step rebases, it
+-- the envelope spells a message of a node of this header, which what its acceptor holds covers; if the step rebases, it
 -- is neither a promise nor a vote
-pub record IsCoveredLetter (whose : HeaderValue) (acceptor : AcceptorState) (rebase : Bool)
-    (l : LetterValue) : Type 0 where
+pub record IsCoveredEnvelope (whose : HeaderValue) (acceptor : AcceptorState) (rebase : Bool)
+    (l : EnvelopeValue) : Type 0 where
   pub message : NodeMessage
   pub fits : IsMessage (saying whose message)
   pub bytes : l.bytes ≡ spelling (saying whose message)
@@ -44,16 +44,17 @@ with_entries [] s = s
 with_entries (e ∷ es) s = with_entries es (acceptor_with e s)
 
 -- Whatever has happened: since the node was this first one, the entries tell what its acceptor now holds, only decided
--- commands are unsynced, and the acceptor covers what the letters tell. If the step rebases, the acceptor is
+-- commands are unsynced, and the acceptor covers what the envelopes tell. If the step rebases, the acceptor is
 -- unchanged.
 pub record Binds (first now : NodeValue) (out : OutboxValue) : Type 0 where
   pub header : now.header ≡ first.header
   pub written : now.acceptor.state ≡ with_entries out.entries first.acceptor.state
   pub unsynced : out.sync ≡ false → AllByRecursion IsDecidedEntry out.entries
   pub still : out.rebase ≡ true → now.acceptor.state ≡ first.acceptor.state
-  pub tells : (l : LetterValue) → Contains out.letters l → IsCoveredLetter now.header now.acceptor.state out.rebase l
+  pub tells : (l : EnvelopeValue) → Contains out.envelopes l → IsCoveredEnvelope now.header
+      now.acceptor.state out.rebase l
 
--- In this history: what the node holds fits, and permits the letters; what it writes rests on what was sent, and a
+-- In this history: what the node holds fits, and permits the envelopes; what it writes rests on what was sent, and a
 -- chosen list bears out each note. It knows what it writes unsynced, and what was unsynced before.
 pub record IsSafeStep (m : Meaning) (h : History) (n : ℕ) (loose : List Entry) (now : NodeValue)
     (out : OutboxValue) : Type 0 where
@@ -65,7 +66,7 @@ pub record IsSafeStep (m : Meaning) (h : History) (n : ℕ) (loose : List Entry)
   pub rests : AllByRecursion (Rests h) out.entries
   pub known : AllByRecursion (IsKnown holding.paxos) loose
   pub known_unsynced : out.sync ≡ false → AllByRecursion (IsKnown holding.paxos) out.entries
-  pub may : (d : Datagram) → Contains (batch_of n out.letters) d → MayGo m h n holding.paxos d
+  pub may : (d : Datagram) → Contains (batch_of n out.envelopes) d → MayGo m h n holding.paxos d
   pub noted : (x : Note) → Contains out.notes x → IsOfNode x × IsBorneOut m h x
 
 -- A part of a step continues what the parts before it did, in each history in which it heard this.

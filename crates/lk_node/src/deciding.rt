@@ -5,11 +5,11 @@ ghost use Rattle.lk_agreement_laws.specs.Chosen.{ChosenAt};
 ghost use Rattle.lk_agreement_laws.specs.Datagrams.{HasSent};
 ghost use Rattle.lk_leader.specs.Proposing.{AreMembersAt};
 ghost use Rattle.lk_node_interface.specs.Outboxes.{nothing};
-ghost use Rattle.lk_node.specs.Deciding.{HandlesVote, AreDecidedLetters, Decides, HandlesAccepted};
+ghost use Rattle.lk_node.specs.Deciding.{HandlesVote, AreDecidedEnvelopes, Decides, HandlesAccepted};
 ghost use Rattle.lk_node.specs.SafeSteps.{ActsSafely};
 
 use crate::node::Node;
-use lk_node_interface::{Letter, Note, Outbox, decided_message, letters_to};
+use lk_node_interface::{Envelope, Note, Outbox, decided_message, envelopes_to};
 use lk_state::Machine;
 use lk_types::{Command, Members, NoMemory, NodeNo, Position, Vote};
 
@@ -32,18 +32,18 @@ impl<M: Machine> Node<M> {
         Some(members.copy())
     }
 
-    // Returns a letter with a Decided of this command for each other node of the window.
-    fn decided_letters(
+    // Returns an envelope with a Decided of this command for each other node of the window.
+    fn decided_envelopes(
         &self,
         position: Position,
         command: &Command,
-    ) -> Result<Vec<Letter>, NoMemory>
-        ensures { IfOk result (λ ls. AreDecidedLetters self.now (position, command.now) ls.items) }
+    ) -> Result<Vec<Envelope>, NoMemory>
+        ensures { IfOk result (λ ls. AreDecidedEnvelopes self.now (position, command.now) ls.items) }
     {
         let others = self.others()?;
         let message = decided_message(self.alloc, position, command)?;
-        let letters = letters_to(self.alloc, &self.header, self.roster(), &others, message)?;
-        Ok(letters)
+        let envelopes = envelopes_to(self.alloc, &self.header, self.roster(), &others, message)?;
+        Ok(envelopes)
     }
 
     // Decides the command at the position, which a majority of these members has accepted: notes that, keeps and writes
@@ -63,10 +63,10 @@ impl<M: Machine> Node<M> {
     {
         out.note(Note::Counted(self.header.node(), position, members, command.copy()))?;
         // Before execution, which may move the window: they go to the nodes of the present one.
-        let letters = self.decided_letters(position, command)?;
+        let envelopes = self.decided_envelopes(position, command)?;
         self.learn(position, command, out)?;
         self.execute(out)?;
-        out.add_letters(letters)?;
+        out.add_envelopes(envelopes)?;
         Ok(())
     }
 

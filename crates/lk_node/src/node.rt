@@ -2,7 +2,7 @@
 ghost use Rattle.std.specs.Prelude.{◌≡◌, ◌∷◌, [], None, true, false, OnOk, OnErr, IsErr};
 ghost use Rattle.lk_messages.specs.Grammar.{spelling, IsMessage};
 ghost use Rattle.lk_leader.specs.Terms.{new_leader};
-ghost use Rattle.lk_node_interface.specs.Outboxes.{nothing, with_letter};
+ghost use Rattle.lk_node_interface.specs.Outboxes.{nothing, with_envelope};
 ghost use Rattle.lk_node_interface.specs.Saying.{saying};
 ghost use Rattle.lk_node.specs.Nearness.{AreNear};
 ghost use Rattle.lk_node.specs.Saying.{to_node};
@@ -11,7 +11,7 @@ use lk_acceptor::Acceptor;
 use lk_leader::Leader;
 use lk_learner::Learner;
 use lk_members::Roster;
-use lk_node_interface::{Letter, Outbox, SeenRound, TickCount, To, spelled};
+use lk_node_interface::{Envelope, Outbox, SeenRound, TickCount, To, encode};
 use lk_state::Machine;
 use lk_store_format::Header;
 use lk_types::{NoMemory, NodeNo};
@@ -118,7 +118,7 @@ impl<M: Machine> Node<M> {
         self.learner.whole().roster()
     }
 
-    // Adds a letter with this message to a node or a client.
+    // Adds an envelope with this message to a node or a client.
     pub(crate) fn send(
         &self,
         to: To,
@@ -126,15 +126,15 @@ impl<M: Machine> Node<M> {
         out: &mut Outbox,
     ) -> Result<(), NoMemory>
         ensures said { OnOk result
-            (out.new ≡ with_letter (record { to = to; bytes = spelling (saying self.now.header message) }) out.old) }
+            (out.new ≡ with_envelope (record { to = to; bytes = spelling (saying self.now.header message) }) out.old) }
         ensures fits { OnOk result (IsMessage (saying self.now.header message)) }
     {
-        let bytes = spelled(self.alloc, &self.header, message)?;
-        out.letters.push(Letter { to, bytes })?;
+        let bytes = encode(self.alloc, &self.header, message)?;
+        out.envelopes.push(Envelope { to, bytes })?;
         Ok(())
     }
 
-    // Adds a letter with this message to a node, at its port in the window.
+    // Adds an envelope with this message to a node, at its port in the window.
     pub(crate) fn send_to_node(
         &self,
         node: NodeNo,
@@ -142,7 +142,7 @@ impl<M: Machine> Node<M> {
         out: &mut Outbox,
     ) -> Result<(), NoMemory>
         ensures said { OnOk result
-            (out.new ≡ with_letter (record {
+            (out.new ≡ with_envelope (record {
               to = to_node self.now node;
               bytes = spelling (saying self.now.header message);
             }) out.old) }

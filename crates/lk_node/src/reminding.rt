@@ -6,7 +6,7 @@ ghost use Rattle.lk_node.specs.Reminding.{IsTermOf, AsksAgain, OffersAgain, Offe
 ghost use Rattle.lk_node.specs.SafeSteps.{ActsSafely};
 
 use crate::node::Node;
-use lk_leader::unheard;
+use lk_leader::yet_to_accept;
 use lk_node_interface::Outbox;
 use lk_state::Machine;
 use lk_types::{NoMemory, Position, RealBallot, Vote};
@@ -47,7 +47,7 @@ impl<M: Machine> Node<M> {
         let Some(set) = self.roster().members_at(position) else {
             return Ok(());
         };
-        let nodes = unheard(self.alloc, set, open.accepted)?;
+        let nodes = yet_to_accept(self.alloc, set, open.accepted)?;
         let command = open.command.copy();
         let vote = Vote {
             position,

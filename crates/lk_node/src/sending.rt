@@ -7,7 +7,7 @@ ghost use Rattle.lk_node.specs.Saying.{to_node};
 ghost use Rattle.lk_node.specs.Telling.{AreWindowNodes, AreOthers, telling};
 
 use crate::node::Node;
-use lk_node_interface::{Outbox, To, letters_to, others, window_nodes};
+use lk_node_interface::{Outbox, To, envelopes_to, others, window_nodes};
 use lk_state::Machine;
 use lk_types::{NoMemory, NodeNo};
 use lk_wire::NodeMessage;
@@ -27,7 +27,7 @@ impl<M: Machine> Node<M> {
         others(self.alloc, self.roster(), self.header.node())
     }
 
-    // Adds a letter with the same message to each of the nodes, in order.
+    // Adds an envelope with the same message to each of the nodes, in order.
     pub(crate) fn send_to_all(
         &self,
         nodes: &[NodeNo],
@@ -37,8 +37,8 @@ impl<M: Machine> Node<M> {
         ensures said { OnOk result (out.new ≡ telling self.now nodes.now message out.old) }
         ensures fits { OnOk result (IsMessage (saying self.now.header message)) }
     {
-        let letters = letters_to(self.alloc, &self.header, self.roster(), nodes, message)?;
-        out.add_letters(letters)?;
+        let envelopes = envelopes_to(self.alloc, &self.header, self.roster(), nodes, message)?;
+        out.add_envelopes(envelopes)?;
         Ok(())
     }
 

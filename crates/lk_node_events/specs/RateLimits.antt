@@ -1,4 +1,4 @@
--- The slot of one kind of events: what waits to be logged, and when it may be.
+-- The rate limit of one kind of events: what waits to be logged, and when it may be.
 use Rattle.std.specs.Prelude.{◌≡◌, ◌+◌, ◌⊎◌, ℕ, nat_lt, nat_le, ◌||◌, Bool, true, false, Option, Some, None, min}
 use Rattle.lk_node_events.specs.declared.event.Event.{Event}
 use Rattle.lk_node_events.specs.declared.rate_limit.Line.{Line}
@@ -24,19 +24,24 @@ empty = record { newest = None; others = 0; logged = None }
 
 -- after one event more, which is the newest then
 abbrev pub having_put : ℕ → Event → RateLimit → RateLimit
-having_put now event slot =
-    record { newest = Some (now, event); others = others_with slot.newest slot.others; logged = slot.logged }
+having_put now event rate_limit =
+    record {
+      newest = Some (now, event);
+      others = others_with rate_limit.newest rate_limit.others;
+      logged =
+          rate_limit.logged;
+    }
 
 -- after its line was logged: nothing waits
 abbrev pub having_logged : ℕ → RateLimit
 having_logged now = record { newest = None; others = 0; logged = Some now }
 
--- the line is that of the newest event of the slot, and of how many others there were, and may be logged now
-pub record IsLineOf (slot : RateLimit) (now : ℕ) (line : Line) : Type 0 where
-  pub due : is_due slot.logged now ≡ true
-  pub newest : slot.newest ≡ Some (line.time, line.event)
-  pub others : line.others ≡ slot.others
+-- the line is that of the newest event of the rate limit, and of how many others there were, and may be logged now
+pub record IsLineOf (rate_limit : RateLimit) (now : ℕ) (line : Line) : Type 0 where
+  pub due : is_due rate_limit.logged now ≡ true
+  pub newest : rate_limit.newest ≡ Some (line.time, line.event)
+  pub others : line.others ≡ rate_limit.others
 
 -- nothing waits, or no line may be logged yet
 abbrev pub Waits : RateLimit → ℕ → Type 0
-Waits slot now = (slot.newest ≡ None) ⊎ (is_due slot.logged now ≡ false)
+Waits rate_limit now = (rate_limit.newest ≡ None) ⊎ (is_due rate_limit.logged now ≡ false)

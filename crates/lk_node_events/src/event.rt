@@ -77,7 +77,7 @@ pub enum Event {
 }
 
 impl Event {
-    /// Returns the index of its kind, below `KINDS`: each kind has a slot of its own.
+    /// Returns the index of its kind, below `KINDS`: each kind has a rate limit of its own.
     pub fn kind(&self) -> usize
         ensures kind { result ≡ kind_of self.now }
         ensures few { result < kinds }

@@ -111,7 +111,7 @@ impl<C: Clock + Drop, L: Log + Drop> Events<C, L> {
 
     // Logs the waiting line of each kind, if one is due: at most one a second.
     fn log_due(&self, watch: &mut Watch, now: u64)
-        ensures { watch.new ≡ record watch.old { slots = watch.new.slots } }
+        ensures { watch.new ≡ record watch.old { rate_limits = watch.new.rate_limits } }
     {
         'kinds: for kind in 0..KINDS {
             if let Some(line) = watch.pop_due(kind, now) {

@@ -1,4 +1,4 @@
-//! The slot of one kind of events, which limits its lines in the log to one a second.
+//! The rate limit of one kind of events, which limits its lines in the log to one a second.
 
 ghost use Rattle.std.specs.Prelude.{◌≡◌, Some, None, IfSome, IsSome, IsNone};
 ghost use Rattle.lk_node_events.specs.RateLimits.{having_put, having_logged, is_due, IsLineOf, Waits};
@@ -28,7 +28,7 @@ pub struct RateLimit {
 }
 
 impl RateLimit {
-    /// The slot of a kind of which nothing has happened.
+    /// The rate limit of a kind of which nothing has happened.
     pub const EMPTY: RateLimit = RateLimit {
         newest: None,
         others: 0,

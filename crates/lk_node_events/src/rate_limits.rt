@@ -1,4 +1,4 @@
-//! The slots of a node's events, one for each kind.
+//! The rate limits of a node's events, one for each kind.
 
 ghost use Rattle.std.specs.Prelude.{◌≡◌, replicate, slice_get, Some, None, IfSome};
 ghost use Rattle.lk_node_events.specs.Kinds.{kinds};
@@ -9,14 +9,14 @@ ghost use Rattle.lk_node_events.specs.Watches.{Puts, PutsSome, PopsDue};
 use crate::event::{Event, KINDS};
 use crate::rate_limit::{Line, RateLimit};
 
-/// A slot for each kind of events, by the index of the kind. Times are milliseconds since 1970.
+/// A rate limit for each kind of events, by the index of the kind. Times are milliseconds since 1970.
 #[derive(Drop)]
 pub struct RateLimits {
     pub all: [RateLimit; KINDS],
 }
 
 impl RateLimits {
-    /// Returns empty slots.
+    /// Returns empty rate limits.
     pub fn new() -> RateLimits
         ensures { result.all ≡ replicate kinds empty }
     {
@@ -50,7 +50,7 @@ impl RateLimits {
         }
     }
 
-    /// Puts an event into the slot of its kind.
+    /// Puts an event into the rate limit of its kind.
     pub fn put(&mut self, now: u64, event: Event)
         ensures { Puts now event self.old.all self.new.all }
     {
@@ -58,7 +58,7 @@ impl RateLimits {
         self.all[kind].put(now, event);
     }
 
-    /// Puts an event, if there is one, into the slot of its kind.
+    /// Puts an event, if there is one, into the rate limit of its kind.
     pub fn put_some(&mut self, now: u64, event: Option<Event>)
         ensures { PutsSome now event self.old.all self.new.all }
     {
@@ -71,8 +71,8 @@ impl RateLimits {
     pub fn pop_due(&mut self, kind: usize, now: u64) -> Option<Line>
         ensures line { IfSome result (λ line. PopsDue kind now line self.old.all self.new.all) }
         ensures none { result ≡ None → self.new ≡ self.old }
-        ensures waits { result ≡ None → (slot : RateLimitValue) → slice_get self.old.all kind ≡ Some slot
-            → Waits slot now }
+        ensures waits { result ≡ None → (rate_limit : RateLimitValue) → slice_get self.old.all kind ≡ Some rate_limit
+            → Waits rate_limit now }
     {
         if kind >= KINDS {
             return None;

@@ -268,68 +268,81 @@ impl Story {
         Some(Event::Apart(node, position))
     }
 
-    // Puts the news of the leader, and of whether a majority is heard, into the slots.
-    fn put_leads(&self, now: u64, seen: &Observation, slots: &mut RateLimits)
-        ensures { PutsNews now self.now seen.now lead_topics slots.old.all slots.new.all }
+    // Puts the news of the leader, and of whether a majority is heard, into the rate limits.
+    fn put_leads(&self, now: u64, seen: &Observation, rate_limits: &mut RateLimits)
+        ensures { PutsNews now self.now seen.now lead_topics rate_limits.old.all rate_limits.new.all }
     {
-        slots.put_some(now, self.ended(seen));
-        slots.put_some(now, self.leads(seen));
-        slots.put_some(now, self.follows(seen));
-        slots.put_some(now, self.deaf(seen));
-        slots.put_some(now, self.hears(seen));
+        rate_limits.put_some(now, self.ended(seen));
+        rate_limits.put_some(now, self.leads(seen));
+        rate_limits.put_some(now, self.follows(seen));
+        rate_limits.put_some(now, self.deaf(seen));
+        rate_limits.put_some(now, self.hears(seen));
     }
 
     // Puts `Joined` for each of these members that has joined.
-    fn put_joined(&self, now: u64, seen: &Observation, members: &[Member], slots: &mut RateLimits)
-        ensures { PutsNews now self.now seen.now (joins members.now) slots.old.all slots.new.all }
+    fn put_joined(
+        &self,
+        now: u64,
+        seen: &Observation,
+        members: &[Member],
+        rate_limits: &mut RateLimits,
+    )
+        ensures { PutsNews now self.now seen.now (joins members.now) rate_limits.old.all rate_limits.new.all }
     {
         'members: for member in members {
-            slots.put_some(now, self.joined(seen, member.node));
+            rate_limits.put_some(now, self.joined(seen, member.node));
         }
     }
 
     // Puts `Left` for each of these members that has left.
-    fn put_left(&self, now: u64, seen: &Observation, members: &[Member], slots: &mut RateLimits)
-        ensures { PutsNews now self.now seen.now (leaves members.now) slots.old.all slots.new.all }
+    fn put_left(
+        &self,
+        now: u64,
+        seen: &Observation,
+        members: &[Member],
+        rate_limits: &mut RateLimits,
+    )
+        ensures { PutsNews now self.now seen.now (leaves members.now) rate_limits.old.all rate_limits.new.all }
     {
         'members: for member in members {
-            slots.put_some(now, self.left(seen, member.node));
+            rate_limits.put_some(now, self.left(seen, member.node));
         }
     }
 
     // Puts the news of the members: several nodes may join or leave in one turn.
-    fn put_members(&self, now: u64, seen: &Observation, slots: &mut RateLimits)
-        ensures { PutsNews now self.now seen.now (member_topics self.now seen.now) slots.old.all slots.new.all }
+    fn put_members(&self, now: u64, seen: &Observation, rate_limits: &mut RateLimits)
+        ensures { PutsNews now self.now seen.now (member_topics self.now seen.now) rate_limits.old.all
+            rate_limits.new.all }
     {
-        self.put_joined(now, seen, seen.members.as_slice(), slots);
-        self.put_left(now, seen, self.members.as_slice(), slots);
+        self.put_joined(now, seen, seen.members.as_slice(), rate_limits);
+        self.put_left(now, seen, self.members.as_slice(), rate_limits);
     }
 
     // Puts the news of snapshots, of failed sends, of datagrams of another genesis, cluster or key, of what is full, of
     // the hosts, and of other states.
-    fn put_work(&self, now: u64, seen: &Observation, slots: &mut RateLimits)
-        ensures { PutsNews now self.now seen.now work_topics slots.old.all slots.new.all }
+    fn put_work(&self, now: u64, seen: &Observation, rate_limits: &mut RateLimits)
+        ensures { PutsNews now self.now seen.now work_topics rate_limits.old.all rate_limits.new.all }
     {
-        slots.put_some(now, self.wrote(seen));
-        slots.put_some(now, self.installed(seen));
-        slots.put_some(now, self.unsent(seen));
-        slots.put_some(now, self.stranger(seen));
-        slots.put_some(now, self.foreign(seen));
-        slots.put_some(now, self.queue_full(seen));
-        slots.put_some(now, self.names(seen));
-        slots.put_some(now, self.barred(seen));
-        slots.put_some(now, self.unopened(seen));
-        slots.put_some(now, self.hosts(seen));
-        slots.put_some(now, self.apart(seen));
+        rate_limits.put_some(now, self.wrote(seen));
+        rate_limits.put_some(now, self.installed(seen));
+        rate_limits.put_some(now, self.unsent(seen));
+        rate_limits.put_some(now, self.stranger(seen));
+        rate_limits.put_some(now, self.foreign(seen));
+        rate_limits.put_some(now, self.queue_full(seen));
+        rate_limits.put_some(now, self.names(seen));
+        rate_limits.put_some(now, self.barred(seen));
+        rate_limits.put_some(now, self.unopened(seen));
+        rate_limits.put_some(now, self.hosts(seen));
+        rate_limits.put_some(now, self.apart(seen));
     }
 
-    // Puts all news into the slots.
-    fn put_all(&self, now: u64, seen: &Observation, slots: &mut RateLimits)
-        ensures { PutsNews now self.now seen.now (topics self.now seen.now) slots.old.all slots.new.all }
+    // Puts all news into the rate limits.
+    fn put_all(&self, now: u64, seen: &Observation, rate_limits: &mut RateLimits)
+        ensures { PutsNews now self.now seen.now (topics self.now seen.now) rate_limits.old.all rate_limits.new.all }
     {
-        self.put_leads(now, seen, slots);
-        self.put_members(now, seen, slots);
-        self.put_work(now, seen, slots);
+        self.put_leads(now, seen, rate_limits);
+        self.put_members(now, seen, rate_limits);
+        self.put_work(now, seen, rate_limits);
     }
 
     /// Forgets which leader was reported if `leaderless` is an event: then any leader is news, even the same one.
@@ -377,12 +390,12 @@ impl Story {
         self.names = names;
     }
 
-    /// Puts what is news after a turn into the slots, and remembers it as reported.
-    pub fn observe(&mut self, now: u64, seen: Observation, slots: &mut RateLimits)
-        ensures news { PutsNews now self.old seen (topics self.old seen) slots.old.all slots.new.all }
+    /// Puts what is news after a turn into the rate limits, and remembers it as reported.
+    pub fn observe(&mut self, now: u64, seen: Observation, rate_limits: &mut RateLimits)
+        ensures news { PutsNews now self.old seen (topics self.old seen) rate_limits.old.all rate_limits.new.all }
         ensures observed { self.new ≡ story_with seen self.old }
     {
-        self.put_all(now, &seen, slots);
+        self.put_all(now, &seen, rate_limits);
         self.become_observed(seen);
     }
 }

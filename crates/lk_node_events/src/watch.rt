@@ -22,7 +22,7 @@ pub struct Watch {
     pub quiet: LeaderlessTimer,
     pub lag: BehindTimer,
     pub deaf: DeafTimer,
-    pub slots: RateLimits,
+    pub rate_limits: RateLimits,
 }
 
 impl Watch {
@@ -32,7 +32,7 @@ impl Watch {
         ensures quiet { result.quiet ≡ record { since = None; logged = 0 } }
         ensures lag { result.lag ≡ no_lag }
         ensures deaf { result.deaf ≡ record { since = None; is_over = not seen.deaf } }
-        ensures slots { result.slots.all ≡ replicate kinds empty }
+        ensures rate_limits { result.rate_limits.all ≡ replicate kinds empty }
     {
         let deaf = DeafTimer::of(&seen);
         Watch {
@@ -40,16 +40,16 @@ impl Watch {
             quiet: LeaderlessTimer::NONE,
             lag: BehindTimer::NONE,
             deaf,
-            slots: RateLimits::new(),
+            rate_limits: RateLimits::new(),
         }
     }
 
-    /// Puts an event into the slot of its kind.
+    /// Puts an event into the rate limit of its kind.
     pub fn put(&mut self, now: u64, event: Event)
-        ensures puts { Puts now event self.old.slots.all self.new.slots.all }
-        ensures others { self.new ≡ record self.old { slots = self.new.slots } }
+        ensures puts { Puts now event self.old.rate_limits.all self.new.rate_limits.all }
+        ensures others { self.new ≡ record self.old { rate_limits = self.new.rate_limits } }
     {
-        self.slots.put(now, event);
+        self.rate_limits.put(now, event);
     }
 
     // Puts the events that depend on time: no leader, behind, caught up, no majority heard since the start.
@@ -58,29 +58,29 @@ impl Watch {
     {
         let leaderless = self.quiet.observe(now, seen.has_leader(), seen.is_member);
         self.story.forget(&leaderless);
-        self.slots.put_some(now, leaderless);
+        self.rate_limits.put_some(now, leaderless);
         let lag = self.lag.observe(now, seen.wanted, seen.executed);
-        self.slots.put_some(now, lag);
+        self.rate_limits.put_some(now, lag);
         let deaf = self.deaf.observe(now, seen);
-        self.slots.put_some(now, deaf);
+        self.rate_limits.put_some(now, deaf);
     }
 
-    /// Updates the watch after a turn, and puts the events that this shows into the slots.
+    /// Updates the watch after a turn, and puts the events that this shows into the rate limits.
     pub fn observe(&mut self, now: u64, seen: Observation)
         ensures { Turns now seen self.old self.new }
     {
         self.put_times(now, &seen);
-        self.story.observe(now, seen, &mut self.slots);
+        self.story.observe(now, seen, &mut self.rate_limits);
     }
 
     /// Removes and returns the waiting line of that kind, if one is due.
     pub fn pop_due(&mut self, kind: usize, now: u64) -> Option<Line>
-        ensures line { IfSome result (λ line. PopsDue kind now line self.old.slots.all self.new.slots.all) }
-        ensures others { self.new ≡ record self.old { slots = self.new.slots } }
+        ensures line { IfSome result (λ line. PopsDue kind now line self.old.rate_limits.all self.new.rate_limits.all) }
+        ensures others { self.new ≡ record self.old { rate_limits = self.new.rate_limits } }
         ensures none { result ≡ None → self.new ≡ self.old }
-        ensures waits { result ≡ None → (slot : RateLimitValue)
-            → slice_get self.old.slots.all kind ≡ Some slot → Waits slot now }
+        ensures waits { result ≡ None → (rate_limit : RateLimitValue)
+            → slice_get self.old.rate_limits.all kind ≡ Some rate_limit → Waits rate_limit now }
     {
-        self.slots.pop_due(kind, now)
+        self.rate_limits.pop_due(kind, now)
     }
 }

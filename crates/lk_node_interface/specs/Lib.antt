@@ -1,4 +1,4 @@
-pub mod Letters
+pub mod Envelopes
 pub mod Outboxes
 pub mod Saying
 pub mod Ticks

@@ -1,4 +1,4 @@
--- The nodes to which a step sends, and its letters to several of them. The sets are those of the node's window.
+-- The nodes to which a step sends, and its envelopes to several of them. The sets are those of the node's window.
 use Rattle.std.specs.Prelude.{◌≡◌, ℕ, not, ◌==◌, Option, List, [], ◌∷◌, map, filter}
 use Rattle.std.specs.List.{position}
 use Rattle.lk_types.specs.declared.member.Member.{Member}
@@ -6,7 +6,7 @@ use Rattle.lk_store_format.specs.Values.{HeaderValue}
 use Rattle.lk_messages.specs.Grammar.{spelling}
 use Rattle.lk_messages.specs.declared.message.NodeMessage.{NodeMessage}
 use Rattle.lk_members.specs.Ports.{is_named, AreAllAbove, port_of, number_or_zero}
-use Rattle.lk_node_interface.specs.Letters.{LetterValue}
+use Rattle.lk_node_interface.specs.Envelopes.{EnvelopeValue}
 use Rattle.lk_node_interface.specs.Saying.{saying}
 use Rattle.lk_node_interface.specs.declared.to.To.{To}
 use Rattle.lk_node_interface.specs.declared.to.To.TheVariants as to
@@ -33,6 +33,6 @@ abbrev pub to_node : List (List Member) → ℕ → To
 to_node sets node = to.Node node (number_or_zero (port_of node sets))
 
 -- a node of this header sends this to each of these
-abbrev pub letters_to : HeaderValue → List (List Member) → NodeMessage → List ℕ → List LetterValue
-letters_to whose sets message nodes =
+abbrev pub envelopes_to : HeaderValue → List (List Member) → NodeMessage → List ℕ → List EnvelopeValue
+envelopes_to whose sets message nodes =
     map (λ k. record { to = to_node sets k; bytes = spelling (saying whose message) }) nodes

@@ -1,15 +1,15 @@
 ghost use Rattle.std.specs.Prelude.{◌≡◌, OnOk};
 ghost use Rattle.lk_node_interface.specs.Outboxes.{nothing, is_synced, with_rebase, with_entry, with_note};
-ghost use Rattle.lk_node_interface.specs.Outboxes.{with_letters};
+ghost use Rattle.lk_node_interface.specs.Outboxes.{with_envelopes};
 
-use crate::letter::Letter;
+use crate::envelope::Envelope;
 use crate::note::Note;
 use lk_types::{Entry, NoMemory};
 use std::alloc::Global;
 use std::marker::Model;
 
 /// The result of a step, for the replica to carry out: write `entries`, sync them if `sync`, and only then send
-/// `letters`, in order. `notes` are for the trace. If `rebase`, the store is instead rebased to what the node then
+/// `envelopes`, in order. `notes` are for the trace. If `rebase`, the store is instead rebased to what the node then
 /// holds, before anything is sent, and `entries` are not written.
 #[derive(Drop)]
 pub struct Outbox {
@@ -17,7 +17,7 @@ pub struct Outbox {
     pub entries: Vec<Entry>,
     pub sync: bool,
     pub notes: Vec<Note>,
-    pub letters: Vec<Letter>,
+    pub envelopes: Vec<Envelope>,
 }
 
 impl Model for Outbox {
@@ -30,7 +30,7 @@ impl Model for Outbox {
       entries = o.entries.items;
       sync = o.sync;
       notes = o.notes.items;
-      letters = o.letters.items;
+      envelopes = o.envelopes.items;
     } };
 }
 
@@ -44,7 +44,7 @@ impl Outbox {
             entries: Vec::new(alloc),
             sync: false,
             notes: Vec::new(alloc),
-            letters: Vec::new(alloc),
+            envelopes: Vec::new(alloc),
         }
     }
 
@@ -77,12 +77,12 @@ impl Outbox {
 }
 
 impl Outbox {
-    /// Appends these letters, in order.
-    pub fn add_letters(&mut self, letters: Vec<Letter>) -> Result<(), NoMemory>
-        ensures { OnOk result (self.new ≡ with_letters letters.items self.old) }
+    /// Appends these envelopes, in order.
+    pub fn add_envelopes(&mut self, envelopes: Vec<Envelope>) -> Result<(), NoMemory>
+        ensures { OnOk result (self.new ≡ with_envelopes envelopes.items self.old) }
     {
-        let mut letters = letters;
-        self.letters.append(&mut letters)?;
+        let mut envelopes = envelopes;
+        self.envelopes.append(&mut envelopes)?;
         Ok(())
     }
 }

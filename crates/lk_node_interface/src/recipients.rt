@@ -1,12 +1,12 @@
-// The nodes to which a step sends, and a letter to each of several nodes. The window is the sets of members of the next
-// alpha positions.
+// The nodes to which a step sends, and an envelope to each of several nodes. The window is the sets of members of the
+// next alpha positions.
 ghost use Rattle.std.specs.Prelude.{◌≡◌, IfOk, OnOk};
 ghost use Rattle.lk_messages.specs.Grammar.{IsMessage};
-ghost use Rattle.lk_node_interface.specs.Recipients.{AreWindowNodes, AreOthers, index_in, to_node, letters_to};
+ghost use Rattle.lk_node_interface.specs.Recipients.{AreWindowNodes, AreOthers, index_in, to_node, envelopes_to};
 ghost use Rattle.lk_node_interface.specs.Saying.{saying};
 
-use crate::letter::Letter;
-use crate::spelling::spelled;
+use crate::encoding::encode;
+use crate::envelope::Envelope;
 use crate::to::To;
 use lk_members::Roster;
 use lk_store_format::Header;
@@ -51,34 +51,34 @@ pub fn index_of(roster: &Roster, node: NodeNo) -> Option<usize>
 }
 
 // Addresses these bytes to a node at its port in the window, or at port 0 if no set names it.
-fn letter_to(roster: &Roster, node: NodeNo, bytes: Vec<u8>) -> Letter
+fn envelope_to(roster: &Roster, node: NodeNo, bytes: Vec<u8>) -> Envelope
     ensures { result ≡ record { to = to_node roster.now.sets node; bytes = bytes.items } }
 {
     let to = To::Node(node, roster.port_number_of(node));
-    Letter { to, bytes }
+    Envelope { to, bytes }
 }
 
-/// Returns a letter with this message for each of the nodes, in order, at its port in the window. It is spelled once,
-/// and copied for each node but the last.
-pub fn letters_to(
+/// Returns an envelope with this message for each of the nodes, in order, at its port in the window. It is spelled
+/// once, and copied for each node but the last.
+pub fn envelopes_to(
     alloc: Global,
     header: &Header,
     roster: &Roster,
     nodes: &[NodeNo],
     message: NodeMessage,
-) -> Result<Vec<Letter>, NoMemory>
-    ensures letters { IfOk result (λ ls. ls.items ≡ letters_to header.now roster.now.sets message nodes.now) }
+) -> Result<Vec<Envelope>, NoMemory>
+    ensures envelopes { IfOk result (λ ls. ls.items ≡ envelopes_to header.now roster.now.sets message nodes.now) }
     ensures fits { OnOk result (IsMessage (saying header.now message)) }
 {
-    let bytes = spelled(alloc, header, message)?;
-    let mut letters = Vec::new(alloc);
+    let bytes = encode(alloc, header, message)?;
+    let mut envelopes = Vec::new(alloc);
     let Some((last, others)) = nodes.split_last() else {
-        return Ok(letters);
+        return Ok(envelopes);
     };
     'nodes: for node in others {
         let bytes = bytes.as_slice().to_vec(alloc)?;
-        letters.push(letter_to(roster, *node, bytes))?;
+        envelopes.push(envelope_to(roster, *node, bytes))?;
     }
-    letters.push(letter_to(roster, *last, bytes))?;
-    Ok(letters)
+    envelopes.push(envelope_to(roster, *last, bytes))?;
+    Ok(envelopes)
 }

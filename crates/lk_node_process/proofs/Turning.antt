@@ -8,7 +8,7 @@ use Rattle.lk_disk.specs.declared.device.Side.{Side}
 use Rattle.lk_store_format.specs.Values.{HeaderValue}
 use Rattle.lk_recovery.specs.Revivals.{IsRefusedFor}
 use Rattle.lk_state.specs.Meanings.{Meaning}
-use Rattle.lk_node_interface.specs.Letters.{LetterValue}
+use Rattle.lk_node_interface.specs.Envelopes.{EnvelopeValue}
 use Rattle.lk_replica.specs.ReplicaValue.{ReplicaValue}
 use Rattle.lk_address_book.specs.Addresses.{AddressBook, IsNetworkAfter, IsSameNetwork, filter_of}
 use Rattle.lk_address_book.specs.Hosts.{hosts_after}
@@ -36,15 +36,16 @@ use Rattle.lk_node_process.specs.Turns.{BreaksOffByStranger, KnowsJoined, TakesH
 
 -- what a replica on a device says, where that is honest
 abbrev pub SaysOn : Type 0 → Type 0 → Meaning → (List ℕ → Type 0) → ReplicaValue → List (Option (List ℕ))
-    → List LetterValue → ReplicaValue → Type 0
-SaysOn honest metered m IsText old given letters new = honest → SaysOf m IsText metered old given letters new
+    → List EnvelopeValue → ReplicaValue → Type 0
+SaysOn honest metered m IsText old given envelopes new = honest → SaysOf m IsText metered old given envelopes new
 
 -- what stands whatever became of a call stands after a refusal
 pub on_err : {T E P : Type 0} (r : Result T E) → P → OnErr r P
 on_err (Ok x) p = tt
 on_err (Err e) p = p
 
-module _ {Says : ReplicaValue → List (Option (List ℕ)) → List LetterValue → ReplicaValue → Type 0} {observable : Type 0}
+module _ {Says : ReplicaValue → List (Option (List ℕ)) → List EnvelopeValue → ReplicaValue → Type 0}
+    {observable : Type 0}
     {count : ℕ} {first last new : ServerValue ReplicaValue} where
   -- one ended the replica, or was the last
   pub turns_end : (most : ℕ) → count < most → Repeats (DoesTurn Says observable) count first last
@@ -56,7 +57,7 @@ module _ {Says : ReplicaValue → List (Option (List ℕ)) → List LetterValue 
       inr (record { count = count; fewer = fewer; last = last; turns = so_far; leave = leave })
 
 -- a turn that ended the replica
-pub turn_ended : {Says : ReplicaValue → List (Option (List ℕ)) → List LetterValue → ReplicaValue → Type 0}
+pub turn_ended : {Says : ReplicaValue → List (Option (List ℕ)) → List EnvelopeValue → ReplicaValue → Type 0}
     {observable : Type 0} (frames : List (SocketAddr × List ℕ)) (old new : ServerValue ReplicaValue)
     → HasReceived observable frames old new → LastTurn Says observable (all_filtered
     (filter_of old.addresses) frames) old new
@@ -73,7 +74,7 @@ turn_ended frames old new received turn network failure =
     }
 
 -- a turn, and what the server does beside the protocol after it
-pub turn_taken : {Says : ReplicaValue → List (Option (List ℕ)) → List LetterValue → ReplicaValue → Type 0}
+pub turn_taken : {Says : ReplicaValue → List (Option (List ℕ)) → List EnvelopeValue → ReplicaValue → Type 0}
     {observable : Type 0} (After : ServerValue ReplicaValue → Type 0) (frames : List (SocketAddr × List ℕ))
     (kept left : BufferValue)
     (old mid new : ServerValue ReplicaValue) → HasReceived observable frames old mid

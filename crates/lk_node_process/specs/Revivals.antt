@@ -43,7 +43,7 @@ pub record StaysDown (m : Meaning) (header : HeaderValue) (old left : Side → D
 -- `honest` says that the device that had these disks is honest
 module _ (m : Meaning) (honest : Type 0) (old : Side → Disk) (header : HeaderValue) where
   -- it is the server of the node of this header, in its cluster, with a replica that can take calls as that node and
-  -- restarts from what the device had. Nothing has arrived, and no letter of the node to itself is waiting
+  -- restarts from what the device had. Nothing has arrived, and no envelope of the node to itself is waiting
   pub record IsServerStarted (s : ServerValue ReplicaValue) : Type 0 where
     pub cluster : s.cluster ≡ header.cluster
     pub node : s.node ≡ header.node

@@ -2,7 +2,7 @@
 use Rattle.std.proofs.Common.{inl, inr}
 use Rattle.std.specs.Prelude.{◌≡◌, ◌⊎◌, ◌<◌, ℕ, List, [], Option, None, IsSome}
 use Rattle.std.specs.declared.net.socket_addr.SocketAddr.{SocketAddr}
-use Rattle.lk_node_interface.specs.Letters.{LetterValue}
+use Rattle.lk_node_interface.specs.Envelopes.{EnvelopeValue}
 use Rattle.lk_replica.specs.ReplicaValue.{ReplicaValue}
 use Rattle.lk_probe.specs.Neighbours.{bound_in}
 use Rattle.lk_probe.specs.declared.reported.Reported.{Reported}
@@ -64,11 +64,11 @@ pub record ActsBeside (observable : Type 0) (news : HostNews) (asked : Option Re
   pub joined : KnowsJoined told noted
   pub hosts : TakesHosts news noted new
 
--- `Says` relates a replica's input to its letters, and `observable` says that the socket reveals what it sends and what
--- arrives
-module _ (Says : ReplicaValue → List (Option (List ℕ)) → List LetterValue → ReplicaValue → Type 0)
+-- `Says` relates a replica's input to its envelopes, and `observable` says that the socket reveals what it sends and
+-- what arrives
+module _ (Says : ReplicaValue → List (Option (List ℕ)) → List EnvelopeValue → ReplicaValue → Type 0)
     (observable : Type 0) where
-  -- a turn: the replica was given the first letters of the node to itself as one group, or where none waited what was
+  -- a turn: the replica was given the first envelopes of the node to itself as one group, or where none waited what was
   -- taken of the frames that came, and a tick where one was due, and goes on; or it is idle, and given nothing. After
   -- that the probe kept from before, or else the first in those frames, is answered, and a node of the same genesis
   -- that asks by it is heard again. The node learns from the report that it had kept, or else from the first in those
@@ -116,11 +116,11 @@ module _ (Says : ReplicaValue → List (Option (List ℕ)) → List LetterValue 
     pub network : IsSameNetwork old.addresses new.addresses
     pub failure : TellsFailure new
 
-  -- the letters that it gave to be sent in a turn; none in an idle one
-  abbrev pub letters_in : {came frames : List (SocketAddr × List ℕ)} {old new : ServerValue ReplicaValue}
-      → Turn Says observable came old new ⊎ IsIdle observable frames old new → List LetterValue
-  letters_in (inl turn) = turn.hands_on.letters
-  letters_in (inr idle) = []
+  -- the envelopes that it gave to be sent in a turn; none in an idle one
+  abbrev pub envelopes_in : {came frames : List (SocketAddr × List ℕ)} {old new : ServerValue ReplicaValue}
+      → Turn Says observable came old new ⊎ IsIdle observable frames old new → List EnvelopeValue
+  envelopes_in (inl turn) = turn.hands_on.envelopes
+  envelopes_in (inr idle) = []
 
   -- it did fewer turns than this, and then one that ended the replica
   pub record BreaksOff (most : ℕ) (old new : ServerValue ReplicaValue) : Type 0 where
@@ -140,7 +140,7 @@ module _ (Says : ReplicaValue → List (Option (List ℕ)) → List LetterValue 
 
 -- `StartsAs` says how the server of a node starts, and `ended` is the server that is left when its run is over
 module _ (StartsAs : ServerValue ReplicaValue → Type 0)
-    (Says : ReplicaValue → List (Option (List ℕ)) → List LetterValue → ReplicaValue → Type 0) (observable : Type 0)
+    (Says : ReplicaValue → List (Option (List ℕ)) → List EnvelopeValue → ReplicaValue → Type 0) (observable : Type 0)
     (most : ℕ) (ended : ServerValue ReplicaValue) where
   -- it started in this way, and has done this many turns
   pub record RunsTurns : Type 0 where

@@ -1,7 +1,7 @@
 -- The turns of a server, each with the warning that follows it where one is due.
 use Rattle.std.specs.Prelude.{◌≡◌, ◌⊎◌, ◌<◌, ℕ, List, Option}
 use Rattle.lk_probe.specs.declared.status.Status.{Status}
-use Rattle.lk_node_interface.specs.Letters.{LetterValue}
+use Rattle.lk_node_interface.specs.Envelopes.{EnvelopeValue}
 use Rattle.lk_replica.specs.ReplicaValue.{ReplicaValue}
 use Rattle.lk_server_replica.specs.Showing.{IsShown}
 use Rattle.lk_server_replica.specs.declared.probed_state.ProbedState.{ProbedState}
@@ -50,7 +50,7 @@ abbrev pub Warns : ℕ → ℕ → ServerValue ReplicaValue → PortReminder →
 Warns node port s old new before after =
     WarnsOfNothing s old new before after ⊎ WarnsByStatus node port s old new before after
 
-module _ (Says : ReplicaValue → List (Option (List ℕ)) → List LetterValue → ReplicaValue → Type 0)
+module _ (Says : ReplicaValue → List (Option (List ℕ)) → List EnvelopeValue → ReplicaValue → Type 0)
     (observable : Type 0) (node port : ℕ) where
   -- a turn, and then the warning by what the server reports after it
   pub record DoesTurnAndWarns (old new : Reminded) : Type 0 where

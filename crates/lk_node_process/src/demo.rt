@@ -101,7 +101,7 @@ fn start<M: TableMachine, S: DatagramSocket + Drop>(
         socket,
         network: Network::local(genesis.cluster, node),
         pace: Pace::Datagrams,
-        unheard: None,
+        unreached: None,
     };
     match revive::<M, _, _, _>(alloc, &header, resources, &Discard) {
         Ok(server) => Ok(server),

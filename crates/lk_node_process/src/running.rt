@@ -119,7 +119,7 @@ pub fn revive<M: TableMachine, D: LogDisk + Drop, S: DatagramSocket + Drop, L: L
         socket,
         network,
         pace,
-        unheard: _,
+        unreached: _,
     } = resources;
     let replica = match restart_replica::<M, D, L>(alloc, header, device, log) {
         Ok(replica) => replica,
@@ -281,8 +281,8 @@ fn do_turn<
     observer: &mut O,
     err: &mut E,
 ) -> Result<(), ProgramFault>
-    // Its replica was given as one group the letters of the node to itself, or else what was taken of the frames that
-    // came, and a tick if one was due. Of the letters that it produced, those to the node itself are kept, after the
+    // Its replica was given as one group the envelopes of the node to itself, or else what was taken of the frames that
+    // came, and a tick if one was due. Of the envelopes that it produced, those to the node itself are kept, after the
     // ones that wait. Then probes and watches are handled: the probe, the report and the watch that were kept before,
     // or else the first that came. No node of another genesis has led the node.
     ensures turn { OnOk result
@@ -318,7 +318,7 @@ fn may_warn<M: TableMachine, D: LogDisk + Drop, S: DatagramSocket + Drop>(
 ) -> bool
     ensures { result ≡ false → (status : Status) → IsStatusOf server.now status → IsNoneDue reminder.now status }
 {
-    if reminder.unheard.is_none() {
+    if reminder.unreached.is_none() {
         return false;
     }
     reminder.due <= server.count_periods()
@@ -477,7 +477,7 @@ pub fn run_node<
         (socket_value S.sent S.failures S.incoming resources.socket)) e.fault (D.disk e.device)
         (socket_value S.sent S.failures S.incoming e.socket)) }
 {
-    let reminder = PortReminder::of(resources.unheard);
+    let reminder = PortReminder::of(resources.unreached);
     match revive_plan::<M, D, S, L, E>(alloc, plan, resources, log, err) {
         Ok(server) => {
             let mut server = server;

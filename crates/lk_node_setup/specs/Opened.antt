@@ -11,7 +11,7 @@ use Rattle.lk_transport.specs.Streams.{Stream}
 use Rattle.lk_node_files.specs.Existing.{HasStore}
 use Rattle.lk_node_setup.specs.Named.{IsNetworkOf}
 use Rattle.lk_node_setup.specs.Ports.{misnamed}
-use Rattle.lk_node_setup.specs.SelfProbes.{FindsUnheard, socket_value}
+use Rattle.lk_node_setup.specs.SelfProbes.{FindsUnreached, socket_value}
 use Rattle.lk_node_setup.specs.declared.resources.NodePlan.{NodePlan}
 use Rattle.lk_node_setup.specs.declared.resources.Resources.{Resources}
 
@@ -31,10 +31,10 @@ module _ {D S : Type 0} (is_text : List ℕ → List ℕ → Type 0) (is_store :
   pub record HasProbed (plan : NodePlan) (address : SocketAddr) (r : Resources D S) : Type 0 where
     pub bound : S
     pub at_address : is_bound address bound
-    pub finds : observable → FindsUnheard plan.header r.network (misnamed plan.header plan.port) r.unheard
+    pub finds : observable → FindsUnreached plan.header r.network (misnamed plan.header plan.port) r.unreached
         (socket_value sent failures incoming bound) (socket_value sent failures incoming r.socket)
     pub alike : misnamed plan.header plan.port ≡ None → r.socket ≡ bound
-    pub some : IfSome r.unheard (λ port. misnamed plan.header plan.port ≡ Some port)
+    pub some : IfSome r.unreached (λ port. misnamed plan.header plan.port ≡ Some port)
 
   -- these resources are those that the plan names: the device of its folder, with sums if it asks for them, which has a
   -- store if the plan wants an existing one, the hosts and keys of its files, the pace, and a socket at its port

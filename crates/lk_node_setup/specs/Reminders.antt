@@ -14,7 +14,7 @@ pub record KnowsNobody (l : Leadership) : Type 0 where
 -- a warning is due after a turn, of that port: no probe came back from it, a minute or more has passed since the last
 -- warning or the start, and the node knows nobody
 pub record IsDue (r : PortReminder) (s : Status) (port : ℕ) : Type 0 where
-  pub unheard : r.unheard ≡ Some port
+  pub unreached : r.unreached ≡ Some port
   pub minute : r.due ≤ s.traffic.ticks
   pub nobody : KnowsNobody s.leadership
 

@@ -86,20 +86,20 @@ ProbesItself header s address is_back old new =
     × (SendsAndHears address frame is_back old new ⊎ CannotSend is_back old new)
 
 -- the node sends that probe to this port of this address, and the port is unheard if it does not come back
-pub record ProbesAt (header : HeaderValue) (s : Seals) (host : IpAddr) (port : ℕ) (unheard : Option ℕ)
+pub record ProbesAt (header : HeaderValue) (s : Seals) (host : IpAddr) (port : ℕ) (unreached : Option ℕ)
     (old new : SocketValue) : Type 0 where
   pub address : SocketAddr
   pub at_host : socket_ip address ≡ host
   pub at_port : socket_port address ≡ port
   pub is_back : Bool
   pub probes : ProbesItself header s address is_back old new
-  pub unheard_is : unheard ≡ (if is_back then None else Some port)
+  pub unreached_is : unreached ≡ (if is_back then None else Some port)
 
 -- which port is not heard, of the one that the genesis names where the node listens at another: without such a port
 -- none is, and where no address of the node is known that one is, and then nothing is sent and nothing lost
-abbrev pub FindsUnheard : HeaderValue → Network → Option ℕ → Option ℕ → SocketValue → SocketValue → Type 0
-FindsUnheard header network None unheard old new = (unheard ≡ None) × (new ≡ old)
-FindsUnheard header network (Some port) unheard old new =
+abbrev pub FindsUnreached : HeaderValue → Network → Option ℕ → Option ℕ → SocketValue → SocketValue → Type 0
+FindsUnreached header network None unreached old new = (unreached ≡ None) × (new ≡ old)
+FindsUnreached header network (Some port) unreached old new =
     MatchOption (host_of network.hosts header.node)
-    ((unheard ≡ Some port) × (new ≡ old))
-    (λ host. ProbesAt header network.seals host port unheard old new)
+    ((unreached ≡ Some port) × (new ≡ old))
+    (λ host. ProbesAt header network.seals host port unreached old new)

@@ -18,7 +18,7 @@ const MINUTE: u64 = 600;
 /// heard there.
 #[derive(Clone, Copy)]
 pub struct PortReminder {
-    pub unheard: Option<Port>,
+    pub unreached: Option<Port>,
     pub due: u64,
 }
 
@@ -51,11 +51,11 @@ fn knows_nobody(leadership: &Leadership) -> bool
 
 impl PortReminder {
     /// The reminder of a node that is not heard at that port. The first warning is due after a minute.
-    pub fn of(unheard: Option<Port>) -> PortReminder
-        ensures { result ≡ record { unheard = unheard; due = 600 } }
+    pub fn of(unreached: Option<Port>) -> PortReminder
+        ensures { result ≡ record { unreached = unreached; due = 600 } }
     {
         PortReminder {
-            unheard,
+            unreached,
             due: MINUTE,
         }
     }
@@ -66,7 +66,7 @@ impl PortReminder {
             (λ port. IsDue self.old status.now port × (self.new ≡ having_warned self.old status.now)) }
         ensures none { IsNone result → IsNoneDue self.old status.now × (self.new ≡ self.old) }
     {
-        let Some(named) = self.unheard else {
+        let Some(named) = self.unreached else {
             return None;
         };
         if status.traffic.ticks < self.due || !knows_nobody(&status.leadership) {
@@ -91,7 +91,7 @@ impl PortReminder {
         ensures fails { OnErr result
             ((port : ℕ) × IsDue self.old status.now port × (self.new ≡ having_warned self.old status.now)) }
         // A node that is heard at the port that the genesis names is never warned of.
-        ensures heard { self.old.unheard ≡ None → (self.new ≡ self.old) × (err.new ≡ err.old) }
+        ensures heard { self.old.unreached ≡ None → (self.new ≡ self.old) × (err.new ≡ err.old) }
     {
         match self.pop_due(status) {
             Some(named) => write_reminder(plan, named, err),

@@ -3,13 +3,13 @@
 ghost use Rattle.std.specs.Prelude.{◌≡◌, Some, None, IfOk, IfSome, OnErr};
 ghost use Rattle.lk_members.specs.Ports.{port_in};
 ghost use Rattle.lk_auth.specs.Seals.{key_list};
-ghost use Rattle.lk_node_setup.specs.SelfProbes.{FindsUnheard, socket_value};
+ghost use Rattle.lk_node_setup.specs.SelfProbes.{FindsUnreached, socket_value};
 ghost use Rattle.lk_node_setup.specs.Ports.{misnamed};
 ghost use Rattle.lk_node_setup.specs.Opened.{AreOpenedFor, pace_with};
 
 use crate::network::{NetworkOptions, network_of};
 use crate::platform::Platform;
-use crate::self_probe::unheard_port;
+use crate::self_probe::unreached_port;
 use lk_address_book::network::Network;
 use lk_auth::{Keys, Seals};
 use lk_disk::LogDisk;
@@ -44,7 +44,7 @@ pub struct Resources<D: Drop, S: Drop> {
     pub socket: S,
     pub network: Network,
     pub pace: Pace,
-    pub unheard: Option<Port>,
+    pub unreached: Option<Port>,
 }
 
 // Returns the port that the members give the node, if it is one of them.
@@ -90,22 +90,22 @@ fn check_named_port<S: DatagramSocket, E: Write>(
     err: &mut E,
 ) -> Result<Option<Port>, ProgramFault>
     ensures finds { S.is_observable
-        → IfOk result (λ unheard. FindsUnheard plan.now.header network.now
-        (misnamed plan.now.header plan.now.port) unheard
+        → IfOk result (λ unreached. FindsUnreached plan.now.header network.now
+        (misnamed plan.now.header plan.now.port) unreached
         (socket_value S.sent S.failures S.incoming socket.old) (socket_value S.sent S.failures S.incoming socket.new)) }
     // Where the ports agree nothing is sent and nothing received.
     ensures alike { misnamed plan.now.header plan.now.port ≡ None → socket.new ≡ socket.old }
     ensures some { IfOk result
-        (λ unheard. IfSome unheard (λ port. misnamed plan.now.header plan.now.port ≡ Some port)) }
+        (λ unreached. IfSome unreached (λ port. misnamed plan.now.header plan.now.port ≡ Some port)) }
     // Where it is heard nothing is warned.
-    ensures quiet { IfOk result (λ unheard. unheard ≡ None → err.new ≡ err.old) }
+    ensures quiet { IfOk result (λ unreached. unreached ≡ None → err.new ≡ err.old) }
     ensures err { OnErr result (socket.new ≡ socket.old) }
 {
-    let unheard = unheard_port(alloc, socket, &plan.header, network, other_port(plan))?;
-    if let Some(named) = unheard {
+    let unreached = unreached_port(alloc, socket, &plan.header, network, other_port(plan))?;
+    if let Some(named) = unreached {
         write_warning(plan, named, err);
     }
-    Ok(unheard)
+    Ok(unreached)
 }
 
 // Returns what the ticks of a node with these seals go by: the clock if the nodes have a key, so that a stranger's
@@ -174,7 +174,7 @@ pub fn open_resources<D: LogDisk + Drop, S: DatagramSocket + Drop, P: Platform<D
         err,
     )?;
     let mut socket = platform.open_socket(alloc, address, plan.bundles, err)?;
-    let unheard = check_named_port(alloc, plan, &network, &mut socket, err)?;
+    let unreached = check_named_port(alloc, plan, &network, &mut socket, err)?;
     let (device, lock) = platform.open_store(alloc, plan.folder, plan.existing, plan.sums, err)?;
     let pace = pace_with(&network.seals, plan.pace);
     let resources = Resources {
@@ -182,7 +182,7 @@ pub fn open_resources<D: LogDisk + Drop, S: DatagramSocket + Drop, P: Platform<D
         socket,
         network,
         pace,
-        unheard,
+        unreached,
     };
     Ok((resources, lock))
 }

@@ -2,7 +2,7 @@
 //! itself there.
 
 ghost use Rattle.std.specs.Prelude.{◌≡◌, Ok, None, Some, true, false, IfOk, IfErr, OnErr, IfSome};
-ghost use Rattle.lk_node_setup.specs.SelfProbes.{ComesNext, FindsUnheard, IsHeard, ProbesItself, socket_value};
+ghost use Rattle.lk_node_setup.specs.SelfProbes.{ComesNext, FindsUnreached, IsHeard, ProbesItself, socket_value};
 
 use lk_address_book::network::Network;
 use lk_auth::Seals;
@@ -80,18 +80,18 @@ fn probe_itself<S: DatagramSocket>(
 
 /// Probes the port that the genesis names, if the node listens at another one (`named`). Returns that port if the probe
 /// does not come back, or if no address of the node is known. Other datagrams that come meanwhile are lost.
-pub fn unheard_port<S: DatagramSocket>(
+pub fn unreached_port<S: DatagramSocket>(
     alloc: Global,
     socket: &mut S,
     header: &Header,
     network: &Network,
     named: Option<Port>,
 ) -> Result<Option<Port>, ProgramFault>
-    ensures finds { S.is_observable → IfOk result (λ unheard. FindsUnheard header.now network.now named unheard
+    ensures finds { S.is_observable → IfOk result (λ unreached. FindsUnreached header.now network.now named unreached
         (socket_value S.sent S.failures S.incoming socket.old) (socket_value S.sent S.failures S.incoming socket.new)) }
     // Where the ports agree nothing is sent and nothing received.
     ensures alike { named ≡ None → (result ≡ Ok None) × (socket.new ≡ socket.old) }
-    ensures some { IfOk result (λ unheard. IfSome unheard (λ port. named ≡ Some port)) }
+    ensures some { IfOk result (λ unreached. IfSome unreached (λ port. named ≡ Some port)) }
     ensures err { OnErr result (socket.new ≡ socket.old) }
     ensures only { IfErr result (λ f. f ≡ ProgramFault.NoMemory) }
 {

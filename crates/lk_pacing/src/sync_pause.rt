@@ -20,7 +20,7 @@ const LONGEST: u64 = 32_000;
 pub struct SyncPause {
     /// The longest sync in microseconds, which decays by an eighth at each later sync.
     pub longest: u64,
-    /// The most letters that waited for one sync, which decays by one at each later sync.
+    /// The most envelopes that waited for one sync, which decays by one at each later sync.
     pub fullest: usize,
     /// How many more pauses the current group may have.
     pub left: u8,
@@ -44,33 +44,33 @@ impl SyncPause {
         left: PART,
     };
 
-    /// Records the sync that ended a group, and the number of letters that waited for it; the next group may have 16
+    /// Records the sync that ended a group, and the number of envelopes that waited for it; the next group may have 16
     /// pauses.
-    pub fn note(&mut self, took: Duration, letters: usize)
+    pub fn note(&mut self, took: Duration, envelopes: usize)
         ensures longest { self.new.longest
             ≡ max (min (as_nanos took / 1000) 32000) (self.old.longest - self.old.longest / 8) }
-        ensures fullest { self.new.fullest ≡ max letters (self.old.fullest - 1) }
+        ensures fullest { self.new.fullest ≡ max envelopes (self.old.fullest - 1) }
         ensures left { self.new.left ≡ 16 }
     {
         let faded = self.longest - self.longest / 8;
         self.longest = micros_of(took).max(faded);
-        self.fullest = letters.max(self.fullest.saturating_sub(1));
+        self.fullest = envelopes.max(self.fullest.saturating_sub(1));
         self.left = PART;
     }
 
-    /// Returns the next pause of a group with this many letters. `None` if no recent sync had more letters, the pause
-    /// would be under 50 microseconds, or the group has had 16.
-    pub fn next_pause(&mut self, letters: usize) -> Option<Duration>
+    /// Returns the next pause of a group with this many envelopes. `None` if no recent sync had more envelopes, the
+    /// pause would be under 50 microseconds, or the group has had 16.
+    pub fn next_pause(&mut self, envelopes: usize) -> Option<Duration>
         ensures some { IfSome result
             (λ d. (as_nanos d ≡ self.old.longest / 16 * 1000) × (50 ≤ self.old.longest / 16)
-            × (letters < self.old.fullest) × (self.new.left + 1 ≡ self.old.left)) }
+            × (envelopes < self.old.fullest) × (self.new.left + 1 ≡ self.old.left)) }
         ensures none { IsNone result
             → (self.new ≡ self.old) × ((self.old.longest / 16 < 50)
-            ⊎ (self.old.fullest ≤ letters) ⊎ (self.old.left ≡ 0)) }
+            ⊎ (self.old.fullest ≤ envelopes) ⊎ (self.old.left ≡ 0)) }
         ensures others { self.new ≡ record self.old { left = self.new.left } }
     {
         let micros = self.longest / u64::from(PART);
-        if micros < SHORTEST || letters >= self.fullest || self.left == 0 {
+        if micros < SHORTEST || envelopes >= self.fullest || self.left == 0 {
             return None;
         }
         self.left -= 1;

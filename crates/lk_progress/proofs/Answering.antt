@@ -17,14 +17,14 @@ use Rattle.lk_state.specs.States.{WholeValue}
 use Rattle.lk_leader.specs.Waits.{waiting_of, number_up_to}
 use Rattle.lk_learner.specs.Learners.{advanced, executed}
 use Rattle.lk_node_interface.specs.KeptReplies.{session_reply, session_by}
-use Rattle.lk_node_interface.specs.Outboxes.{OutboxValue, with_letter, with_note}
+use Rattle.lk_node_interface.specs.Outboxes.{OutboxValue, with_envelope, with_note}
 use Rattle.lk_node_interface.specs.Saying.{saying}
 use Rattle.lk_node_interface.specs.declared.to.To.TheVariants as to
 use Rattle.lk_node_interface.specs.declared.note.Note.TheVariants as note
 use Rattle.lk_node.specs.Executing.{EndsWait, EndsWaitIfAny, Executes, waiting_number, with_session_reply}
 use Rattle.lk_node.specs.Learning.{with_learner}
 use Rattle.lk_node.specs.NodeValue.{NodeValue}
-use Rattle.lk_progress.specs.Answering.{WaitsFresh, answer_letter}
+use Rattle.lk_progress.specs.Answering.{WaitsFresh, answer_envelope}
 
 -- the session that a fresh request leaves
 abbrev left_session : Meaning → WholeValue → RequestValue → Session
@@ -63,27 +63,31 @@ reply_is s = by_test (nat_lt s.number s.number) (grind (arith, nat_tests))
     by_test false e = refl
     by_test true e = absurd (cc e)
 
--- the letter of the session's reply is the last of them
+-- the envelope of the session's reply is the last of them
 told_last : (m : Meaning) (old node : NodeValue) (r : RequestValue) (before mid_out : OutboxValue) (mid : NodeValue)
     → node.header ≡ old.header → node.leader ≡ old.leader → waiting_of r.client old.leader.waiting ≡ Some r
     → EndsWait (left_session m old.learner.whole r) node before mid mid_out
-    → Contains mid_out.letters (answer_letter m old r)
+    → Contains mid_out.envelopes (answer_envelope m old r)
 told_last m old node r before after mid header leader waits k =
     let s : Session = left_session m old.learner.whole r in
     let number : waiting_number s node ≡ Some r.number =
     ap (λ l. number_up_to s.number (waiting_of s.client l.waiting)) leader
     ∙ ap (λ (o : Option RequestValue). number_up_to s.number o) waits ∙ number_is r in
-    let is : after ≡ with_letter (answer_letter m old r) before =
+    let is : after ≡ with_envelope (answer_envelope m old r) before =
     k.comes_to ∙ ap (λ (o : Option ℕ). with_session_reply node.header s o before) number
-    ∙ ap (λ h. with_letter (record { to = to.Client s.client; bytes = spelling (saying h (session_reply s r.number)) })
+    ∙ ap (λ h. with_envelope (record {
+      to = to.Client s.client;
+      bytes =
+          spelling (saying h (session_reply s r.number));
+    })
     before) header
-    ∙ ap (λ (reply : NodeMessage). with_letter
+    ∙ ap (λ (reply : NodeMessage). with_envelope
     (record { to = to.Client s.client; bytes = spelling (saying old.header reply) }) before) (reply_is s) in
-    subst (λ (o : OutboxValue). Contains o.letters (answer_letter m old r)) (sym is)
-    (Contains-push before.letters (answer_letter m old r))
+    subst (λ (o : OutboxValue). Contains o.envelopes (answer_envelope m old r)) (sym is)
+    (Contains-push before.envelopes (answer_envelope m old r))
 
 pub answers : (m : Meaning) (old new : NodeValue) (before after : OutboxValue) (r : RequestValue) → WaitsFresh old r
-    → (k : Executes m old before new after) → k.command ≡ Request r → Contains after.letters (answer_letter m old r)
+    → (k : Executes m old before new after) → k.command ≡ Request r → Contains after.envelopes (answer_envelope m old r)
 answers m old new before after r w k is =
     let run : NodeValue = with_learner old (advanced m (Request r) old.learner) in
     let noted : OutboxValue = with_note (note.Ran old.header.node (executed old.learner + 1) (Request r)) before in

@@ -12,7 +12,7 @@ use Rattle.lk_messages.specs.declared.message.Content.TheVariants as content
 use Rattle.lk_messages.specs.declared.message.NodeMessage.TheVariants as kinds
 use Rattle.lk_node.proofs.Nodes.{map_contains}
 use Rattle.lk_node.specs.Leading.{ProposesAll, ProposesVote}
-use Rattle.lk_node_interface.specs.Letters.{LetterValue}
+use Rattle.lk_node_interface.specs.Envelopes.{EnvelopeValue}
 use Rattle.lk_node.specs.Beginning.{next_ballot}
 use Rattle.lk_node.specs.CatchingUp.{refusal}
 use Rattle.lk_node.specs.NodeValue.{NodeValue}
@@ -76,9 +76,9 @@ module _ (m : Meaning) (IsText : List ℕ → Type 0) (candidate first : NodeVal
       before = λ q c. absurd (omega (arith, c.1));
     }
 
-    leads : (last : NodeValue) (letters : List LetterValue) → TakesEach m IsText (promises heard) now last letters
+    leads : (last : NodeValue) (envelopes : List EnvelopeValue) → TakesEach m IsText (promises heard) now last envelopes
         → Leads last.leader last.learner.whole.roster
-    leads last letters takes = promised_leads m IsText now last (begun (next_ballot candidate)) set heard letters
+    leads last envelopes takes = promised_leads m IsText now last (begun (next_ballot candidate)) set heard envelopes
         (still.term ∙ ap (λ (node : NodeValue). node.leader.term) asks.becomes)
         (subst (λ (l : LearnerValue). AreMembersAt l.whole.roster (executed l + 1) set) (sym same) members)
         (omega (arith, room, ap (λ (l : LearnerValue). executed l) same)) usable
@@ -88,7 +88,7 @@ module _ (m : Meaning) (IsText : List ℕ → Type 0) (candidate first : NodeVal
       (executed candidate.learner + 1) v.new v.out) → IsElectedBy m IsText candidate first asked
   elected all = record {
     told = λ v c. (all v c).told;
-    leads = λ now last letters still takes. leads now still last letters takes;
+    leads = λ now last envelopes still takes. leads now still last envelopes takes;
   }
 
   rejected : (v : Asked) → Contains asked v → RejectsPrepare v.old candidate.header.node (next_ballot candidate)

@@ -24,7 +24,7 @@ use Rattle.lk_node.specs.Executing.{waiting_number, with_session_reply}
 use Rattle.lk_node.specs.Learning.{with_learner, Learns}
 use Rattle.lk_node.specs.NodeValue.{NodeValue}
 use Rattle.lk_node_interface.specs.KeptReplies.{session_by}
-use Rattle.lk_node_interface.specs.Letters.{LetterValue}
+use Rattle.lk_node_interface.specs.Envelopes.{EnvelopeValue}
 use Rattle.lk_node_interface.specs.Outboxes.{OutboxValue, nothing}
 use Rattle.lk_progress.proofs.Answering.{answers}
 use Rattle.lk_progress.proofs.Hearing.{Handled, handled, proposed_header, proposed_learner, still_told}
@@ -33,7 +33,7 @@ use Rattle.lk_progress.proofs.Majorities.{any_contains}
 use Rattle.lk_progress.proofs.Executing.{executes_moves, learns_whole, runs_move}
 use Rattle.lk_progress.proofs.Proposing.{goes_on_proposing, goes_on_waiting, some_set}
 use Rattle.lk_progress.proofs.Rejecting.{accept_has_cause}
-use Rattle.lk_progress.specs.Answering.{WaitsFresh, answer_letter}
+use Rattle.lk_progress.specs.Answering.{WaitsFresh, answer_envelope}
 use Rattle.lk_progress.specs.Deciding.{vote_for_next, HasProposed, NearNodeAccepts, acceptances}
 use Rattle.lk_progress.specs.Deciding.{AcceptedCommandIsExecuted, AcceptedRequestIsAnswered}
 use Rattle.lk_progress.specs.Hearing.{Hears, TakesEach}
@@ -58,7 +58,7 @@ near_accepts m IsText old new from x out k takes =
     none (inr (inl reached)) = omega (arith, reached, k.above)
     none (inr (inr far)) = omega (arith, far, k.within)
 
--- ---- what is executed first, and what letters stay
+-- ---- what is executed first, and what envelopes stay
 
 runs_first : (m : Meaning) (old : NodeValue) (before : OutboxValue) (new : NodeValue) (after : OutboxValue)
     → Runs m old before new after
@@ -77,26 +77,26 @@ runs_first m old before new after (goes_on {mid = mid} {between = between} so_fa
       | inr first ↦ inr (first.0, first.1, first.2, goes_on first.3 k)
     ]
 
-waited_letters : (o : Option Session) (old new : NodeValue) (before after : OutboxValue) (l : LetterValue)
-    → EndsWaitIfAny o old before new after → Contains before.letters l → Contains after.letters l
-waited_letters None old new before after l k c = subst (λ (out : OutboxValue). Contains out.letters l) (sym k.1) c
-waited_letters (Some s) old new before after l k c =
-    subst (λ (out : OutboxValue). Contains out.letters l) (sym k.comes_to) (more (waiting_number s old))
+waited_envelopes : (o : Option Session) (old new : NodeValue) (before after : OutboxValue) (l : EnvelopeValue)
+    → EndsWaitIfAny o old before new after → Contains before.envelopes l → Contains after.envelopes l
+waited_envelopes None old new before after l k c = subst (λ (out : OutboxValue). Contains out.envelopes l) (sym k.1) c
+waited_envelopes (Some s) old new before after l k c =
+    subst (λ (out : OutboxValue). Contains out.envelopes l) (sym k.comes_to) (more (waiting_number s old))
   where
-    more : (o : Option ℕ) → Contains (with_session_reply old.header s o before).letters l
+    more : (o : Option ℕ) → Contains (with_session_reply old.header s o before).envelopes l
     more None = c
-    more (Some number) = Contains-append_left before.letters _ l c
+    more (Some number) = Contains-append_left before.envelopes _ l c
 
-executes_letters : (m : Meaning) (old new : NodeValue) (before after : OutboxValue) (l : LetterValue)
-    → Executes m old before new after → Contains before.letters l → Contains after.letters l
-executes_letters m old new before after l k c =
-    waited_letters (session_by k.command (run_answer m k.command old.learner.whole)) _ k.mid _ after l k.ends_wait c
+executes_envelopes : (m : Meaning) (old new : NodeValue) (before after : OutboxValue) (l : EnvelopeValue)
+    → Executes m old before new after → Contains before.envelopes l → Contains after.envelopes l
+executes_envelopes m old new before after l k c =
+    waited_envelopes (session_by k.command (run_answer m k.command old.learner.whole)) _ k.mid _ after l k.ends_wait c
 
-runs_letters : (m : Meaning) (old : NodeValue) (before : OutboxValue) (new : NodeValue) (after : OutboxValue)
-    (l : LetterValue) → Runs m old before new after → Contains before.letters l → Contains after.letters l
-runs_letters m old before _ _ l stays c = c
-runs_letters m old before new after l (goes_on so_far k) c =
-    executes_letters m _ new _ after l k (runs_letters m old before _ _ l so_far c)
+runs_envelopes : (m : Meaning) (old : NodeValue) (before : OutboxValue) (new : NodeValue) (after : OutboxValue)
+    (l : EnvelopeValue) → Runs m old before new after → Contains before.envelopes l → Contains after.envelopes l
+runs_envelopes m old before _ _ l stays c = c
+runs_envelopes m old before new after l (goes_on so_far k) c =
+    executes_envelopes m _ new _ after l k (runs_envelopes m old before _ _ l so_far c)
 
 -- ---- what a decision brings
 
@@ -104,7 +104,7 @@ runs_letters m old before new after l (goes_on so_far k) c =
 record IsDone (m : Meaning) (old : NodeValue) (v : Command) (new : NodeValue) (out : OutboxValue) : Type 0 where
   moves : executed old.learner < executed new.learner
   window : alpha new.learner ≡ alpha old.learner
-  answers : (r : RequestValue) → v ≡ Request r → WaitsFresh old r → Contains out.letters (answer_letter m old r)
+  answers : (r : RequestValue) → v ≡ Request r → WaitsFresh old r → Contains out.envelopes (answer_envelope m old r)
 
 -- ---- what is decided is executed, and answered
 
@@ -165,9 +165,9 @@ module _ (m : Meaning) (old : NodeValue) (t : TermValue) (set : List Member) (v 
               moves = omega (arith, moves.0, rest.0);
               window = rest.1 ∙ moves.1;
               answers = λ r is_it waits.
-                  subst (λ (o : OutboxValue). Contains o.letters (answer_letter m old r)) (sym d.comes_to)
-                  (Contains-append_left d.ran.letters d.letters (answer_letter m old r)
-                  (runs_letters m first.0 first.1 new d.ran (answer_letter m old r) first.3
+                  subst (λ (o : OutboxValue). Contains o.envelopes (answer_envelope m old r)) (sym d.comes_to)
+                  (Contains-append_left d.ran.envelopes d.envelopes (answer_envelope m old r)
+                  (runs_envelopes m first.0 first.1 new d.ran (answer_envelope m old r) first.3
                   (answers m (learned_by heard_by) first.0 d.written first.1 r
                   (record { waits = waits.waits; fresh = waits.fresh }) first.2
                   (runs_it first.2.command first.2.next ∙ is_it))));
@@ -281,7 +281,7 @@ heard_one m IsText old new t set v accepted from out has takes = by_vote k.handl
         inl (record {
           moves = subst (λ (l : LearnerValue). executed old.learner < executed l) (sym same) d.moves;
           window = ap (λ (l : LearnerValue). alpha l) same ∙ d.window;
-          answers = λ r is waits. still_told m IsText old _ new out k (answer_letter m old r) (d.answers r is waits);
+          answers = λ r is waits. still_told m IsText old _ new out k (answer_envelope m old r) (d.answers r is waits);
         })
     by_vote (inr (inr other, silent)) = absurd (other.0 (for_it m old t set v accepted has from))
     by_vote (inr (inl only, silent)) =
@@ -333,39 +333,40 @@ later_acceptance m IsText old new from x out takes some =
         (omega (arith, ap (λ (l : LearnerValue). executed l) is), ap (λ (l : LearnerValue). alpha l) is)
 
 later_acceptances : (m : Meaning) (IsText : List ℕ → Type 0) (x : Vote) (voters : List ℕ) (old new : NodeValue)
-    (letters : List LetterValue) → TakesEach m IsText (acceptances voters x) old new letters → 1 ≤ alpha old.learner
+    (envelopes : List EnvelopeValue) → TakesEach m IsText (acceptances voters x) old new envelopes
+    → 1 ≤ alpha old.learner
     → executed old.learner ≤ executed new.learner
-later_acceptances m IsText x [] old new letters takes some =
+later_acceptances m IsText x [] old new envelopes takes some =
     omega (arith, ap (λ (node : NodeValue). executed node.learner) takes.0)
-later_acceptances m IsText x (n ∷ voters) old new letters takes some =
+later_acceptances m IsText x (n ∷ voters) old new envelopes takes some =
     let one = later_acceptance m IsText old takes.0 n x takes.1 takes.3 some in
     let rest = later_acceptances m IsText x voters takes.0 new takes.2 takes.4 (omega (arith, one.1, some)) in
     omega (arith, one.0, rest)
 
 -- what a majority's acceptances bring
 record AreDone (m : Meaning) (old : NodeValue) (v : Command) (new : NodeValue)
-    (letters : List LetterValue) : Type 0 where
+    (envelopes : List EnvelopeValue) : Type 0 where
   moves : executed old.learner < executed new.learner
-  answers : (r : RequestValue) → v ≡ Request r → WaitsFresh old r → Contains letters (answer_letter m old r)
+  answers : (r : RequestValue) → v ≡ Request r → WaitsFresh old r → Contains envelopes (answer_envelope m old r)
 
 all_heard : (m : Meaning) (IsText : List ℕ → Type 0) (set : List Member) (v : Command) (voters : List ℕ)
-    (old new : NodeValue) (t : TermValue) (accepted : List ℕ) (letters : List LetterValue)
+    (old new : NodeValue) (t : TermValue) (accepted : List ℕ) (envelopes : List EnvelopeValue)
     → HasProposed old t set v accepted
-    → TakesEach m IsText (acceptances voters (vote_for_next old t v)) old new letters
-    → AreDone m old v new letters
+    → TakesEach m IsText (acceptances voters (vote_for_next old t v)) old new envelopes
+    → AreDone m old v new envelopes
     ⊎ ((later : List ℕ) × (IsMajority (members_among set later) set → ⊥)
     × ((n : ℕ) → is_member n set ≡ true → Contains accepted n ⊎ Contains voters n → Contains later n))
-all_heard m IsText set v [] old new t accepted letters has takes =
+all_heard m IsText set v [] old new t accepted envelopes has takes =
     inr (accepted, has.few, λ n named c. elim c [ inl there ↦ there | inr none ↦ absurd (omega (arith, none.1)) ])
-all_heard m IsText set v (n ∷ voters) old new t accepted letters has takes =
+all_heard m IsText set v (n ∷ voters) old new t accepted envelopes has takes =
     elim (heard_one m IsText old takes.0 t set v accepted n takes.1 has takes.3) [
       | inl d ↦ inl (record {
         moves =
             let later = later_acceptances m IsText (vote_for_next old t v) voters takes.0 new takes.2 takes.4
             (omega (arith, d.window, some_set old.learner.whole.roster set has.members)) in
             omega (arith, d.moves, later);
-        answers = λ r is waits. in_all (answer_letter m old r)
-            (Contains-append_left takes.1.letters takes.2 _ (d.answers r is waits));
+        answers = λ r is waits. in_all (answer_envelope m old r)
+            (Contains-append_left takes.1.envelopes takes.2 _ (d.answers r is waits));
       })
       | inr g ↦ elim (all_heard m IsText set v voters takes.0 new g.term (with_node set accepted n) takes.2
           g.proposed
@@ -373,24 +374,25 @@ all_heard m IsText set v (n ∷ voters) old new t accepted letters has takes =
           (sym (same_vote takes.0 g)) takes.4)) [
             | inl later ↦ inl (record {
               moves = omega (arith, later.moves, ap (λ (l : LearnerValue). executed l) g.learner);
-              answers = λ r is waits. in_all (answer_letter m old r) (Contains-append_right takes.1.letters takes.2 _
-                  (subst (λ (l : LetterValue). Contains takes.2 l) (same_answer takes.0 g r)
+              answers = λ r is waits. in_all (answer_envelope m old r)
+                  (Contains-append_right takes.1.envelopes takes.2 _
+                  (subst (λ (l : EnvelopeValue). Contains takes.2 l) (same_answer takes.0 g r)
                   (later.answers r is (still_waits takes.0 g r waits))));
             })
             | inr rest ↦ inr (rest.0, rest.1, λ k named c. rest.2 k named (with_this k named c))
           ]
     ]
   where
-    in_all : (l : LetterValue) → Contains (takes.1.letters ++ takes.2) l → Contains letters l
-    in_all l c = subst (λ (ls : List LetterValue). Contains ls l) (sym takes.5) c
+    in_all : (l : EnvelopeValue) → Contains (takes.1.envelopes ++ takes.2) l → Contains envelopes l
+    in_all l c = subst (λ (ls : List EnvelopeValue). Contains ls l) (sym takes.5) c
 
     same_vote : (mid : NodeValue) (g : GoesOn old t set v (with_node set accepted n) mid)
         → vote_for_next mid g.term v ≡ vote_for_next old t v
     same_vote mid g = λ i. record { position = executed (g.learner i) + 1; ballot = g.ballot i; command = v }
 
     same_answer : (mid : NodeValue) → GoesOn old t set v (with_node set accepted n) mid → (r : RequestValue)
-        → answer_letter m mid r ≡ answer_letter m old r
-    same_answer mid g r = λ i. answer_letter m (record old { header = g.header i; learner = g.learner i }) r
+        → answer_envelope m mid r ≡ answer_envelope m old r
+    same_answer mid g r = λ i. answer_envelope m (record old { header = g.header i; learner = g.learner i }) r
 
     still_waits : (mid : NodeValue) → GoesOn old t set v (with_node set accepted n) mid → (r : RequestValue)
         → WaitsFresh old r → WaitsFresh mid r
@@ -416,11 +418,11 @@ all_heard m IsText set v (n ∷ voters) old new t accepted letters has takes =
         ]
 
 majority_done : (m : Meaning) (IsText : List ℕ → Type 0) (old new : NodeValue) (t : TermValue) (set : List Member)
-    (v : Command) (accepted voters : List ℕ) (letters : List LetterValue) → HasProposed old t set v accepted
+    (v : Command) (accepted voters : List ℕ) (envelopes : List EnvelopeValue) → HasProposed old t set v accepted
     → IsMajority voters set
-    → TakesEach m IsText (acceptances voters (vote_for_next old t v)) old new letters → AreDone m old v new letters
-majority_done m IsText old new t set v accepted voters letters has major takes =
-    elim (all_heard m IsText set v voters old new t accepted letters has takes) [
+    → TakesEach m IsText (acceptances voters (vote_for_next old t v)) old new envelopes → AreDone m old v new envelopes
+majority_done m IsText old new t set v accepted voters envelopes has major takes =
+    elim (all_heard m IsText set v voters old new t accepted envelopes has takes) [
       | inl done ↦ done
       | inr rest ↦ absurd (rest.1 (majority_more set voters (members_among set rest.0) major
           (passing_named (λ j. list_any (λ i. i == j) rest.0) set) (among rest.0 rest.2)))
@@ -434,9 +436,9 @@ majority_done m IsText old new t set v accepted voters letters has major takes =
         passing_has (λ j. list_any (λ i. i == j) later) set n named (any_contains later n (keeps n named (inr c)))
 
 pub accepted_executed : (m : Meaning) (IsText : List ℕ → Type 0) → AcceptedCommandIsExecuted m IsText
-accepted_executed m IsText old new t set v accepted voters letters has major takes =
-    (majority_done m IsText old new t set v accepted voters letters has major takes).moves
+accepted_executed m IsText old new t set v accepted voters envelopes has major takes =
+    (majority_done m IsText old new t set v accepted voters envelopes has major takes).moves
 
 pub accepted_answered : (m : Meaning) (IsText : List ℕ → Type 0) → AcceptedRequestIsAnswered m IsText
-accepted_answered m IsText old new t set r accepted voters letters has waits major takes =
-    (majority_done m IsText old new t set (Request r) accepted voters letters has major takes).answers r refl waits
+accepted_answered m IsText old new t set r accepted voters envelopes has waits major takes =
+    (majority_done m IsText old new t set (Request r) accepted voters envelopes has major takes).answers r refl waits

@@ -21,10 +21,10 @@ use Rattle.lk_node.proofs.Nodes.{map_has}
 use Rattle.lk_node.specs.Beginning.{next_ballot, greatest_round, AsksPromises, BeginsBallot}
 use Rattle.lk_node.specs.Leading.{having_proposed, received_from, RecordsPromise, DropsPromise, ProposesAll}
 use Rattle.lk_node.specs.NodeValue.{NodeValue}
-use Rattle.lk_node.specs.Telling.{letter_to}
+use Rattle.lk_node.specs.Telling.{envelope_to}
 use Rattle.lk_node.specs.Waiting.{ticked, index_of, BeginsWhereDue}
 use Rattle.lk_node.specs.Yielding.{without_term, yielded, with_round, seeing}
-use Rattle.lk_node_interface.specs.Letters.{LetterValue}
+use Rattle.lk_node_interface.specs.Envelopes.{EnvelopeValue}
 use Rattle.lk_node_interface.specs.Outboxes.{OutboxValue, nothing, with_entry}
 use Rattle.lk_node_interface.specs.Rounds.{greater_round}
 use Rattle.lk_node_interface.specs.Ticks.{is_enough}
@@ -64,12 +64,12 @@ begun_asks old new out room begins = record {
 }
   where
     by_asks : (n : ℕ) → Contains begins.nodes n → AsksPromises (next_ballot old) begins.nodes (ticked old) out
-        → Contains out.letters (letter_to old (kinds.Prepare (next_ballot old) (executed old.learner + 1)) n)
+        → Contains out.envelopes (envelope_to old (kinds.Prepare (next_ballot old) (executed old.learner + 1)) n)
     by_asks n c (inl asks) =
-        subst (λ (o : OutboxValue). Contains o.letters
-        (letter_to old (kinds.Prepare (next_ballot old) (executed old.learner + 1)) n)) (sym asks.1)
-        (Contains-append_right (with_entry (Promise (next_ballot old)) nothing).letters _ _
-        (map_has (letter_to old (kinds.Prepare (next_ballot old) (executed old.learner + 1))) begins.nodes n c))
+        subst (λ (o : OutboxValue). Contains o.envelopes
+        (envelope_to old (kinds.Prepare (next_ballot old) (executed old.learner + 1)) n)) (sym asks.1)
+        (Contains-append_right (with_entry (Promise (next_ballot old)) nothing).envelopes _ _
+        (map_has (envelope_to old (kinds.Prepare (next_ballot old) (executed old.learner + 1))) begins.nodes n c))
     by_asks n c (inr none) = absurd (omega (arith, none.0, room))
 
 pub due_asks : DueNodeAsks
@@ -201,20 +201,20 @@ heard_one m IsText P l b nodes old new from p out k named ballot such takes =
     }
 
 heard_all : (m : Meaning) (IsText : List ℕ → Type 0) (P : ReceivedPromise → Type 0) (l : LearnerValue) (b : BallotValue)
-    (heard : List (ℕ × PromiseValue)) (nodes : List ℕ) (old new : NodeValue) (letters : List LetterValue)
+    (heard : List (ℕ × PromiseValue)) (nodes : List ℕ) (old new : NodeValue) (envelopes : List EnvelopeValue)
     → HasPromises P l b nodes old
     → ((h : ℕ × PromiseValue) → Contains heard h → is_named h.0 l.whole.roster.sets ≡ true)
     → ((h : ℕ × PromiseValue) → Contains heard h → h.1.ballot ≡ b)
     → ((h : ℕ × PromiseValue) → Contains heard h → P (received_from h.0 h.1))
-    → TakesEach m IsText (promises heard) old new letters
+    → TakesEach m IsText (promises heard) old new envelopes
     → (all : List ℕ) × HasPromises P l b all new
     × ((n : ℕ) → Contains nodes n ⊎ Contains (map (λ (h : ℕ × PromiseValue). h.0) heard) n → Contains all n)
-heard_all m IsText P l b [] nodes old new letters k named ballot such takes = (
+heard_all m IsText P l b [] nodes old new envelopes k named ballot such takes = (
   nodes,
   subst (HasPromises P l b nodes) (sym takes.0) k,
   λ n c. elim c [ inl there ↦ there | inr none ↦ absurd (omega (arith, none.1)) ],
 )
-heard_all m IsText P l b (h ∷ heard) nodes old new letters k named ballot such takes =
+heard_all m IsText P l b (h ∷ heard) nodes old new envelopes k named ballot such takes =
     let here : Contains (h ∷ heard) h = (0, omega arith, refl) in
     let one = heard_one m IsText P l b nodes old takes.0 h.0 h.1 takes.1 k (named h here) (ballot h here) (such h here)
     takes.3 in
@@ -256,8 +256,8 @@ abbrev IsFrom : ℕ → ReceivedPromise → Type 0
 IsFrom i q = q.first ≤ i
 
 pub promised_leads : (m : Meaning) (IsText : List ℕ → Type 0) → PromisedNodeLeads m IsText
-promised_leads m IsText old new t set heard letters current members room usable major takes =
-    let rest = heard_all m IsText (IsFrom (executed old.learner + 1)) old.learner t.ballot heard [] old new letters
+promised_leads m IsText old new t set heard envelopes current members room usable major takes =
+    let rest = heard_all m IsText (IsFrom (executed old.learner + 1)) old.learner t.ballot heard [] old new envelopes
     begins named usable.ballot usable.first
     takes in
     leads rest.1 (λ n c. rest.1.has n (rest.2 n (inr c)))

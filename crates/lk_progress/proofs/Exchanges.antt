@@ -22,17 +22,17 @@ use Rattle.lk_messages.specs.declared.message.NodeMessage.TheVariants as kinds
 use Rattle.lk_node.specs.Beginning.{next_ballot}
 use Rattle.lk_node.specs.Nearness.{AreNear}
 use Rattle.lk_node.specs.NodeValue.{NodeValue}
-use Rattle.lk_node.specs.Telling.{letter_to}
+use Rattle.lk_node.specs.Telling.{envelope_to}
 use Rattle.lk_node.specs.Yielding.{with_round}
 use Rattle.lk_node_interface.specs.Outboxes.{OutboxValue}
-use Rattle.lk_node_interface.specs.Letters.{LetterValue}
+use Rattle.lk_node_interface.specs.Envelopes.{EnvelopeValue}
 use Rattle.lk_progress.proofs.Deciding.{accepted_answered, near_accepts}
 use Rattle.lk_progress.proofs.Electing.{due_asks, named_by}
 use Rattle.lk_progress.proofs.Hearing.{Handled, handled, proposed_header, same_acceptor, same_learner}
 use Rattle.lk_progress.proofs.Proposing.{goes_on_proposing, goes_on_waiting, next_set, request_proposed, some_set}
 use Rattle.lk_progress.proofs.Quiet.{IsCollecting, collects, proposes_nothing}
 use Rattle.lk_progress.proofs.Rejecting.{keeps_header, keeps_leader, prepare_has_cause}
-use Rattle.lk_progress.specs.Answering.{WaitsFresh, answer_letter}
+use Rattle.lk_progress.specs.Answering.{WaitsFresh, answer_envelope}
 use Rattle.lk_progress.specs.Deciding.{acceptances, vote_for_next, AsksMembers, HasProposed, IsNearVote, IsReady}
 use Rattle.lk_progress.specs.Electing.{AsksWindow}
 use Rattle.lk_progress.specs.Exchanges.{Exchanges, IsQuietCandidate, IsQuietVoter, QuietMajorityAnswers, Succeeds}
@@ -61,8 +61,8 @@ record PromisesQuietly (old : NodeValue) (from : ℕ) (b : BallotValue) (e : ℕ
     (out : OutboxValue) : Type 0 where
   acceptor : new.acceptor ≡ with_state old.acceptor (with_promise old.acceptor.state b)
   learner : new.learner ≡ old.learner
-  told : Contains out.letters
-      (letter_to old (kinds.Promise (record { ballot = b; first = e + 1; votes = [] })) from)
+  told : Contains out.envelopes
+      (envelope_to old (kinds.Promise (record { ballot = b; first = e + 1; votes = [] })) from)
 
 promises_quietly : (m : Meaning) (IsText : List ℕ → Type 0) (old new : NodeValue) (from : ℕ) (b : BallotValue) (e : ℕ)
     (out : OutboxValue) → IsQuietVoter old b e → Hears m IsText old from (kinds.Prepare b (e + 1)) new out
@@ -81,8 +81,8 @@ promises_quietly m IsText old new from b e out quiet takes =
     by_cause (inl promises) = record {
       acceptor = promises.acceptor;
       learner = promises.learner;
-      told = subst (λ (votes : List Vote). Contains out.letters
-          (letter_to old (kinds.Promise (record { ballot = b; first = e + 1; votes = votes })) from))
+      told = subst (λ (votes : List Vote). Contains out.envelopes
+          (envelope_to old (kinds.Promise (record { ballot = b; first = e + 1; votes = votes })) from))
           (none_from e old.acceptor.state.votes quiet.votes) promises.told;
     }
 
@@ -290,9 +290,9 @@ module _ (m : Meaning) (IsText : List ℕ → Type 0) (c : NodeValue) (set : Lis
           ∙ fourth.header ∙ g.header
 
       -- the others' votes
-      answered : Contains k.answering (answer_letter m c r)
-      answered = subst (λ (l : LetterValue). Contains k.answering l)
-          (λ i. answer_letter m (record c { header = fifth_header i; learner = fifth_learner i }) r)
+      answered : Contains k.answering (answer_envelope m c r)
+      answered = subst (λ (l : EnvelopeValue). Contains k.answering l)
+          (λ i. answer_envelope m (record c { header = fifth_header i; learner = fifth_learner i }) r)
           (accepted_answered m IsText k.fifth k.sixth still.0 set r [] (c.header.node ∷ others) k.answering still.2
           waits
           major
@@ -313,7 +313,7 @@ module _ (m : Meaning) (IsText : List ℕ → Type 0) (c : NodeValue) (set : Lis
           (node_named set n d));
       promises_itself = second.told;
       promises = λ n other. (other_promises (k.votes n other)).told;
-      proposes = λ n d. subst (λ (x : Vote). Contains k.proposing.letters (letter_to k.third (kinds.Accept x) n))
+      proposes = λ n d. subst (λ (x : Vote). Contains k.proposing.envelopes (envelope_to k.third (kinds.Accept x) n))
           third_vote (fourth.told n d);
       accepts_itself = fifth.told;
       accepts = λ n other. other_accepts (k.votes n other);
@@ -326,7 +326,7 @@ module _ (m : Meaning) (IsText : List ℕ → Type 0) (c : NodeValue) (set : Lis
             (executed c.learner) v.promising v.quiet v.promises
 
         other_accepts : {n : ℕ} (v : Votes m IsText c r n)
-            → Contains v.accepting.letters (letter_to v.second (kinds.Accepted (vote_by c r)) c.header.node)
+            → Contains v.accepting.envelopes (envelope_to v.second (kinds.Accepted (vote_by c r)) c.header.node)
         other_accepts v =
             let p : PromisesQuietly v.first c.header.node (next_ballot c) (executed c.learner) v.second v.promising =
             promises_quietly m IsText v.first v.second c.header.node (next_ballot c) (executed c.learner)

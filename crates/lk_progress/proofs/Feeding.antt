@@ -10,14 +10,14 @@ use Rattle.lk_messages.specs.declared.message.NodeMessage.TheVariants as kinds
 use Rattle.lk_learner.specs.Learners.{LearnerValue, executed, IsRetained, decided_from, wanted}
 use Rattle.lk_learner.specs.Parts.{AreParts, start_of}
 use Rattle.lk_state.specs.Meanings.{Meaning}
-use Rattle.lk_node_interface.specs.Letters.{LetterValue}
+use Rattle.lk_node_interface.specs.Envelopes.{EnvelopeValue}
 use Rattle.lk_node_interface.specs.Outboxes.{OutboxValue, nothing}
 use Rattle.lk_node.proofs.Nodes.{map_has}
 use Rattle.lk_node.specs.CatchingUp.{FeedsParts, Feeds, ClosesGap, AsksOn, AsksWhereMore, HandlesLead}
 use Rattle.lk_node.specs.NodeValue.{NodeValue}
 use Rattle.lk_node.specs.Replying.{SaysAlone}
 use Rattle.lk_node.specs.Saying.{to_node}
-use Rattle.lk_node.specs.Telling.{letter_to}
+use Rattle.lk_node.specs.Telling.{envelope_to}
 use Rattle.lk_progress.proofs.Hearing.{Handled, handled, still_told}
 use Rattle.lk_progress.specs.Feeding.{SendsCommands, SendsSnapshot, Sends, WantIsAnswered, LaggingNodeIsFed, Asks}
 use Rattle.lk_progress.specs.Feeding.{LaggingNodeAsks, FollowerAsks, MayServe}
@@ -25,10 +25,10 @@ use Rattle.lk_progress.specs.Feeding.{LaggingNodeAsks, FollowerAsks, MayServe}
 -- ---- what is sent
 
 said_alone : (node : NodeValue) (message : NodeMessage) (other : ℕ) (out : OutboxValue)
-    → SaysAlone node (to_node node other) message out → Contains out.letters (letter_to node message other)
+    → SaysAlone node (to_node node other) message out → Contains out.envelopes (envelope_to node message other)
 said_alone node message other out k =
-    subst (λ (o : OutboxValue). Contains o.letters (letter_to node message other)) (sym k.1)
-    (Contains-push nothing.letters (letter_to node message other))
+    subst (λ (o : OutboxValue). Contains o.envelopes (envelope_to node message other)) (sym k.1)
+    (Contains-push nothing.envelopes (envelope_to node message other))
 
 how_many : (first : ℕ) (l : LearnerValue) → MayServe l → IsRetained l first
     → (length (decided_from first l).commands ≡ 16) ⊎ (first + length (decided_from first l).commands ≡ executed l + 1)
@@ -68,10 +68,10 @@ sends_snapshot node other first offset out f is feeds = record {
   parts = feeds.parts;
   are = feeds.are;
   some = some_parts _ _ _ feeds.parts feeds.are (start_below offset node.learner.snapshot f.some);
-  told = λ p c. subst (λ (o : OutboxValue). Contains o.letters (letter_to node (kinds.Part p) other))
+  told = λ p c. subst (λ (o : OutboxValue). Contains o.envelopes (envelope_to node (kinds.Part p) other))
       (sym feeds.comes_to)
-      (Contains-append_right nothing.letters _ _
-      (map_has (λ (q : PartValue). letter_to node (kinds.Part q) other) feeds.parts p c));
+      (Contains-append_right nothing.envelopes _ _
+      (map_has (λ (q : PartValue). envelope_to node (kinds.Part q) other) feeds.parts p c));
 }
 
 feeds_sends : (node : NodeValue) (other first offset : ℕ) (out : OutboxValue) → MayServe node.learner
@@ -81,9 +81,10 @@ feeds_sends node other first offset out f there (inr (inl k)) =
     inr (sends_snapshot node other first offset out f k.0 k.1)
 feeds_sends node other first offset out f there (inr (inr k)) = absurd (omega (arith, there, k.0))
 
--- more letters take none back
+-- more envelopes take none back
 sends_still : (node : NodeValue) (other first offset : ℕ) (before out : OutboxValue)
-    → ((l : LetterValue) → Contains before.letters l → Contains out.letters l) → Sends node other first offset before
+    → ((l : EnvelopeValue) → Contains before.envelopes l → Contains out.envelopes l) → Sends node other first
+    offset before
     → Sends node other first offset out
 sends_still node other first offset before out more (inl k) =
     inl (record { kept = k.kept; many = k.many; told = more _ k.told })

@@ -13,7 +13,7 @@ use Rattle.lk_learner.specs.Installing.{hearing, installed, HasWhole, MayInstall
 use Rattle.lk_learner.specs.Learners.{GatheredValue, LearnerValue, WholeValue, executed, alpha}
 use Rattle.lk_learner.specs.Parts.{part_of, AreParts}
 use Rattle.lk_learner.specs.Unpacking.{Unpacks}
-use Rattle.lk_node_interface.specs.Letters.{LetterValue}
+use Rattle.lk_node_interface.specs.Envelopes.{EnvelopeValue}
 use Rattle.lk_node_interface.specs.Outboxes.{OutboxValue}
 use Rattle.lk_node.specs.Executing.{without_term_if_outside}
 use Rattle.lk_node.specs.Installing.{EndsFirstWaits, none_ended, one_ended, HandlesPart, InstallsGathered}
@@ -227,18 +227,18 @@ since position text old mid new reached same (inl whole) = inl whole
 since position text old mid new reached same (inr more) = inr (more.0, more.1, more.2 ∙ same)
 
 all_heard : (m : Meaning) (IsText : List ℕ → Type 0) (from position : ℕ) (text : List ℕ) (w : WholeValue)
-    (parts : List PartValue) (p : PartValue) (old new : NodeValue) (count : ℕ) (letters : List LetterValue)
+    (parts : List PartValue) (p : PartValue) (old new : NodeValue) (count : ℕ) (envelopes : List EnvelopeValue)
     → 1 ≤ alpha old.learner → executed old.learner < position → Unpacks IsText (alpha old.learner) position text w
     → HasSoFar old.learner position text count → Follow position text count (p ∷ parts)
-    → TakesEach m IsText (parts_from from (p ∷ parts)) old new letters
+    → TakesEach m IsText (parts_from from (p ∷ parts)) old new envelopes
     → GetsOn old new position text (count + length (p ∷ parts) * 1024)
-all_heard m IsText from position text w [] p old new count letters some behind unpacks has follow takes =
+all_heard m IsText from position text w [] p old new count envelopes some behind unpacks has follow takes =
     let first = first_follows position text count p [] follow in
     let heard : Hears m IsText old from (kinds.Part (part_of position text count)) takes.0 takes.1 =
     subst (λ (q : PartValue). Hears m IsText old from (kinds.Part q) takes.0 takes.1) first.0 takes.3 in
     subst (λ (node : NodeValue). GetsOn old node position text (count + 1024)) (sym takes.4.0)
     (part_heard m IsText old takes.0 from position count text w takes.1 some behind unpacks first.1 has heard)
-all_heard m IsText from position text w (q ∷ parts) p old new count letters some behind unpacks has follow takes =
+all_heard m IsText from position text w (q ∷ parts) p old new count envelopes some behind unpacks has follow takes =
     let first = first_follows position text count p (q ∷ parts) follow in
     let rest = rest_follow position text count p (q ∷ parts) follow in
     let next = first_follows position text (count + 1024) q parts rest in
@@ -260,13 +260,13 @@ all_heard m IsText from position text w (q ∷ parts) p old new count letters so
     ]
 
 pub parts_installed : (m : Meaning) (IsText : List ℕ → Type 0) → PartsAreInstalled m IsText
-parts_installed m IsText old new from position count text w parts letters some behind unpacks within has are takes =
+parts_installed m IsText old new from position count text w parts envelopes some behind unpacks within has are takes =
     by_parts parts are takes
   where
     by_parts : (ps : List PartValue) → AreParts position text count ps
-        → TakesEach m IsText (parts_from from ps) old new letters
+        → TakesEach m IsText (parts_from from ps) old new envelopes
         → GetsOn old new position text (count + length ps * 1024)
     by_parts [] are takes =
         elim are.all [ inl eight ↦ absurd (cc eight) | inr all ↦ absurd (omega (arith, all, within)) ]
     by_parts (p ∷ ps) are takes =
-        all_heard m IsText from position text w ps p old new count letters some behind unpacks has are.each takes
+        all_heard m IsText from position text w ps p old new count envelopes some behind unpacks has are.each takes

@@ -42,9 +42,9 @@ module _ (m : Meaning) (IsText : List ℕ → Type 0) (behind ahead : NodeValue)
       → GetsSnapshot m IsText behind ahead out
   by_snapshot sends = record {
     sends = sends;
-    gains = λ new from w letters unpacks has takes.
+    gains = λ new from w envelopes unpacks has takes.
         parts_installed m IsText behind new from ahead.learner.snapshot_position (start_for behind ahead)
-        ahead.learner.snapshot w sends.parts letters some (omega (arith, sends.replaced)) unpacks
+        ahead.learner.snapshot w sends.parts envelopes some (omega (arith, sends.replaced)) unpacks
         (start_below (gathered_bytes behind.learner.gathered) ahead.learner.snapshot k.learner.some) has sends.are
         takes;
   }

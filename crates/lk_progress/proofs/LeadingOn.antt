@@ -28,7 +28,7 @@ use Rattle.lk_node.specs.Leading.{ProposesOpen}
 use Rattle.lk_node.specs.NodeValue.{NodeValue}
 use Rattle.lk_node.specs.Yielding.{without_term}
 use Rattle.lk_node_interface.specs.KeptReplies.{session_by}
-use Rattle.lk_node_interface.specs.Letters.{LetterValue}
+use Rattle.lk_node_interface.specs.Envelopes.{EnvelopeValue}
 use Rattle.lk_node_interface.specs.Outboxes.{OutboxValue}
 use Rattle.lk_progress.proofs.Deciding.{accepted_executed}
 use Rattle.lk_progress.proofs.Electing.{named_by, proposes_term}
@@ -234,11 +234,12 @@ module _ (set : List Member) (b : BallotValue) (received : List ReceivedPromise)
           subst (λ (node : NodeValue). Keeps set b received node × NothingToRun node) (sym other.1) k
 
   all_keep : (m : Meaning) (IsText : List ℕ → Type 0) (x : Vote) (voters : List ℕ) (old new : NodeValue)
-      (letters : List LetterValue) → TakesEach m IsText (acceptances voters x) old new letters → KeepsMembers x.command
+      (envelopes : List EnvelopeValue) → TakesEach m IsText (acceptances voters x) old new envelopes
+      → KeepsMembers x.command
       → Keeps set b received old × NothingToRun old → Keeps set b received new × NothingToRun new
-  all_keep m IsText x [] old new letters takes plain k =
+  all_keep m IsText x [] old new envelopes takes plain k =
       subst (λ (node : NodeValue). Keeps set b received node × NothingToRun node) (sym takes.0) k
-  all_keep m IsText x (n ∷ voters) old new letters takes plain k =
+  all_keep m IsText x (n ∷ voters) old new envelopes takes plain k =
       all_keep m IsText x voters takes.0 new takes.2 takes.4 plain
       (one_keeps m IsText old takes.0 n x takes.1 takes.3 plain k)
 
@@ -271,7 +272,7 @@ promised_later set i j qs le major =
     (later_promisers i j n qs le (passing_pass (λ k. list_any (λ r. r.node == k && nat_le r.first i) qs) set n c)))
 
 pub leads_on : (m : Meaning) (IsText : List ℕ → Type 0) → LeaderLeadsOn m IsText
-leads_on m IsText old new t set v accepted voters letters fixed plain has major takes = record {
+leads_on m IsText old new t set v accepted voters envelopes fixed plain has major takes = record {
   moves = moves;
   leads = λ room. (
     k.0.term,
@@ -299,7 +300,7 @@ leads_on m IsText old new t set v accepted voters letters fixed plain has major 
 }
   where
     moves : executed old.learner < executed new.learner
-    moves = accepted_executed m IsText old new t set v accepted voters letters has major takes
+    moves = accepted_executed m IsText old new t set v accepted voters envelopes has major takes
 
     begins : Keeps set t.ballot t.received old
     begins = record {
@@ -314,7 +315,7 @@ leads_on m IsText old new t set v accepted voters letters fixed plain has major 
     }
 
     k : Keeps set t.ballot t.received new × NothingToRun new
-    k = all_keep set t.ballot t.received m IsText (vote_for_next old t v) voters old new letters takes plain
+    k = all_keep set t.ballot t.received m IsText (vote_for_next old t v) voters old new envelopes takes plain
         (begins, fixed.known)
 
     zero_is : executed new.learner + 1 - (executed new.learner + 1) ≡ 0

@@ -26,13 +26,13 @@ use Rattle.lk_node.specs.Asking.{with_waiting, QueuesOrRedirects, RepliesAs}
 use Rattle.lk_node.specs.Executing.{NothingToRun}
 use Rattle.lk_node.specs.Leading.{having_proposed, ProposesAll, ProposesVote}
 use Rattle.lk_node.specs.NodeValue.{NodeValue}
-use Rattle.lk_node.specs.Telling.{letter_to}
-use Rattle.lk_node_interface.specs.Letters.{LetterValue}
+use Rattle.lk_node.specs.Telling.{envelope_to}
+use Rattle.lk_node_interface.specs.Envelopes.{EnvelopeValue}
 use Rattle.lk_node_interface.specs.Outboxes.{OutboxValue, nothing}
 use Rattle.lk_progress.proofs.Executing.{reaches_or_not}
 use Rattle.lk_progress.proofs.Majorities.{among_none, nobody_is_few}
 use Rattle.lk_progress.proofs.Hearing.{Handled, handled, proposed_acceptor, proposed_header, proposed_learner}
-use Rattle.lk_progress.proofs.Hearing.{proposed_letters}
+use Rattle.lk_progress.proofs.Hearing.{proposed_envelopes}
 use Rattle.lk_progress.specs.Deciding.{vote_for_next, HasProposed, AsksMembers, FreshRequestIsProposed}
 use Rattle.lk_state.specs.Meanings.{Meaning}
 use Rattle.lk_state.specs.Runs.{seen_as}
@@ -280,11 +280,11 @@ proposes_it (x ∷ xs) node new t set r out k all =
     let rest = goes_on_proposing xs (having_proposed node x p) new _ out _ set (Request r) [] all.1
     (now_proposed node t set r k x p) in
     record {
-      told = λ n c. proposed_letters xs (having_proposed node x p) new _ out
-          (letter_to node (kinds.Accept (vote_for_next node t (Request r))) n) all.1
-          (Contains-append_right nothing.letters (accepts p) _
-          (subst (λ (y : Vote). Contains (accepts p) (letter_to node (kinds.Accept y) n)) (is_vote node t set r k x p)
-          (map_has (letter_to node (kinds.Accept x)) (nodes_of p.proposes.set) n
+      told = λ n c. proposed_envelopes xs (having_proposed node x p) new _ out
+          (envelope_to node (kinds.Accept (vote_for_next node t (Request r))) n) all.1
+          (Contains-append_right nothing.envelopes (accepts p) _
+          (subst (λ (y : Vote). Contains (accepts p) (envelope_to node (kinds.Accept y) n)) (is_vote node t set r k x p)
+          (map_has (envelope_to node (kinds.Accept x)) (nodes_of p.proposes.set) n
           (subst (λ (s : List Member). Contains (nodes_of s) n) (sym (same_set node t set r k x p)) c))));
       term = rest.0;
       vote = λ i. record {
@@ -305,8 +305,8 @@ proposes_it (x ∷ xs) node new t set r out k all =
       };
     }
   where
-    accepts : ProposesVote node x → List LetterValue
-    accepts p = map (letter_to node (kinds.Accept x)) (nodes_of p.proposes.set)
+    accepts : ProposesVote node x → List EnvelopeValue
+    accepts p = map (envelope_to node (kinds.Accept x)) (nodes_of p.proposes.set)
 
 -- ---- a fresh request
 

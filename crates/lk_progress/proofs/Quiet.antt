@@ -22,7 +22,7 @@ use Rattle.lk_messages.specs.declared.message.NodeMessage.TheVariants as kinds
 use Rattle.lk_node.specs.Beginning.{next_ballot}
 use Rattle.lk_node.specs.Leading.{received_from, ProposesAll, ProposesOpen, ProposesVote, RecordsPromise, DropsPromise}
 use Rattle.lk_node.specs.NodeValue.{NodeValue}
-use Rattle.lk_node_interface.specs.Letters.{LetterValue}
+use Rattle.lk_node_interface.specs.Envelopes.{EnvelopeValue}
 use Rattle.lk_node_interface.specs.Outboxes.{OutboxValue}
 use Rattle.lk_progress.proofs.Electing.{HasPromises, with_one, near_promiser, named_by}
 use Rattle.lk_progress.proofs.Hearing.{Handled, handled}
@@ -181,18 +181,18 @@ one_promise m IsText candidate a nodes old new n out k still named takes =
         still)
 
 all_promises : (m : Meaning) (IsText : List ℕ → Type 0) (candidate : NodeValue) (a : AcceptorValue) (ns nodes : List ℕ)
-    (old new : NodeValue) (letters : List LetterValue) → IsCollecting candidate a nodes old
+    (old new : NodeValue) (envelopes : List EnvelopeValue) → IsCollecting candidate a nodes old
     → is_changing_at candidate.learner.whole.roster (executed candidate.learner + 1) ≡ false
     → ((n : ℕ) → Contains ns n → is_named n candidate.learner.whole.roster.sets ≡ true)
-    → TakesEach m IsText (promises (map (λ n. (n, promise_to candidate)) ns)) old new letters
+    → TakesEach m IsText (promises (map (λ n. (n, promise_to candidate)) ns)) old new envelopes
     → (all : List ℕ) × IsCollecting candidate a all new
     × ((n : ℕ) → Contains nodes n ⊎ Contains ns n → Contains all n)
-all_promises m IsText candidate a [] nodes old new letters k still named takes = (
+all_promises m IsText candidate a [] nodes old new envelopes k still named takes = (
   nodes,
   subst (IsCollecting candidate a nodes) (sym takes.0) k,
   λ n c. elim c [ inl there ↦ there | inr none ↦ absurd (omega (arith, none.1)) ],
 )
-all_promises m IsText candidate a (n ∷ ns) nodes old new letters k still named takes =
+all_promises m IsText candidate a (n ∷ ns) nodes old new envelopes k still named takes =
     let one = one_promise m IsText candidate a nodes old takes.0 n takes.1 k still (named n (0, omega arith, refl))
     takes.3 in
     let rest = all_promises m IsText candidate a ns (n ∷ nodes) takes.0 new takes.2 one still
@@ -233,12 +233,12 @@ now_ready candidate set a all voters node quiet major k more = record {
 
 -- the promises of a majority make it ready
 pub collects : (m : Meaning) (IsText : List ℕ → Type 0) (candidate : NodeValue) (set : List Member) (a : AcceptorValue)
-    (voters : List ℕ) (old new : NodeValue) (letters : List LetterValue) → IsQuietCandidate candidate set
+    (voters : List ℕ) (old new : NodeValue) (envelopes : List EnvelopeValue) → IsQuietCandidate candidate set
     → IsMajority voters set → IsCollecting candidate a [] old
-    → TakesEach m IsText (promises (map (λ n. (n, promise_to candidate)) voters)) old new letters
+    → TakesEach m IsText (promises (map (λ n. (n, promise_to candidate)) voters)) old new envelopes
     → (all : List ℕ) × (k : IsCollecting candidate a all new) × IsReady new k.has.term set
-collects m IsText candidate set a voters old new letters quiet major k takes =
-    let rest = all_promises m IsText candidate a voters [] old new letters k quiet.unchanged named takes in (
+collects m IsText candidate set a voters old new envelopes quiet major k takes =
+    let rest = all_promises m IsText candidate a voters [] old new envelopes k quiet.unchanged named takes in (
       rest.0,
       rest.1,
       now_ready candidate set a rest.0 voters new quiet major rest.1 (λ n c. rest.2 n (inr c)),

@@ -22,7 +22,7 @@ use Rattle.lk_node_interface.specs.Outboxes.{OutboxValue, nothing, with_optional
 use Rattle.lk_node.specs.Nearness.{AreNear}
 use Rattle.lk_node.specs.NodeValue.{NodeValue}
 use Rattle.lk_node.specs.Responding.{with_acceptor, replied, Responds}
-use Rattle.lk_node.specs.Telling.{letter_to}
+use Rattle.lk_node.specs.Telling.{envelope_to}
 use Rattle.lk_leader.specs.Terms.{TermValue, is_term_below}
 use Rattle.lk_node.specs.Yielding.{without_term, yielded, with_round}
 use Rattle.lk_progress.specs.Rejecting.{Promises, RejectsPrepare, Accepts, RejectsAccept, AgreesWithKept}
@@ -154,7 +154,7 @@ not_below_itself b =
     let same : eqb b.round b.round ≡ true = eq-eqb b.round b.round refl in
     rw (round, same, node) refl
 
--- the node keeps the acceptor of the response, and the reply is among its letters
+-- the node keeps the acceptor of the response, and the reply is among its envelopes
 module _ (old new : NodeValue) (from : ℕ) (Gives : Response → AcceptorValue → Type 0) (out : OutboxValue)
     (k : Responds old from Gives new out) where
   keeps : new.acceptor ≡ k.acceptor
@@ -181,11 +181,11 @@ module _ (old new : NodeValue) (from : ℕ) (Gives : Response → AcceptorValue 
       ap (λ (node : NodeValue). node.leader) k.becomes
       ∙ replied_leader k.response.reply (with_acceptor old k.acceptor) above
 
-  tells : (message : NodeMessage) → k.response.reply ≡ message → Contains out.letters (letter_to old message from)
+  tells : (message : NodeMessage) → k.response.reply ≡ message → Contains out.envelopes (envelope_to old message from)
   tells message is =
-      subst (λ (m : NodeMessage). Contains out.letters (letter_to old m from)) is
-      (subst (λ (o : OutboxValue). Contains o.letters (letter_to old k.response.reply from)) (sym k.comes_to)
-      (Contains-push (with_optional k.response.entry nothing).letters (letter_to old k.response.reply from)))
+      subst (λ (m : NodeMessage). Contains out.envelopes (envelope_to old m from)) is
+      (subst (λ (o : OutboxValue). Contains o.envelopes (envelope_to old k.response.reply from)) (sym k.comes_to)
+      (Contains-push (with_optional k.response.entry nothing).envelopes (envelope_to old k.response.reply from)))
 
 -- ---- both replies
 

@@ -109,7 +109,7 @@ rests_outside : (old new : NodeValue) (out : OutboxValue) → IsOutsider old →
     → StaysSilent new out
 rests_outside old new out o same silent =
     let still : IsOutsider (ticked old) = record { idle = o.idle; outside = o.outside } in
-    record { still = subst IsOutsider (sym same) still; no_letters = ap (λ (x : OutboxValue). x.letters) silent }
+    record { still = subst IsOutsider (sym same) still; no_envelopes = ap (λ (x : OutboxValue). x.envelopes) silent }
 
 pub outsider_silent : (old new : NodeValue) (out : OutboxValue) → IsOutsider old → Ticks old new out
     → StaysSilent new out

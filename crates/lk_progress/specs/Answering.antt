@@ -7,7 +7,7 @@ use Rattle.lk_state.specs.Meanings.{Meaning}
 use Rattle.lk_state.specs.Runs.{session_for}
 use Rattle.lk_state.specs.Sessions.{session_of, is_new}
 use Rattle.lk_leader.specs.Waits.{waiting_of}
-use Rattle.lk_node_interface.specs.Letters.{LetterValue}
+use Rattle.lk_node_interface.specs.Envelopes.{EnvelopeValue}
 use Rattle.lk_node_interface.specs.Saying.{saying}
 use Rattle.lk_node_interface.specs.declared.to.To.TheVariants as to
 use Rattle.lk_node_interface.specs.Outboxes.{OutboxValue}
@@ -19,9 +19,9 @@ pub record WaitsFresh (node : NodeValue) (r : RequestValue) : Type 0 where
   pub waits : waiting_of r.client node.leader.waiting ≡ Some r
   pub fresh : is_new (session_of r.client node.learner.whole.sessions) r.number ≡ true
 
--- the letter that answers it
-abbrev pub answer_letter : Meaning → NodeValue → RequestValue → LetterValue
-answer_letter m node r = record {
+-- the envelope that answers it
+abbrev pub answer_envelope : Meaning → NodeValue → RequestValue → EnvelopeValue
+answer_envelope m node r = record {
   to = to.Client r.client;
   bytes = spelling (saying node.header (kinds.Answer (record {
     client = r.client;
@@ -34,4 +34,4 @@ answer_letter m node r = record {
 abbrev pub ExecutedRequestIsAnswered : Type 0
 ExecutedRequestIsAnswered = (m : Meaning) (old new : NodeValue) (before after : OutboxValue) (r : RequestValue)
     → WaitsFresh old r → (k : Executes m old before new after) → k.command ≡ Request r
-    → Contains after.letters (answer_letter m old r)
+    → Contains after.envelopes (answer_envelope m old r)

@@ -11,7 +11,7 @@ use Rattle.lk_acceptor.specs.VoteLists.{votes_from}
 use Rattle.lk_leader.specs.Proposing.{AreMembersAt, Leads}
 use Rattle.lk_leader.specs.Terms.{TermValue}
 use Rattle.lk_learner.specs.Learners.{executed}
-use Rattle.lk_node_interface.specs.Letters.{LetterValue}
+use Rattle.lk_node_interface.specs.Envelopes.{EnvelopeValue}
 use Rattle.lk_node_interface.specs.Outboxes.{OutboxValue}
 use Rattle.lk_node.specs.Beginning.{next_ballot}
 use Rattle.lk_node.specs.CatchingUp.{refusal}
@@ -19,7 +19,7 @@ use Rattle.lk_node.specs.Leading.{NothingToPropose}
 use Rattle.lk_node.specs.Nearness.{AreNear}
 use Rattle.lk_node.specs.NodeValue.{NodeValue}
 use Rattle.lk_node.specs.Reminding.{Ticks}
-use Rattle.lk_node.specs.Telling.{letter_to}
+use Rattle.lk_node.specs.Telling.{envelope_to}
 use Rattle.lk_progress.specs.Electing.{IsDue, promises, GoesAbove}
 use Rattle.lk_progress.specs.Feeding.{Asks}
 use Rattle.lk_progress.specs.Hearing.{Hears, TakesEach}
@@ -57,9 +57,9 @@ pub record IsStill (begun now : NodeValue) : Type 0 where
 pub record IsElectedBy (m : Meaning) (IsText : List ℕ → Type 0) (candidate begun : NodeValue)
     (asked : List Asked) : Type 0 where
   pub told : (v : Asked) → Contains asked v
-      → Contains v.out.letters (letter_to v.old (kinds.Promise (promise_of candidate v)) candidate.header.node)
-  pub leads : (now last : NodeValue) (letters : List LetterValue) → IsStill begun now
-      → TakesEach m IsText (promises (map (λ v. (v.number, promise_of candidate v)) asked)) now last letters
+      → Contains v.out.envelopes (envelope_to v.old (kinds.Promise (promise_of candidate v)) candidate.header.node)
+  pub leads : (now last : NodeValue) (envelopes : List EnvelopeValue) → IsStill begun now
+      → TakesEach m IsText (promises (map (λ v. (v.number, promise_of candidate v)) asked)) now last envelopes
       → Leads last.leader last.learner.whole.roster
 
 -- one of them rejects the ballot, and once the candidate has heard that, its next ballot is above what that node has

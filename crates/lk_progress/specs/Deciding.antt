@@ -18,13 +18,13 @@ use Rattle.lk_leader.specs.Proposing.{AreMembersAt, promisers}
 use Rattle.lk_leader.specs.Terms.{ProposalValue, TermValue, proposal_at}
 use Rattle.lk_leader.specs.Values.{promised_at, received_at}
 use Rattle.lk_learner.specs.Learners.{executed, alpha}
-use Rattle.lk_node_interface.specs.Letters.{LetterValue}
+use Rattle.lk_node_interface.specs.Envelopes.{EnvelopeValue}
 use Rattle.lk_node_interface.specs.Outboxes.{OutboxValue}
 use Rattle.lk_node.specs.Executing.{NothingToRun}
 use Rattle.lk_node.specs.NodeValue.{NodeValue}
 use Rattle.lk_node.specs.Nearness.{AreNear}
-use Rattle.lk_node.specs.Telling.{letter_to}
-use Rattle.lk_progress.specs.Answering.{WaitsFresh, answer_letter}
+use Rattle.lk_node.specs.Telling.{envelope_to}
+use Rattle.lk_progress.specs.Answering.{WaitsFresh, answer_envelope}
 use Rattle.lk_progress.specs.Hearing.{Hears, Takes, TakesEach}
 use Rattle.lk_progress.specs.Rejecting.{Accepts, AgreesWithKept}
 
@@ -63,7 +63,7 @@ pub record HasProposed (node : NodeValue) (t : TermValue) (set : List Member) (v
 pub record AsksMembers (old : NodeValue) (t : TermValue) (set : List Member) (r : RequestValue) (new : NodeValue)
     (out : OutboxValue) : Type 0 where
   pub told : (n : ℕ) → Contains (nodes_of set) n
-      → Contains out.letters (letter_to old (kinds.Accept (vote_for_next old t (Request r))) n)
+      → Contains out.envelopes (envelope_to old (kinds.Accept (vote_for_next old t (Request r))) n)
   pub term : TermValue
   pub vote : vote_for_next new term (Request r) ≡ vote_for_next old t (Request r)
   pub proposed : HasProposed new term set (Request r) []
@@ -102,16 +102,16 @@ acceptances nodes x = map (λ n. content.Node n (kinds.Accepted x)) nodes
 -- a leader to which a majority of the position's members has replied, in any order, has executed what it proposed
 abbrev pub AcceptedCommandIsExecuted : Meaning → (List ℕ → Type 0) → Type 0
 AcceptedCommandIsExecuted m IsText = (old new : NodeValue) (t : TermValue) (set : List Member) (v : Command)
-    (accepted voters : List ℕ) (letters : List LetterValue) → HasProposed old t set v accepted
+    (accepted voters : List ℕ) (envelopes : List EnvelopeValue) → HasProposed old t set v accepted
     → IsMajority voters set
-    → TakesEach m IsText (acceptances voters (vote_for_next old t v)) old new letters
+    → TakesEach m IsText (acceptances voters (vote_for_next old t v)) old new envelopes
     → executed old.learner < executed new.learner
 
 -- if it is a request that waits, one of these steps answers the client
 abbrev pub AcceptedRequestIsAnswered : Meaning → (List ℕ → Type 0) → Type 0
 AcceptedRequestIsAnswered m IsText = (old new : NodeValue) (t : TermValue) (set : List Member) (r : RequestValue)
-    (accepted voters : List ℕ) (letters : List LetterValue) → HasProposed old t set (Request r) accepted
+    (accepted voters : List ℕ) (envelopes : List EnvelopeValue) → HasProposed old t set (Request r) accepted
     → WaitsFresh old r
     → IsMajority voters set
-    → TakesEach m IsText (acceptances voters (vote_for_next old t (Request r))) old new letters
-    → Contains letters (answer_letter m old r)
+    → TakesEach m IsText (acceptances voters (vote_for_next old t (Request r))) old new envelopes
+    → Contains envelopes (answer_envelope m old r)

@@ -15,13 +15,13 @@ use Rattle.lk_state.specs.Meanings.{Meaning}
 use Rattle.lk_leader.specs.Proposing.{AreMembersAt, Leads}
 use Rattle.lk_leader.specs.Terms.{ReceivedPromise, TermValue}
 use Rattle.lk_learner.specs.Learners.{executed}
-use Rattle.lk_node_interface.specs.Letters.{LetterValue}
+use Rattle.lk_node_interface.specs.Envelopes.{EnvelopeValue}
 use Rattle.lk_node_interface.specs.Outboxes.{OutboxValue}
 use Rattle.lk_node_interface.specs.Ticks.{is_enough}
 use Rattle.lk_node.specs.Beginning.{beginning, greatest_round, next_ballot}
 use Rattle.lk_node.specs.NodeValue.{NodeValue}
 use Rattle.lk_node.specs.Reminding.{Ticks}
-use Rattle.lk_node.specs.Telling.{letter_to}
+use Rattle.lk_node.specs.Telling.{envelope_to}
 use Rattle.lk_node.specs.Waiting.{index_of, ticked}
 use Rattle.lk_progress.specs.Hearing.{Hears, TakesEach}
 
@@ -38,8 +38,8 @@ pub record IsDue (node : NodeValue) : Type 0 where
 -- on
 pub record AsksWindow (old new : NodeValue) (out : OutboxValue) : Type 0 where
   pub becomes : new ≡ beginning (next_ballot old) (ticked old)
-  pub told : (n : ℕ) → 1 ≤ n → is_named n old.learner.whole.roster.sets ≡ true → Contains out.letters
-      (letter_to old (kinds.Prepare (next_ballot old) (executed old.learner + 1)) n)
+  pub told : (n : ℕ) → 1 ≤ n → is_named n old.learner.whole.roster.sets ≡ true → Contains out.envelopes
+      (envelope_to old (kinds.Prepare (next_ballot old) (executed old.learner + 1)) n)
 
 abbrev pub DueNodeAsks : Type 0
 DueNodeAsks = (old new : NodeValue) (out : OutboxValue) → IsDue old → Ticks old new out → AsksWindow old new out
@@ -60,10 +60,10 @@ pub record AreUsable (node : NodeValue) (t : TermValue) (heard : List (ℕ × Pr
 -- a node with a term that hears a majority of the next position's members promise, in any order, leads
 abbrev pub PromisedNodeLeads : Meaning → (List ℕ → Type 0) → Type 0
 PromisedNodeLeads m IsText = (old new : NodeValue) (t : TermValue) (set : List Member)
-    (heard : List (ℕ × PromiseValue)) (letters : List LetterValue) → old.leader.term ≡ Some t
+    (heard : List (ℕ × PromiseValue)) (envelopes : List EnvelopeValue) → old.leader.term ≡ Some t
     → AreMembersAt old.learner.whole.roster (executed old.learner + 1) set → executed old.learner < max_count
     → AreUsable old t heard → IsMajority (map (λ h. h.0) heard) set
-    → TakesEach m IsText (promises heard) old new letters → Leads new.leader new.learner.whole.roster
+    → TakesEach m IsText (promises heard) old new envelopes → Leads new.leader new.learner.whole.roster
 
 -- ---- it is rejected
 

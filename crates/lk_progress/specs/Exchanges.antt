@@ -18,15 +18,15 @@ use Rattle.lk_state.specs.Sessions.{session_of, is_new}
 use Rattle.lk_leader.specs.Proposing.{AreMembersAt}
 use Rattle.lk_leader.specs.Values.{is_changing_at}
 use Rattle.lk_learner.specs.Learners.{executed, alpha}
-use Rattle.lk_node_interface.specs.Letters.{LetterValue}
+use Rattle.lk_node_interface.specs.Envelopes.{EnvelopeValue}
 use Rattle.lk_node_interface.specs.Outboxes.{OutboxValue}
 use Rattle.lk_node.specs.Beginning.{next_ballot}
 use Rattle.lk_node.specs.Executing.{NothingToRun}
 use Rattle.lk_node.specs.Nearness.{AreNear}
 use Rattle.lk_node.specs.NodeValue.{NodeValue}
 use Rattle.lk_node.specs.Reminding.{Ticks}
-use Rattle.lk_node.specs.Telling.{letter_to}
-use Rattle.lk_progress.specs.Answering.{answer_letter}
+use Rattle.lk_node.specs.Telling.{envelope_to}
+use Rattle.lk_progress.specs.Answering.{answer_envelope}
 use Rattle.lk_progress.specs.Deciding.{acceptances}
 use Rattle.lk_progress.specs.Electing.{IsDue, promises}
 use Rattle.lk_progress.specs.Hearing.{Hears, Takes, TakesEach}
@@ -97,7 +97,7 @@ pub record Exchanges (m : Meaning) (IsText : List ℕ → Type 0) (candidate : N
   pub promising : OutboxValue
   pub promises_itself : Hears m IsText first candidate.header.node (prepare_by candidate) second promising
   pub third : NodeValue
-  pub leading : List LetterValue
+  pub leading : List EnvelopeValue
   pub leads : TakesEach m IsText (promises (map (λ n. (n, promise_to candidate)) (candidate.header.node ∷ others)))
       second third leading
   pub fourth : NodeValue
@@ -107,7 +107,7 @@ pub record Exchanges (m : Meaning) (IsText : List ℕ → Type 0) (candidate : N
   pub accepting : OutboxValue
   pub accepts_itself : Hears m IsText fourth candidate.header.node (kinds.Accept (vote_by candidate r)) fifth accepting
   pub sixth : NodeValue
-  pub answering : List LetterValue
+  pub answering : List EnvelopeValue
   pub answers : TakesEach m IsText (acceptances (candidate.header.node ∷ others) (vote_by candidate r)) fifth sixth
       answering
 
@@ -117,18 +117,18 @@ pub record Exchanges (m : Meaning) (IsText : List ℕ → Type 0) (candidate : N
 pub record Succeeds (m : Meaning) (IsText : List ℕ → Type 0) (candidate : NodeValue) (set : List Member)
     (r : RequestValue) (others : List ℕ) (k : Exchanges m IsText candidate r others) : Type 0 where
   pub asks : (n : ℕ) → Contains (nodes_of set) n → 1 ≤ n
-      → Contains k.asking.letters (letter_to candidate (prepare_by candidate) n)
-  pub promises_itself : Contains k.promising.letters
-      (letter_to k.first (kinds.Promise (promise_to candidate)) candidate.header.node)
-  pub promises : (n : ℕ) (other : Contains others n) → Contains (k.votes n other).promising.letters
-      (letter_to (k.votes n other).first (kinds.Promise (promise_to candidate)) candidate.header.node)
+      → Contains k.asking.envelopes (envelope_to candidate (prepare_by candidate) n)
+  pub promises_itself : Contains k.promising.envelopes
+      (envelope_to k.first (kinds.Promise (promise_to candidate)) candidate.header.node)
+  pub promises : (n : ℕ) (other : Contains others n) → Contains (k.votes n other).promising.envelopes
+      (envelope_to (k.votes n other).first (kinds.Promise (promise_to candidate)) candidate.header.node)
   pub proposes : (n : ℕ) → Contains (nodes_of set) n
-      → Contains k.proposing.letters (letter_to k.third (kinds.Accept (vote_by candidate r)) n)
-  pub accepts_itself : Contains k.accepting.letters
-      (letter_to k.fourth (kinds.Accepted (vote_by candidate r)) candidate.header.node)
-  pub accepts : (n : ℕ) (other : Contains others n) → Contains (k.votes n other).accepting.letters
-      (letter_to (k.votes n other).second (kinds.Accepted (vote_by candidate r)) candidate.header.node)
-  pub answers : Contains k.answering (answer_letter m candidate r)
+      → Contains k.proposing.envelopes (envelope_to k.third (kinds.Accept (vote_by candidate r)) n)
+  pub accepts_itself : Contains k.accepting.envelopes
+      (envelope_to k.fourth (kinds.Accepted (vote_by candidate r)) candidate.header.node)
+  pub accepts : (n : ℕ) (other : Contains others n) → Contains (k.votes n other).accepting.envelopes
+      (envelope_to (k.votes n other).second (kinds.Accepted (vote_by candidate r)) candidate.header.node)
+  pub answers : Contains k.answering (answer_envelope m candidate r)
 
 -- A quiet candidate with a majority of quiet nodes answers a fresh request after one exchange with them.
 abbrev pub QuietMajorityAnswers : Meaning → (List ℕ → Type 0) → Type 0

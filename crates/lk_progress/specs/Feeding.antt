@@ -11,7 +11,7 @@ use Rattle.lk_learner.specs.Parts.{start_of, AreParts}
 use Rattle.lk_state.specs.Meanings.{Meaning}
 use Rattle.lk_node_interface.specs.Outboxes.{OutboxValue}
 use Rattle.lk_node.specs.NodeValue.{NodeValue}
-use Rattle.lk_node.specs.Telling.{letter_to}
+use Rattle.lk_node.specs.Telling.{envelope_to}
 use Rattle.lk_progress.specs.Hearing.{Hears}
 
 -- ---- who is ahead sends
@@ -27,7 +27,7 @@ pub record SendsCommands (node : NodeValue) (to first : ℕ) (out : OutboxValue)
   pub kept : IsRetained node.learner first
   pub many : (length (decided_from first node.learner).commands ≡ max_commands)
       ⊎ (first + length (decided_from first node.learner).commands ≡ executed node.learner + 1)
-  pub told : Contains out.letters (letter_to node (kinds.Decided (decided_from first node.learner)) to)
+  pub told : Contains out.envelopes (envelope_to node (kinds.Decided (decided_from first node.learner)) to)
 
 -- it has a snapshot in place of the command there, and sends parts of it: 8, or all from the offset on if they are
 -- fewer, and one at least
@@ -36,7 +36,7 @@ pub record SendsSnapshot (node : NodeValue) (to first offset : ℕ) (out : Outbo
   pub parts : List PartValue
   pub are : AreParts node.learner.snapshot_position node.learner.snapshot (start_of offset node.learner.snapshot) parts
   pub some : 1 ≤ length parts
-  pub told : (p : PartValue) → Contains parts p → Contains out.letters (letter_to node (kinds.Part p) to)
+  pub told : (p : PartValue) → Contains parts p → Contains out.envelopes (envelope_to node (kinds.Part p) to)
 
 abbrev pub Sends : NodeValue → ℕ → ℕ → ℕ → OutboxValue → Type 0
 Sends node to first offset out = SendsCommands node to first out ⊎ SendsSnapshot node to first offset out
@@ -57,7 +57,7 @@ LaggingNodeIsFed m IsText = (old new : NodeValue) (from : ℕ) (nack : Nack) (ou
 
 -- the node asks the other one for what it lacks
 abbrev pub Asks : NodeValue → ℕ → OutboxValue → Type 0
-Asks node to out = Contains out.letters (letter_to node (kinds.Want (wanted node.learner)) to)
+Asks node to out = Contains out.envelopes (envelope_to node (kinds.Want (wanted node.learner)) to)
 
 -- A node that hears, by a rejection, of one that has executed more, asks that one.
 abbrev pub LaggingNodeAsks : Meaning → (List ℕ → Type 0) → Type 0

@@ -10,7 +10,7 @@ use Rattle.lk_learner.specs.Learners.{LearnerValue, WholeValue, executed, alpha}
 use Rattle.lk_learner.specs.Parts.{part_of, AreParts}
 use Rattle.lk_learner.specs.Unpacking.{Unpacks}
 use Rattle.lk_state.specs.Meanings.{Meaning}
-use Rattle.lk_node_interface.specs.Letters.{LetterValue}
+use Rattle.lk_node_interface.specs.Envelopes.{EnvelopeValue}
 use Rattle.lk_node.specs.NodeValue.{NodeValue}
 use Rattle.lk_progress.specs.Hearing.{TakesEach}
 
@@ -40,8 +40,8 @@ GetsOn old new position text reached =
 -- They are as a node that is asked for them sends them, and the text is the packed one of a state.
 abbrev pub PartsAreInstalled : Meaning → (List ℕ → Type 0) → Type 0
 PartsAreInstalled m IsText = (old new : NodeValue) (from position count : ℕ) (text : List ℕ) (w : WholeValue)
-    (parts : List PartValue) (letters : List LetterValue)
+    (parts : List PartValue) (envelopes : List EnvelopeValue)
     → 1 ≤ alpha old.learner → executed old.learner < position → Unpacks IsText (alpha old.learner) position text w
     → count < length text → HasSoFar old.learner position text count → AreParts position text count parts
-    → TakesEach m IsText (parts_from from parts) old new letters
+    → TakesEach m IsText (parts_from from parts) old new envelopes
     → GetsOn old new position text (count + length parts * max_part)

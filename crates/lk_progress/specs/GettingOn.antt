@@ -6,7 +6,7 @@ use Rattle.lk_learner.specs.Learners.{WholeValue, IsLearner, executed, alpha, de
 use Rattle.lk_learner.specs.Parts.{start_of}
 use Rattle.lk_learner.specs.Unpacking.{Unpacks}
 use Rattle.lk_state.specs.Meanings.{Meaning}
-use Rattle.lk_node_interface.specs.Letters.{LetterValue}
+use Rattle.lk_node_interface.specs.Envelopes.{EnvelopeValue}
 use Rattle.lk_node_interface.specs.Outboxes.{OutboxValue}
 use Rattle.lk_node.specs.NodeValue.{NodeValue}
 use Rattle.lk_progress.specs.Feeding.{SendsCommands, SendsSnapshot}
@@ -38,10 +38,10 @@ pub record GetsSnapshot (m : Meaning) (IsText : List ℕ → Type 0) (behind ahe
     (out : OutboxValue) : Type 0 where
   pub sends : SendsSnapshot ahead behind.header.node (executed behind.learner + 1)
       (gathered_bytes behind.learner.gathered) out
-  pub gains : (new : NodeValue) (from : ℕ) (w : WholeValue) (letters : List LetterValue)
+  pub gains : (new : NodeValue) (from : ℕ) (w : WholeValue) (envelopes : List EnvelopeValue)
       → Unpacks IsText (alpha behind.learner) ahead.learner.snapshot_position ahead.learner.snapshot w
       → HasSoFar behind.learner ahead.learner.snapshot_position ahead.learner.snapshot (start_for behind ahead)
-      → TakesEach m IsText (parts_from from sends.parts) behind new letters
+      → TakesEach m IsText (parts_from from sends.parts) behind new envelopes
       → GetsOn behind new ahead.learner.snapshot_position ahead.learner.snapshot
       (start_for behind ahead + length sends.parts * max_part)
 

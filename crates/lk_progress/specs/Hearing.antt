@@ -5,7 +5,7 @@ use Rattle.lk_messages.specs.declared.message.Content.{Content}
 use Rattle.lk_messages.specs.declared.message.Content.TheVariants as content
 use Rattle.lk_messages.specs.declared.message.NodeMessage.{NodeMessage}
 use Rattle.lk_state.specs.Meanings.{Meaning}
-use Rattle.lk_node_interface.specs.Letters.{LetterValue}
+use Rattle.lk_node_interface.specs.Envelopes.{EnvelopeValue}
 use Rattle.lk_node_interface.specs.Outboxes.{OutboxValue}
 use Rattle.lk_node_interface.specs.declared.input.Input.TheVariants as input
 use Rattle.lk_node.specs.NodeValue.{NodeValue}
@@ -22,9 +22,9 @@ pub record Takes (m : Meaning) (IsText : List ℕ → Type 0) (old : NodeValue) 
 abbrev pub Hears : Meaning → (List ℕ → Type 0) → NodeValue → ℕ → NodeMessage → NodeValue → OutboxValue → Type 0
 Hears m IsText old from message new out = Takes m IsText old (content.Node from message) new out
 
--- it takes these one after another, and sends these letters
-abbrev pub TakesEach : Meaning → (List ℕ → Type 0) → List Content → NodeValue → NodeValue → List LetterValue → Type 0
-TakesEach m IsText [] old new letters = (new ≡ old) × (letters ≡ [])
-TakesEach m IsText (x ∷ xs) old new letters =
-    (mid : NodeValue) × (out : OutboxValue) × (rest : List LetterValue) × Takes m IsText old x mid out
-    × TakesEach m IsText xs mid new rest × (letters ≡ out.letters ++ rest)
+-- it takes these one after another, and sends these envelopes
+abbrev pub TakesEach : Meaning → (List ℕ → Type 0) → List Content → NodeValue → NodeValue → List EnvelopeValue → Type 0
+TakesEach m IsText [] old new envelopes = (new ≡ old) × (envelopes ≡ [])
+TakesEach m IsText (x ∷ xs) old new envelopes =
+    (mid : NodeValue) × (out : OutboxValue) × (rest : List EnvelopeValue) × Takes m IsText old x mid out
+    × TakesEach m IsText xs mid new rest × (envelopes ≡ out.envelopes ++ rest)

@@ -9,7 +9,7 @@ use Rattle.lk_members.specs.Rosters.{is_member, IsChange}
 use Rattle.lk_state.specs.Meanings.{Meaning}
 use Rattle.lk_leader.specs.Terms.{TermValue}
 use Rattle.lk_learner.specs.Learners.{Pair, executed}
-use Rattle.lk_node_interface.specs.Letters.{LetterValue}
+use Rattle.lk_node_interface.specs.Envelopes.{EnvelopeValue}
 use Rattle.lk_node.specs.Executing.{NothingToRun}
 use Rattle.lk_node.specs.NodeValue.{NodeValue}
 use Rattle.lk_progress.specs.Deciding.{acceptances, vote_for_next, HasProposed}
@@ -41,6 +41,6 @@ pub record LeadsOn (old : NodeValue) (t : TermValue) (set : List Member) (new : 
 
 abbrev pub LeaderLeadsOn : Meaning → (List ℕ → Type 0) → Type 0
 LeaderLeadsOn m IsText = (old new : NodeValue) (t : TermValue) (set : List Member) (v : Command)
-    (accepted voters : List ℕ) (letters : List LetterValue) → LeadsFixed old t set → KeepsMembers v
+    (accepted voters : List ℕ) (envelopes : List EnvelopeValue) → LeadsFixed old t set → KeepsMembers v
     → HasProposed old t set v accepted → IsMajority voters set
-    → TakesEach m IsText (acceptances voters (vote_for_next old t v)) old new letters → LeadsOn old t set new
+    → TakesEach m IsText (acceptances voters (vote_for_next old t v)) old new envelopes → LeadsOn old t set new

@@ -16,7 +16,7 @@ use Rattle.lk_node_interface.specs.Outboxes.{OutboxValue}
 use Rattle.lk_node.specs.CatchingUp.{refusal}
 use Rattle.lk_node.specs.Nearness.{AreNear}
 use Rattle.lk_node.specs.NodeValue.{NodeValue}
-use Rattle.lk_node.specs.Telling.{letter_to}
+use Rattle.lk_node.specs.Telling.{envelope_to}
 use Rattle.lk_progress.specs.Hearing.{Hears}
 
 -- ---- a Prepare
@@ -26,15 +26,15 @@ pub record Promises (old : NodeValue) (from : ℕ) (b : BallotValue) (first : �
     (out : OutboxValue) : Type 0 where
   pub acceptor : new.acceptor ≡ with_state old.acceptor (with_promise old.acceptor.state b)
   pub learner : new.learner ≡ old.learner
-  pub told : Contains out.letters
-      (letter_to old (kinds.Promise
+  pub told : Contains out.envelopes
+      (envelope_to old (kinds.Promise
       (record { ballot = b; first = first; votes = votes_from first old.acceptor.state.votes })) from)
 
 -- it rejects the ballot, and reports what it has promised and how many positions it has executed: one of them is why
 pub record RejectsPrepare (old : NodeValue) (from : ℕ) (b : BallotValue) (first : ℕ) (new : NodeValue)
     (out : OutboxValue) : Type 0 where
   pub acceptor : new.acceptor ≡ old.acceptor
-  pub told : Contains out.letters (letter_to old (kinds.Nack (refusal b old)) from)
+  pub told : Contains out.envelopes (envelope_to old (kinds.Nack (refusal b old)) from)
   pub why : IsBelow b old.acceptor.state.promised ⊎ (first ≤ executed old.learner)
 
 -- A node promises a ballot, unless it has promised a greater one or has executed the position that the candidate asks
@@ -50,13 +50,13 @@ PrepareIsPromisedOrRejected m IsText = (old new : NodeValue) (from : ℕ) (b : B
 pub record Accepts (old : NodeValue) (from : ℕ) (x : Vote) (new : NodeValue) (out : OutboxValue) : Type 0 where
   pub acceptor : new.acceptor ≡ with_state old.acceptor (with_vote old.acceptor.state x)
   pub learner : new.learner ≡ old.learner
-  pub told : Contains out.letters (letter_to old (kinds.Accepted x) from)
+  pub told : Contains out.envelopes (envelope_to old (kinds.Accepted x) from)
 
 -- it rejects the vote, and reports the same: the ballot is below the promised one, or the position is executed, or it
 -- is more than twice alpha ahead
 pub record RejectsAccept (old : NodeValue) (from : ℕ) (x : Vote) (new : NodeValue) (out : OutboxValue) : Type 0 where
   pub acceptor : new.acceptor ≡ old.acceptor
-  pub told : Contains out.letters (letter_to old (kinds.Nack (refusal x.ballot old)) from)
+  pub told : Contains out.envelopes (envelope_to old (kinds.Nack (refusal x.ballot old)) from)
   pub why : IsBelow x.ballot old.acceptor.state.promised ⊎ (x.position ≤ executed old.learner)
       ⊎ (executed old.learner + 2 * alpha old.learner < x.position)
 

@@ -42,7 +42,7 @@ pub record IsOutsider (node : NodeValue) : Type 0 where
 -- it says nothing, and is still an outsider
 pub record StaysSilent (new : NodeValue) (out : OutboxValue) : Type 0 where
   pub still : IsOutsider new
-  pub no_letters : out.letters ≡ []
+  pub no_envelopes : out.envelopes ≡ []
 
 -- an outsider stays silent at each tick
 abbrev pub OutsidersAreSilent : Type 0

@@ -1,5 +1,5 @@
 -- What a node does with a message that it takes: it handles the message, and then proposes, which changes its term
--- alone and takes back no letter.
+-- alone and takes back no envelope.
 use Rattle.std.proofs.Common.{◌≡◌, ℕ, inl, inr, List, [], ◌∷◌, refl, ap, subst, sym, Contains}
 use Rattle.std.proofs.lemmas.List.Elements.{Contains-append_left}
 use Rattle.lk_types.specs.declared.vote.Vote.{Vote}
@@ -7,7 +7,7 @@ use Rattle.lk_messages.proofs.Spellings.{one_message}
 use Rattle.lk_messages.specs.declared.message.Content.{Content}
 use Rattle.lk_messages.specs.declared.message.Message.{Message}
 use Rattle.lk_state.specs.Meanings.{Meaning}
-use Rattle.lk_node_interface.specs.Letters.{LetterValue}
+use Rattle.lk_node_interface.specs.Envelopes.{EnvelopeValue}
 use Rattle.lk_node_interface.specs.Outboxes.{OutboxValue}
 use Rattle.lk_node.specs.Leading.{having_proposed, ProposesAll, ProposesOpen}
 use Rattle.lk_node.specs.NodeValue.{NodeValue}
@@ -63,8 +63,8 @@ proposed_same (x ∷ xs) old new before out p =
     let rest = proposed_same xs (having_proposed old x p.0) new _ out p.1 in
     record { header = rest.header; acceptor = rest.acceptor; learner = rest.learner; rounds = rest.rounds }
 
-pub proposed_letters : (xs : List Vote) (old new : NodeValue) (before out : OutboxValue) (l : LetterValue)
-    → ProposesAll xs old new before out → Contains before.letters l → Contains out.letters l
-proposed_letters [] old new before out l p c = subst (λ (o : OutboxValue). Contains o.letters l) (sym p.2) c
-proposed_letters (x ∷ xs) old new before out l p c =
-    proposed_letters xs (having_proposed old x p.0) new _ out l p.1 (Contains-append_left before.letters _ l c)
+pub proposed_envelopes : (xs : List Vote) (old new : NodeValue) (before out : OutboxValue) (l : EnvelopeValue)
+    → ProposesAll xs old new before out → Contains before.envelopes l → Contains out.envelopes l
+proposed_envelopes [] old new before out l p c = subst (λ (o : OutboxValue). Contains o.envelopes l) (sym p.2) c
+proposed_envelopes (x ∷ xs) old new before out l p c =
+    proposed_envelopes xs (having_proposed old x p.0) new _ out l p.1 (Contains-append_left before.envelopes _ l c)

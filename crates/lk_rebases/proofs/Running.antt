@@ -135,7 +135,7 @@ module _ (m : Meaning) where
           learns = here.1;
           ran = d.ran;
           runs = (ran.does, d.runs.1);
-          letters = d.letters;
+          envelopes = d.envelopes;
           told = record {
             nodes = d.told.nodes;
             others = d.told.others;

@@ -1,4 +1,4 @@
--- A group of one: what `gather` and then `release` leave is what a call of `take` does.
+-- A group of one: what `add_step` and then `sync_and_send` leave is what a call of `take` does.
 use Rattle.std.proofs.Common.{◌≡◌, ℕ, ◌+◌, ◌||◌, Bool, true, false, not, List, [], ◌++◌, Contains, inl, inr, refl, sym}
 use Rattle.std.proofs.Common.{◌∙◌, ap, subst, subst₂, arith}
 use Rattle.std.specs.Prelude.{⊤, if◌then◌else◌}
@@ -16,7 +16,7 @@ use Rattle.lk_log.specs.Stores.{HoldsEntries, KeepsItsFile}
 use Rattle.lk_log.proofs.Room.{within_still}
 use Rattle.lk_state.specs.Meanings.{Meaning}
 use Rattle.lk_agreement_laws.specs.Datagrams.{NodeMessage, said_by}
-use Rattle.lk_node_interface.specs.Letters.{LetterValue, batch_of}
+use Rattle.lk_node_interface.specs.Envelopes.{EnvelopeValue, batch_of}
 use Rattle.lk_node_interface.specs.Outboxes.{OutboxValue}
 use Rattle.lk_node_interface.specs.Faults.{failures_by}
 use Rattle.lk_node_interface.specs.declared.input.Input.{Input}
@@ -33,7 +33,7 @@ use Rattle.lk_recovery.specs.Rooms.{GrowsFromBase}
 use Rattle.lk_recovery.proofs.Recoveries.{file_after, kept_then, refused_on}
 use Rattle.lk_replica.specs.Groups.{Adds, FitsOnceSynced, GroupValue, IsGathered, IsGroupSynced, IsRefusedInGroup}
 use Rattle.lk_replica.specs.Groups.{KeepsGroup, LeavesFitOnceSynced, LeavesInGroup, RemembersInGroup, SyncsIfNeeded}
-use Rattle.lk_replica.specs.Groups.{empty_group, gather_calls, needs_sync_after, sync_calls}
+use Rattle.lk_replica.specs.Groups.{empty_group, add_step_calls, needs_sync_after, sync_calls}
 use Rattle.lk_replica.specs.Posts.{AreOf}
 use Rattle.lk_replica.specs.ReplicaValue.{ReplicaValue}
 use Rattle.lk_replica.specs.Taking.{CallsOfStep, IsRefused, IsTaken, Writes, write_calls}
@@ -70,7 +70,7 @@ counted false true n = omega arith
 counted false false n = omega arith
 
 -- its calls, and that of the sync
-one_calls : (out : OutboxValue) → gather_calls out + sync_calls (needs_sync_after false out) ≡ write_calls out
+one_calls : (out : OutboxValue) → add_step_calls out + sync_calls (needs_sync_after false out) ≡ write_calls out
 one_calls out = counted out.rebase out.sync (calls_for out.entries)
 
 three : (k a b c : ℕ) → a + b ≡ c → (k + a) + b ≡ k + c
@@ -92,8 +92,8 @@ module _ (m : Meaning) (IsText : List ℕ → Type 0) (Metered : Type 0) (old mi
   waits = ap (λ (k : GroupValue). k.needs_sync) one.adds
       ∙ ap (λ (w : Bool). needs_sync_after w one.out) none_waits_yet
 
-  letters_are : one.out.letters ≡ g.letters
-  letters_are = sym (ap (λ (k : GroupValue). k.letters) one.adds)
+  envelopes_are : one.out.envelopes ≡ g.envelopes
+  envelopes_are = sym (ap (λ (k : GroupValue). k.envelopes) one.adds)
 
   -- where something waits for a sync or a flush, it has switched files only by a rebase that was due
   one_file : (g.needs_sync || g.needs_flush) ≡ true → KeepsOrSwitchesFiles old.node old.store mid.store
@@ -105,11 +105,11 @@ module _ (m : Meaning) (IsText : List ℕ → Type 0) (Metered : Type 0) (old mi
 
   -- the device's calls before the sync
   abbrev calls : Metered → ℕ
-  calls metered = (one.room.calls metered).0 + gather_calls one.out
+  calls metered = (one.room.calls metered).0 + add_step_calls one.out
 
   passes : (metered : Metered) → CallsSucceed old.store.meter mid.store.meter (calls metered)
   passes metered = let k = one.room.calls metered in
-      passes_on k.0 k.2 (gather_calls one.out) (one.steps.calls metered)
+      passes_on k.0 k.2 (add_step_calls one.out) (one.steps.calls metered)
 
   module _ (synced : IsGroupSynced Metered mid g.needs_sync new)
       (room : StaysWithin 0 (disks mid.store) (disks new.store)) where
@@ -135,7 +135,7 @@ module _ (m : Meaning) (IsText : List ℕ → Type 0) (Metered : Type 0) (old mi
         let k = one.room.calls metered in
         let sum : calls metered + sync_calls g.needs_sync ≡ k.0 + write_calls one.out =
         ap (λ (w : Bool). calls metered + sync_calls w) waits
-        ∙ three k.0 (gather_calls one.out) (sync_calls (needs_sync_after false one.out)) (write_calls one.out)
+        ∙ three k.0 (add_step_calls one.out) (sync_calls (needs_sync_after false one.out)) (write_calls one.out)
         (one_calls one.out) in (
           k.0,
           record { due = λ due. k.1.due due; rests = λ other. k.1.rests other },
@@ -144,9 +144,9 @@ module _ (m : Meaning) (IsText : List ℕ → Type 0) (Metered : Type 0) (old mi
         )
 
     -- it was taken
-    pub one_taken : (notes : List Note) → notes ≡ g.notes → (Sends : List LetterValue → Type 0) → Sends g.letters
+    pub one_taken : (notes : List Note) → notes ≡ g.notes → (Sends : List EnvelopeValue → Type 0) → Sends g.envelopes
         → new.failed ≡ false → new.store.failed ≡ false → new.node.halted ≡ false
-        → IsTaken m IsText Metered old i new notes (λ all. (all ≡ g.letters) × Sends all)
+        → IsTaken m IsText Metered old i new notes (λ all. (all ≡ g.envelopes) × Sends all)
     one_taken notes noted Sends sends alive store_alive awake = record {
       mid = one.mid;
       between = one.between;
@@ -156,7 +156,7 @@ module _ (m : Meaning) (IsText : List ℕ → Type 0) (Metered : Type 0) (old mi
       steps = one.steps.steps;
       writes = writes;
       noted = noted ∙ ap (λ (k : GroupValue). k.notes) one.adds;
-      sent = (letters_are, subst Sends (sym letters_are) sends);
+      sent = (envelopes_are, subst Sends (sym envelopes_are) sends);
       calls = one_passes;
       alive = alive;
       store_alive = store_alive;
@@ -189,7 +189,7 @@ module _ (m : Meaning) (old mid : ReplicaValue) (i : Input) (first g : GroupValu
 
     -- what it says is covered
     pub one_syncs : (genesis : Genesis) (n : ℕ) (x : NodeMessage) → ReplicaRemembers old.node old.store genesis n
-        → (d : Datagram) → Contains (batch_of n g.letters) d → Spells (said_by genesis n x) d.bytes
+        → (d : Datagram) → Contains (batch_of n g.envelopes) d → Spells (said_by genesis n x) d.bytes
         → AllCover m genesis n (disks new.store) x
     one_syncs genesis n x r d listed said =
         settled_covers m genesis n mid.node mid.store new.store g.needs_sync synced.syncs_all (one_recalls genesis n r)
@@ -197,31 +197,32 @@ module _ (m : Meaning) (old mid : ReplicaValue) (i : Input) (first g : GroupValu
         (λ y e none. absurd (omega (arith, none.1))) x d listed said)
 
     -- and permitted
-    pub one_goes : Adds first g (λ notes letters. (genesis : Genesis) (k : ℕ)
+    pub one_goes : Adds first g (λ notes envelopes. (genesis : Genesis) (k : ℕ)
         → RemembersInGroup old.node old.store first.needs_sync genesis k → (h : History) (n : ℕ)
         → FitsOnceSynced m h n old.node old.store first.needs_sync → InputFits h i
-        → (sent : List LetterValue) → AreOf sent letters
+        → (sent : List EnvelopeValue) → AreOf sent envelopes
         → LeavesFitOnceSynced m h n mid.node mid.store g.needs_sync notes (batch_of n sent))
         → (notes : List Note) → notes ≡ g.notes → (h : History) (n : ℕ)
         → NodeFits m h n (ReplicaHolds m old.node old.store h.genesis n) (disks old.store) → InputFits h i
         → LeavesFit m h n (ReplicaHolds m new.node new.store h.genesis n) (disks new.store) notes
-        (batch_of n g.letters)
+        (batch_of n g.envelopes)
     one_goes adds notes noted h n f heard =
-        let Goes : GroupValue → List Note → List LetterValue → Type 0 = λ first notes letters.
+        let Goes : GroupValue → List Note → List EnvelopeValue → Type 0 = λ first notes envelopes.
         (genesis : Genesis) (k : ℕ) → RemembersInGroup old.node old.store first.needs_sync genesis k
         → (h : History) (n : ℕ) → FitsOnceSynced m h n old.node old.store first.needs_sync → InputFits h i
-        → (sent : List LetterValue) → AreOf sent letters
+        → (sent : List EnvelopeValue) → AreOf sent envelopes
         → LeavesFitOnceSynced m h n mid.node mid.store g.needs_sync notes (batch_of n sent) in
         let a : Adds empty_group g (Goes empty_group) =
         subst (λ (k : GroupValue). Adds k g (Goes k)) is adds in
         let r = remembered m h.genesis n f.holding old.node old.store f.shown in
         settled_goes m Metered mid g.needs_sync new synced h.genesis n (one_recalls h.genesis n r) h n notes
-        (batch_of n g.letters)
-        (subst (λ (ns : List Note). LeavesFitOnceSynced m h n mid.node mid.store g.needs_sync ns (batch_of n g.letters))
+        (batch_of n g.envelopes)
+        (subst (λ (ns : List Note). LeavesFitOnceSynced m h n mid.node mid.store g.needs_sync ns
+        (batch_of n g.envelopes))
         (sym (noted ∙ a.noted))
-        (subst (λ (ls : List LetterValue). LeavesFitOnceSynced m h n mid.node mid.store g.needs_sync a.notes
+        (subst (λ (ls : List EnvelopeValue). LeavesFitOnceSynced m h n mid.node mid.store g.needs_sync a.notes
         (batch_of n ls)) (sym a.said)
-        (a.are h.genesis n (begun old.node old.store h.genesis n r) h n f heard a.letters (λ l c. c))))
+        (a.are h.genesis n (begun old.node old.store h.genesis n r) h n f heard a.envelopes (λ l c. c))))
 
   -- what is on the disks
   pub one_leaves : (after : Side → Disk)

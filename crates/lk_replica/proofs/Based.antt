@@ -24,11 +24,11 @@ use Rattle.lk_recovery.specs.Rebased.{HasSwitchedFiles, KeepsOrBegins, MatchesBa
 use Rattle.lk_recovery.proofs.Recoveries.{EntriesCover, cover_entries, held_fit, fit_disks, entries_fit, grown_fit}
 use Rattle.lk_recovery.proofs.Recoveries.{entries_cover, cover_more, none_asked, base_stands, base_fits, base_covers}
 use Rattle.lk_recovery.proofs.Recoveries.{node_covers, files_switched, before_fits, goes_fits}
-use Rattle.lk_replica.specs.Groups.{as_released, as_synced, GroupFits, RemembersInGroup, GroupStays}
+use Rattle.lk_replica.specs.Groups.{synced_if, as_synced, GroupFits, RemembersInGroup, GroupStays}
 use Rattle.lk_replica.proofs.Grouped.{as_synced_holds, group_fits, whole_keeps, settle_leaves, settle_covers}
 
 -- the Base is the same
-same_base : (w : Bool) (s : StoreValue) (t : StandingValue) → next_base (as_released w s) t ≡ next_base s t
+same_base : (w : Bool) (s : StoreValue) (t : StandingValue) → next_base (synced_if w s) t ≡ next_base s t
 same_base false s t = refl
 same_base true s t = refl
 
@@ -38,9 +38,9 @@ same_base true s t = refl
 pub based_switched : (m : Meaning) (Metered : Type 0) (node new : NodeValue) (w : Bool) (store after : StoreValue)
     → MatchesBase node store new after → HoldsNear node → HasSwitchedFiles m Metered node store new after
     → (ks ls : List Stored) → HoldsEntries store ks ls
-    → HasSwitchedFiles m Metered node (as_released w store) new after
+    → HasSwitchedFiles m Metered node (synced_if w store) new after
 based_switched m Metered node new w store after matches close done ks ls holds =
-    subst (λ (k : NodeValue). HasSwitchedFiles m Metered node (as_released w store) k after) (sym matches.becomes)
+    subst (λ (k : NodeValue). HasSwitchedFiles m Metered node (synced_if w store) k after) (sym matches.becomes)
     (by_waits w)
   where
     alone : HoldsEntries after (Base (next_base store (standing_of node)) ∷ []) []
@@ -49,7 +49,7 @@ based_switched m Metered node new w store after matches close done ks ls holds =
     is_it : (xs ys : List Stored) → KeepsOrIs (disks after) xs ys (next_base store (standing_of node))
     is_it xs ys image left = inr (synced_live after (Base (next_base store (standing_of node)) ∷ []) alone image left)
 
-    by_waits : (w : Bool) → HasSwitchedFiles m Metered node (as_released w store) (with_snapshot node) after
+    by_waits : (w : Bool) → HasSwitchedFiles m Metered node (synced_if w store) (with_snapshot node) after
     by_waits false =
         files_switched m node store after matches.fits_base close (λ xs ys h. is_it xs ys) Metered matches.generation
         (λ xs ys h. alone) done.calls done.short
@@ -75,7 +75,7 @@ pub room_fits : (m : Meaning) (Metered : Type 0) (h : History) (n : ℕ) (node n
 room_fits m Metered h n node new store after w f matches close done =
     let k = f.shown.keeps in
     let mid = group_fits m h n node store w f in
-    let old = as_released w store in
+    let old = synced_if w store in
     let goes = based_switched m Metered node new w store after matches close done k.entries (plain k.loose) k.holds in
     goes_fits m h n new after f.lawful
     (based_fits m h n node old after (before_fits m h n node old mid) close matches.fits_base
@@ -87,13 +87,13 @@ room_fits m Metered h n node new store after w f matches close done =
 module _ (m : Meaning) (node based : NodeValue) (store after : StoreValue) (w : Bool) (close : HoldsNear based) where
   -- each image fits: the node whose Base it is fits as if everything that waits were synced
   pub based_ends : (h : History) (n : ℕ) (s : GroupStays m h n node store w)
-      → NodeFits m h n (HoldsBeforeRebase m based (as_released w store) h.genesis n) (disks (as_released w store))
+      → NodeFits m h n (HoldsBeforeRebase m based (synced_if w store) h.genesis n) (disks (synced_if w store))
       → KeepsOrBegins based store s.fits.shown.keeps.entries (plain s.fits.shown.keeps.loose) after
       → DisksFit m h n (disks after)
   based_ends h n s f (inl keeps) = settle_leaves m h n node store after w s keeps
   based_ends h n s f (inr begins) =
       let k = s.fits.shown.keeps in
-      let base = base_fits m h n based (as_released w store) after f.holding f.shown begins.0 close f.lawful f.fits in
+      let base = base_fits m h n based (synced_if w store) after f.holding f.shown begins.0 close f.lawful f.fits in
       entries_fit m h n (disks after) (λ image left. elim (begins.1 image left) [
         | inl at ↦ (
           k.entries ++ plain (take at.0 k.loose),
@@ -109,14 +109,14 @@ module _ (m : Meaning) (node based : NodeValue) (store after : StoreValue) (w : 
       ])
 
   module _ (genesis : Genesis) (n : ℕ) (r : RemembersInGroup node store w genesis n)
-      (keeps : StoreKeeps (header_of genesis n) (as_released w store) based.acceptor.state) (x : NodeMessage)
+      (keeps : StoreKeeps (header_of genesis n) (synced_if w store) based.acceptor.state) (x : NodeMessage)
       (every : AllCover m genesis n (disks store) x) where
     -- what every image covers is covered once everything that waits is synced
-    released_covers : AllCover m genesis n (disks (as_released w store)) x
-    released_covers = by_waits w r
+    synced_covers : AllCover m genesis n (disks (synced_if w store)) x
+    synced_covers = by_waits w r
       where
         by_waits : (w : Bool) → RemembersInGroup node store w genesis n
-            → AllCover m genesis n (disks (as_released w store)) x
+            → AllCover m genesis n (disks (synced_if w store)) x
         by_waits false r = every
         by_waits true r =
             let k = r.keeps in
@@ -130,8 +130,8 @@ module _ (m : Meaning) (node based : NodeValue) (store after : StoreValue) (w : 
     based_covers (inl kept) = settle_covers m genesis n node store after w r kept x every
     based_covers (inr begins) =
         let k = r.keeps in
-        let own = base_covers m genesis n based (as_released w store) after keeps begins.0 close.0.snapshot x
-        (node_covers m genesis n based (as_released w store) after keeps begins.0 close.0.snapshot x released_covers) in
+        let own = base_covers m genesis n based (synced_if w store) after keeps begins.0 close.0.snapshot x
+        (node_covers m genesis n based (synced_if w store) after keeps begins.0 close.0.snapshot x synced_covers) in
         entries_cover m genesis n (disks after) x
         (rebase_every (EntriesCover genesis n x) (λ e. Unit {0}) store after k.entries (plain k.loose) k.loose
         (next_base store (standing_of based)) (header_of genesis n) (text m genesis []) k.holds refl begins.1

@@ -17,7 +17,7 @@ use Rattle.lk_agreement_laws.proofs.Histories.{still_stems, covers_both}
 use Rattle.lk_acceptor.specs.States.{without_votes_to}
 use Rattle.lk_acceptor.proofs.Acceptors.{takes_snapshot}
 use Rattle.lk_learner.specs.Learners.{executed}
-use Rattle.lk_node_interface.specs.Letters.{LetterValue, batch_of}
+use Rattle.lk_node_interface.specs.Envelopes.{EnvelopeValue, batch_of}
 use Rattle.lk_node_interface.specs.Outboxes.{OutboxValue, nothing}
 use Rattle.lk_node_interface.specs.declared.input.Input.{Input}
 use Rattle.lk_node_interface.specs.declared.note.Note.{Note}
@@ -31,7 +31,7 @@ use Rattle.lk_node.specs.NodeValue.{NodeValue}
 use Rattle.lk_node.specs.NewBases.{standing_of, with_snapshot}
 use Rattle.lk_node.specs.Reaching.{HoldsNear}
 use Rattle.lk_node.specs.BorneOut.{IsOfNode, IsBorneOut}
-use Rattle.lk_node.specs.SafeSteps.{IsNeitherPromiseNorVote, IsCoveredLetter, IsSafeStep, ActsSafely}
+use Rattle.lk_node.specs.SafeSteps.{IsNeitherPromiseNorVote, IsCoveredEnvelope, IsSafeStep, ActsSafely}
 use Rattle.lk_replica.specs.Posts.{AreOf}
 use Rattle.lk_recovery.specs.Remembering.{ReplicaRemembers}
 use Rattle.lk_replica.proofs.Going.{said_covered, said_neither, batch_covered, bound, continues}
@@ -61,13 +61,13 @@ neither_may h w i (kinds.Lead b k) neither may = may
 module _ (m : Meaning) (h : History) (n : ℕ) (node : NodeValue) (old new : StoreValue) (x : Holding)
     (shown : HoldsBeforeRebase m node old h.genesis n x)
     (may : FitsBase (standing_of node)) (close : HoldsNear node) (lawful : IsLawful m h) (fits : HoldingFits m h n x)
-    (out : OutboxValue) (tells : (l : LetterValue) → Contains out.letters l
-    → IsCoveredLetter node.header node.acceptor.state out.rebase l)
-    (goes : (d : Datagram) → Contains (batch_of n out.letters) d → MayGo m h n x.paxos d)
-    (neither : (d : Datagram) (c : Contains (batch_of n out.letters) d) → IsNeitherPromiseNorVote (goes d c).message)
+    (out : OutboxValue) (tells : (l : EnvelopeValue) → Contains out.envelopes l
+    → IsCoveredEnvelope node.header node.acceptor.state out.rebase l)
+    (goes : (d : Datagram) → Contains (batch_of n out.envelopes) d → MayGo m h n x.paxos d)
+    (neither : (d : Datagram) (c : Contains (batch_of n out.envelopes) d) → IsNeitherPromiseNorVote (goes d c).message)
     (noted : (k : Note) → Contains out.notes k → IsOfNode k × IsBorneOut m h k)
     (holds : HoldsEntries new (Base (next_base old (standing_of node)) ∷ []) [])
-    (sent : List LetterValue) (among : AreOf sent out.letters) where
+    (sent : List EnvelopeValue) (among : AreOf sent out.envelopes) where
   base : EntriesFit m h n (Base (next_base old (standing_of node)) ∷ [])
   base = base_fits m h n node old new x shown may close lawful fits
 
@@ -104,7 +104,7 @@ module _ (m : Meaning) (h : History) (n : ℕ) (node : NodeValue) (old new : Sto
     shown = rebase_stands m h.genesis n node old new x shown may close holds;
     fits = here_fits m h n node old new x shown may close lawful fits;
     may = λ d c.
-        let listed = batch_among n sent out.letters among d c in
+        let listed = batch_among n sent out.envelopes among d c in
         let k = goes d listed in
         record {
           message = k.message;
@@ -143,11 +143,11 @@ module _ (m : Meaning) (Heard : History → Type 0) (genesis : Genesis) (n : ℕ
   still_remembers = record { whose = (bound m Heard node stepped out g).header ∙ whose; keeps = still_keeps }
 
   -- whatever is sent, the acceptor covers
-  pub sent_is_covered : (x : NodeMessage) (d : Datagram) → Contains (batch_of n out.letters) d
+  pub sent_is_covered : (x : NodeMessage) (d : Datagram) → Contains (batch_of n out.envelopes) d
       → Spells (said_by genesis n x) d.bytes → Covers stepped.acceptor.state x
   sent_is_covered x d c said =
       let b = bound m Heard node stepped out g in
-      said_covered genesis n stepped out.rebase out.letters (b.header ∙ whose) b.tells x d c n said
+      said_covered genesis n stepped out.rebase out.envelopes (b.header ∙ whose) b.tells x d c n said
 
 module _ (m : Meaning) (h : History) (n : ℕ) (node stepped : NodeValue) (old : StoreValue)
     (i : Input) (out : OutboxValue)
@@ -173,15 +173,15 @@ module _ (m : Meaning) (h : History) (n : ℕ) (node stepped : NodeValue) (old :
     left = f.left;
   }
 
-  -- where its Base was written, these letters of it are sent
+  -- where its Base was written, these envelopes of it are sent
   pub installed_goes : (new : StoreValue) → FitsBase (standing_of stepped) → HoldsNear stepped
       → HoldsEntries new (Base (next_base old (standing_of stepped)) ∷ []) []
-      → (sent : List LetterValue) → AreOf sent out.letters
+      → (sent : List EnvelopeValue) → AreOf sent out.envelopes
       → LeavesFit m h n (ReplicaHolds m (with_snapshot stepped) new h.genesis n) (disks new) out.notes (batch_of n sent)
   installed_goes new may close holds sent among =
       let b = bound m (λ k. InputFits k i) node stepped out g in
       rebased_goes m h n stepped old new served.holding stepped_fits.shown may close f.lawful
       served.fits out b.tells served.may
       (λ d c. let k = served.may d c in
-      said_neither h.genesis n stepped out.rebase out.letters served.whose b.tells is k.message d c n k.spelled)
+      said_neither h.genesis n stepped out.rebase out.envelopes served.whose b.tells is k.message d c n k.spelled)
       served.noted holds sent among

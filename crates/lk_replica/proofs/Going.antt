@@ -17,7 +17,7 @@ use Rattle.lk_agreement_laws.specs.Acceptors.{AcceptorState, Covers, CoversSent}
 use Rattle.lk_agreement_laws.specs.Datagrams.{said_by}
 use Rattle.lk_agreement_laws.specs.Nodes.{PaxosState}
 use Rattle.lk_agreement_laws.proofs.Histories.{said_alike, still_stems, still_was, still_chosen_at, covers_both}
-use Rattle.lk_node_interface.specs.Letters.{LetterValue, datagram_of, batch_of}
+use Rattle.lk_node_interface.specs.Envelopes.{EnvelopeValue, datagram_of, batch_of}
 use Rattle.lk_node_interface.specs.Outboxes.{OutboxValue, nothing}
 use Rattle.lk_node_interface.specs.declared.input.Input.{Input}
 use Rattle.lk_node.specs.Calls.{InputFits, NodeFits, LeavesFit}
@@ -30,10 +30,10 @@ use Rattle.lk_node.specs.Leavings.{header_of, acceptor_of, paxos_of, DisksFit, A
 use Rattle.lk_replica.specs.Posts.{AreOf}
 use Rattle.lk_recovery.specs.Remembering.{ReplicaRemembers}
 use Rattle.lk_node.specs.NodeValue.{NodeValue}
-use Rattle.lk_node.specs.SafeSteps.{IsNeitherPromiseNorVote, IsCoveredLetter, Binds, IsSafeStep}
+use Rattle.lk_node.specs.SafeSteps.{IsNeitherPromiseNorVote, IsCoveredEnvelope, Binds, IsSafeStep}
 use Rattle.lk_node.specs.SafeSteps.{ActsSafely}
 use Rattle.lk_recovery.proofs.Recoveries.{known_rests, held_fit, fit_disks, cover_disks, put_fits, put_covers}
-use Rattle.lk_node.proofs.Nodes.{take_contains, map_contains, letter_spelled, told_behind}
+use Rattle.lk_node.proofs.Nodes.{take_contains, map_contains, envelope_spelled, told_behind}
 use Rattle.lk_replica.proofs.Thinning.{batch_among}
 
 -- ---- lists
@@ -69,42 +69,44 @@ still_rests h more (Decided i c) r = still_chosen_at h.genesis h.sent more i c r
 
 -- ---- what is sent
 
--- a datagram of the batch is a letter's
-letter_of : (n : ℕ) (letters : List LetterValue) (d : Datagram) → Contains (batch_of n letters) d
-    → (l : LetterValue) × Contains letters l × (datagram_of n l ≡ d)
-letter_of n letters d c = map_contains (datagram_of n) letters d c
+-- a datagram of the batch is an envelope's
+envelope_of : (n : ℕ) (envelopes : List EnvelopeValue) (d : Datagram) → Contains (batch_of n envelopes) d
+    → (l : EnvelopeValue) × Contains envelopes l × (datagram_of n l ≡ d)
+envelope_of n envelopes d c = map_contains (datagram_of n) envelopes d c
 
-module _ (genesis : Genesis) (n : ℕ) (new : NodeValue) (rebase : Bool) (letters : List LetterValue)
+module _ (genesis : Genesis) (n : ℕ) (new : NodeValue) (rebase : Bool) (envelopes : List EnvelopeValue)
     (is : new.header ≡ header_of genesis n)
-    (tells : (l : LetterValue) → Contains letters l → IsCoveredLetter new.header new.acceptor.state rebase l) where
-  -- what a datagram of the batch says, a letter tells
-  letter_says : (x : NodeMessage) (d : Datagram) → Contains (batch_of n letters) d → (k : ℕ)
-      → Spells (said_by genesis k x) d.bytes → (l : LetterValue) × (c : Contains letters l) × ((tells l c).message ≡ x)
-  letter_says x d c k said =
-      let l = letter_of n letters d c in
+    (tells : (l : EnvelopeValue) → Contains envelopes l → IsCoveredEnvelope new.header new.acceptor.state
+    rebase l) where
+  -- what a datagram of the batch says, an envelope tells
+  envelope_says : (x : NodeMessage) (d : Datagram) → Contains (batch_of n envelopes) d → (k : ℕ)
+      → Spells (said_by genesis k x) d.bytes → (l : EnvelopeValue) × (c : Contains envelopes l)
+      × ((tells l c).message ≡ x)
+  envelope_says x d c k said =
+      let l = envelope_of n envelopes d c in
       let t = tells l.0 l.1 in (
         l.0,
         l.1,
         (said_alike genesis n k t.message x d.bytes
             (subst (λ (e : Datagram). Spells (said_by genesis n t.message) e.bytes) l.2
-            (letter_spelled genesis n new.header t.message l.0.bytes is t.fits t.bytes)) said).1,
+            (envelope_spelled genesis n new.header t.message l.0.bytes is t.fits t.bytes)) said).1,
       )
 
-  -- whatever a letter says, the acceptor covers
-  pub said_covered : (x : NodeMessage) (d : Datagram) → Contains (batch_of n letters) d → (k : ℕ)
+  -- whatever an envelope says, the acceptor covers
+  pub said_covered : (x : NodeMessage) (d : Datagram) → Contains (batch_of n envelopes) d → (k : ℕ)
       → Spells (said_by genesis k x) d.bytes → Covers new.acceptor.state x
-  said_covered x d c k said = let l = letter_says x d c k said in
+  said_covered x d c k said = let l = envelope_says x d c k said in
       subst (Covers new.acceptor.state) l.2 (tells l.0 l.1).covers
 
   -- and it is neither a promise nor a vote where the step rebases
-  pub said_neither : rebase ≡ true → (x : NodeMessage) (d : Datagram) → Contains (batch_of n letters) d → (k : ℕ)
+  pub said_neither : rebase ≡ true → (x : NodeMessage) (d : Datagram) → Contains (batch_of n envelopes) d → (k : ℕ)
       → Spells (said_by genesis k x) d.bytes → IsNeitherPromiseNorVote x
-  said_neither rebases x d c k said = let l = letter_says x d c k said in
+  said_neither rebases x d c k said = let l = envelope_says x d c k said in
       subst IsNeitherPromiseNorVote l.2 ((tells l.0 l.1).rebased rebases)
 
-  pub batch_covered : (k : ℕ) → CoversSent genesis (take k (batch_of n letters)) n new.acceptor.state
+  pub batch_covered : (k : ℕ) → CoversSent genesis (take k (batch_of n envelopes)) n new.acceptor.state
   batch_covered k x sent =
-      said_covered x sent.datagram (take_contains k (batch_of n letters) sent.datagram sent.listed) n sent.spelled
+      said_covered x sent.datagram (take_contains k (batch_of n envelopes) sent.datagram sent.listed) n sent.spelled
 
 -- ---- the call
 
@@ -163,10 +165,11 @@ module _ (m : Meaning) (h : History) (n : ℕ) (node new : NodeValue) (old store
       served.rests)
       (told_behind h.genesis.alpha f.shown.keeps.standing unsynced out.entries node new f.shown.told on).near f.left
 
-  -- these letters of it are sent
+  -- these envelopes of it are sent
   module _ (k : KeepsToo (header_of h.genesis n) store new.acceptor.state f.shown.keeps.standing unsynced out.entries
-      out.sync) (left : DisksFit m h n (disks store)) (sent : List LetterValue) (among : AreOf sent out.letters) where
-    tells : (l : LetterValue) → Contains sent l → IsCoveredLetter new.header new.acceptor.state out.rebase l
+      out.sync) (left : DisksFit m h n (disks store)) (sent : List EnvelopeValue)
+      (among : AreOf sent out.envelopes) where
+    tells : (l : EnvelopeValue) → Contains sent l → IsCoveredEnvelope new.header new.acceptor.state out.rebase l
     tells l c = (bound m (λ k. InputFits k i) node new out g).tells l (among l c)
 
     known : AllByRecursion (IsKnown served.holding.paxos) k.keeps.loose
@@ -209,7 +212,7 @@ module _ (m : Meaning) (h : History) (n : ℕ) (node new : NodeValue) (old store
       holding = served.holding;
       shown = record { whose = served.whose; keeps = k.keeps; known = known; held = served.held; told = told };
       fits = served.fits;
-      may = λ d c. served.may d (batch_among n sent out.letters among d c);
+      may = λ d c. served.may d (batch_among n sent out.envelopes among d c);
       noted = served.noted;
       left = λ j. fit_disks m (later h (take j (batch_of n sent))) n store k.keeps.entries k.keeps.standing
           k.keeps.loose k.keeps.holds k.keeps.stands (loose_rest j) told.near (sent_fit j);
@@ -226,7 +229,7 @@ module _ (m : Meaning) (genesis : Genesis) (n : ℕ) (node new : NodeValue) (old
     (Heard : History → Type 0) (out : OutboxValue)
     (shown : ReplicaRemembers node old genesis n) (g : ActsSafely m Heard node new nothing out) where
   pub step_syncs : (k : StoreKeeps (header_of genesis n) store new.acceptor.state) (x : NodeMessage) (d : Datagram)
-      → Contains (batch_of n out.letters) d → Spells (said_by genesis n x) d.bytes
+      → Contains (batch_of n out.envelopes) d → Spells (said_by genesis n x) d.bytes
       → AllCover m genesis n (disks store) x
   step_syncs k x d c said =
       let b = bound m Heard node new out g in
@@ -236,7 +239,7 @@ module _ (m : Meaning) (genesis : Genesis) (n : ℕ) (node new : NodeValue) (old
           k.standing,
           k.stands,
           subst (λ (a : AcceptorState). Covers a x) (sym k.remembers)
-              (said_covered genesis n new out.rebase out.letters (b.header ∙ shown.whose) b.tells x d c n said),
+              (said_covered genesis n new out.rebase out.envelopes (b.header ∙ shown.whose) b.tells x d c n said),
         ),
       )
 

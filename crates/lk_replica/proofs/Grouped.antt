@@ -35,7 +35,7 @@ use Rattle.lk_state.specs.Meanings.{Meaning}
 use Rattle.lk_agreement_laws.specs.Acceptors.{AcceptorState}
 use Rattle.lk_agreement_laws.specs.Datagrams.{said_by}
 use Rattle.lk_agreement_laws.specs.Nodes.{PaxosState}
-use Rattle.lk_node_interface.specs.Letters.{LetterValue, datagram_of, batch_of}
+use Rattle.lk_node_interface.specs.Envelopes.{EnvelopeValue, datagram_of, batch_of}
 use Rattle.lk_node_interface.specs.Outboxes.{OutboxValue, nothing}
 use Rattle.lk_node_interface.specs.declared.input.Input.{Input}
 use Rattle.lk_node_interface.specs.declared.note.Note.{Note}
@@ -52,11 +52,11 @@ use Rattle.lk_node.specs.BorneOut.{text}
 use Rattle.lk_node.specs.SafeSteps.{with_entries, ActsSafely}
 use Rattle.lk_node.proofs.Nodes.{with_all_behind, near_behind, told_behind, told_synced}
 use Rattle.lk_recovery.specs.Compacting.{AreSame, IsDue, IsSameStore, Rebases}
-use Rattle.lk_replica.specs.Groups.{as_synced, as_released, needs_sync_after, StoreKeepsInGroup, RemembersInGroup}
+use Rattle.lk_replica.specs.Groups.{as_synced, synced_if, needs_sync_after, StoreKeepsInGroup, RemembersInGroup}
 use Rattle.lk_replica.specs.Groups.{HoldsInGroup, GroupFits}
 use Rattle.lk_replica.specs.Groups.{GroupLeavesFit, GroupStays, SyncsIfNeeded, GroupValue, Adds}
 use Rattle.lk_replica.specs.Groups.{IsGroupCovered, IsRefusedInGroup}
-use Rattle.lk_replica.specs.Groups.{LeavesInGroup, IsGroupSynced, MakesRoom, sync_calls, gather_calls}
+use Rattle.lk_replica.specs.Groups.{LeavesInGroup, IsGroupSynced, MakesRoom, sync_calls, add_step_calls}
 use Rattle.lk_node_interface.specs.Faults.{IsStoreFault, fault_number, failures_by, WantsNoMemory}
 use Rattle.lk_replica.specs.Posts.{AreOf}
 use Rattle.lk_replica.specs.ReplicaValue.{ReplicaValue}
@@ -110,7 +110,7 @@ whole_keeps s ks more h image left = (
 
 -- as it will be, it keeps what the acceptor holds
 abbrev pub group_keeps : (whose : HeaderValue) (s : StoreValue) (needs_sync : Bool) (a : AcceptorState)
-    → StoreKeepsInGroup whose s needs_sync a → StoreKeeps whose (as_released needs_sync s) a
+    → StoreKeepsInGroup whose s needs_sync a → StoreKeeps whose (synced_if needs_sync s) a
 group_keeps whose s false a k = record {
   entries = k.entries;
   loose = k.loose;
@@ -148,7 +148,7 @@ group_begins whose s a k = record {
 
 abbrev pub group_stands : (m : Meaning) (node : NodeValue) (s : StoreValue) (needs_sync : Bool) (genesis : Genesis)
     (n : ℕ) (x : Holding) → HoldsInGroup m node s needs_sync genesis n x
-    → ReplicaHolds m node (as_released needs_sync s) genesis n x
+    → ReplicaHolds m node (synced_if needs_sync s) genesis n x
 group_stands m node s false genesis n x g =
     record {
       whose = g.whose;
@@ -168,7 +168,7 @@ group_stands m node s true genesis n x g =
 
 abbrev pub group_fits : (m : Meaning) (h : History) (n : ℕ) (node : NodeValue) (s : StoreValue) (needs_sync : Bool)
     → GroupFits m h n node s needs_sync
-    → NodeFits m h n (ReplicaHolds m node (as_released needs_sync s) h.genesis n) (disks (as_released needs_sync s))
+    → NodeFits m h n (ReplicaHolds m node (synced_if needs_sync s) h.genesis n) (disks (synced_if needs_sync s))
 group_fits m h n node s needs_sync f =
     record {
       lawful = f.lawful;
@@ -238,7 +238,7 @@ module _ (whose : HeaderValue) (old store : StoreValue) (a b : AcceptorState) (o
   pub keeps_more : (needs_sync after : Bool) → after ≡ needs_sync_after needs_sync out
       → (k : StoreKeepsInGroup whose old needs_sync a)
       → HoldsEntries store k.entries (plain k.loose ++ plain out.entries)
-      → KeepsAtLeast (as_released after store) (group_keeps whose old needs_sync a k).entries
+      → KeepsAtLeast (synced_if after store) (group_keeps whose old needs_sync a k).entries
       (plain (group_keeps whose old needs_sync a k).loose ++ plain out.entries)
   keeps_more false false e k added = holds_keeps store k.entries (plain k.loose ++ plain out.entries) added
   keeps_more true false e k added = absurd (let z = none_waits out.rebase true out.sync is e in cc (z.0))
@@ -264,7 +264,7 @@ module _ (whose : HeaderValue) (old store : StoreValue) (a b : AcceptorState) (o
   pub keeps_too : (needs_sync after : Bool) (e : after ≡ needs_sync_after needs_sync out)
       (k : StoreKeepsInGroup whose old needs_sync a)
       (added : HoldsEntries store k.entries (plain k.loose ++ plain out.entries))
-      → KeepsToo whose (as_released after store) b (group_keeps whose old needs_sync a k).standing
+      → KeepsToo whose (synced_if after store) b (group_keeps whose old needs_sync a k).standing
       (group_keeps whose old needs_sync a k).loose out.entries out.sync
   keeps_too false false e k added = record {
     keeps = group_keeps whose store false b (gathers_more false false e k added);
@@ -309,8 +309,8 @@ module _ (m : Meaning) (h : History) (n : ℕ) (node new : NodeValue) (old store
   abbrev after : Bool
   after = needs_sync_after needs_sync out
 
-  abbrev fits : NodeFits m h n (ReplicaHolds m node (as_released needs_sync old) h.genesis n)
-      (disks (as_released needs_sync old))
+  abbrev fits : NodeFits m h n (ReplicaHolds m node (synced_if needs_sync old) h.genesis n)
+      (disks (synced_if needs_sync old))
   fits = group_fits m h n node old needs_sync f
 
   abbrev pub gathered_more : StoreKeepsInGroup mine store after new.acceptor.state
@@ -318,14 +318,14 @@ module _ (m : Meaning) (h : History) (n : ℕ) (node new : NodeValue) (old store
       gathers_more mine old store node.acceptor.state new.acceptor.state out is b.written b.unsynced needs_sync
       after refl f.shown.keeps added
 
-  at_least : KeepsAtLeast (as_released after store) fits.shown.keeps.entries
+  at_least : KeepsAtLeast (synced_if after store) fits.shown.keeps.entries
       (plain fits.shown.keeps.loose ++ plain out.entries)
   at_least = let b = bound m (λ k. InputFits k i) node new out g in by_waits b.written b.unsynced needs_sync f added
     where
       by_waits : new.acceptor.state ≡ with_entries out.entries node.acceptor.state
           → (out.sync ≡ false → AllByRecursion IsDecidedEntry out.entries) → (w : Bool) (k : GroupFits m h n node old w)
           → HoldsEntries store k.shown.keeps.entries (plain k.shown.keeps.loose ++ plain out.entries)
-          → KeepsAtLeast (as_released (needs_sync_after w out) store)
+          → KeepsAtLeast (synced_if (needs_sync_after w out) store)
           (group_fits m h n node old w k).shown.keeps.entries
           (plain (group_fits m h n node old w k).shown.keeps.loose ++ plain out.entries)
       by_waits written unsynced false k added =
@@ -335,14 +335,14 @@ module _ (m : Meaning) (h : History) (n : ℕ) (node new : NodeValue) (old store
           keeps_more mine old store node.acceptor.state new.acceptor.state out is written unsynced true
           (needs_sync_after true out) refl k.shown.keeps added
 
-  too : KeepsToo mine (as_released after store) new.acceptor.state fits.shown.keeps.standing
+  too : KeepsToo mine (synced_if after store) new.acceptor.state fits.shown.keeps.standing
       fits.shown.keeps.loose out.entries out.sync
   too = let b = bound m (λ k. InputFits k i) node new out g in by_waits b.written b.unsynced needs_sync f added
     where
       by_waits : new.acceptor.state ≡ with_entries out.entries node.acceptor.state
           → (out.sync ≡ false → AllByRecursion IsDecidedEntry out.entries) → (w : Bool) (k : GroupFits m h n node old w)
           → HoldsEntries store k.shown.keeps.entries (plain k.shown.keeps.loose ++ plain out.entries)
-          → KeepsToo mine (as_released (needs_sync_after w out) store) new.acceptor.state
+          → KeepsToo mine (synced_if (needs_sync_after w out) store) new.acceptor.state
           (group_fits m h n node old w k).shown.keeps.standing
           (group_fits m h n node old w k).shown.keeps.loose out.entries out.sync
       by_waits written unsynced false k added =
@@ -352,9 +352,9 @@ module _ (m : Meaning) (h : History) (n : ℕ) (node new : NodeValue) (old store
           keeps_too mine old store node.acceptor.state new.acceptor.state out is written unsynced true
           (needs_sync_after true out) refl k.shown.keeps added
 
-  pub leaves_as_sent : DisksFit m h n (disks (as_released after store))
+  pub leaves_as_sent : DisksFit m h n (disks (synced_if after store))
   leaves_as_sent =
-      put_leaves m h n node new (as_released needs_sync old) (as_released after store) i out fits heard g on at_least
+      put_leaves m h n node new (synced_if needs_sync old) (synced_if after store) i out fits heard g on at_least
 
   known_now : (w : PaxosState) → AllByRecursion (IsKnown w) fits.shown.keeps.loose
       → (out.sync ≡ false → AllByRecursion (IsKnown w) out.entries) → after ≡ false
@@ -382,13 +382,13 @@ module _ (m : Meaning) (h : History) (n : ℕ) (node new : NodeValue) (old store
       → EntriesLieNear h.genesis.alpha f.shown.keeps.standing (f.shown.keeps.loose ++ out.entries)
   near_after none = near_now (f.shown.near (none_waits out.rebase needs_sync out.sync is (sym none)).0)
 
-  -- it goes on, and says these of its letters
-  pub gather_goes : (sent : List LetterValue) → AreOf sent out.letters
+  -- it goes on, and says these of its envelopes
+  pub add_step_goes : (sent : List EnvelopeValue) → AreOf sent out.envelopes
       → GroupLeavesFit m h n new store after out.notes (batch_of n sent)
-  gather_goes sent among =
-      let s = continues m h n node new (as_released needs_sync old) (as_released after store) i out fits heard g in
-      let p = put_goes m h n node new (as_released needs_sync old)
-      (as_released after store) i out fits heard g on too leaves_as_sent sent among in
+  add_step_goes sent among =
+      let s = continues m h n node new (synced_if needs_sync old) (synced_if after store) i out fits heard g in
+      let p = put_goes m h n node new (synced_if needs_sync old)
+      (synced_if after store) i out fits heard g on too leaves_as_sent sent among in
       record {
         holding = s.holding;
         shown = record {
@@ -400,7 +400,7 @@ module _ (m : Meaning) (h : History) (n : ℕ) (node new : NodeValue) (old store
           near = near_after;
         };
         fits = s.fits;
-        may = λ d c. s.may d (batch_among n sent out.letters among d c);
+        may = λ d c. s.may d (batch_among n sent out.envelopes among d c);
         noted = s.noted;
         left = p.left;
       }
@@ -411,14 +411,14 @@ module _ (m : Meaning) (h : History) (n : ℕ) (node new : NodeValue) (old store
     (i : Input) (out : OutboxValue)
     (s : GroupStays m h n node old needs_sync) (heard : InputFits h i)
     (g : ActsSafely m (λ k. InputFits k i) node new nothing out) (on : StillRestoresNode node new out.entries) where
-  abbrev pretended : NodeFits m h n (ReplicaHolds m node (as_released needs_sync old) h.genesis n)
-      (disks (as_released needs_sync old))
+  abbrev pretended : NodeFits m h n (ReplicaHolds m node (synced_if needs_sync old) h.genesis n)
+      (disks (synced_if needs_sync old))
   pretended = group_fits m h n node old needs_sync s.fits
 
   -- what it writes rests on what was sent
   rests_too : AllByRecursion (Rests h) (s.fits.shown.keeps.loose ++ out.entries)
   rests_too = all-append (Rests h) s.fits.shown.keeps.loose out.entries s.rests
-      (continues m h n node new (as_released needs_sync old) old i out pretended heard g).rests
+      (continues m h n node new (synced_if needs_sync old) old i out pretended heard g).rests
 
   near_too : EntriesLieNear h.genesis.alpha s.fits.shown.keeps.standing (s.fits.shown.keeps.loose ++ out.entries)
   near_too =
@@ -438,7 +438,7 @@ module _ (m : Meaning) (h : History) (n : ℕ) (node new : NodeValue) (old store
       → HoldsEntries store s.fits.shown.keeps.entries (plain s.fits.shown.keeps.loose ++ plain out.entries)
       → GroupStays m h n new store (needs_sync_after needs_sync out)
   group_stays is keeps added =
-      let v = continues m h n node new (as_released needs_sync old) old i out pretended heard g in
+      let v = continues m h n node new (synced_if needs_sync old) old i out pretended heard g in
       record {
         fits = record {
           lawful = s.fits.lawful;
@@ -464,7 +464,7 @@ module _ (m : Meaning) (h : History) (n : ℕ) (node new : NodeValue) (old store
 
 -- as it will be, it remembers
 abbrev pub recalled : (node : NodeValue) (s : StoreValue) (needs_sync : Bool) (genesis : Genesis) (n : ℕ)
-    → RemembersInGroup node s needs_sync genesis n → ReplicaRemembers node (as_released needs_sync s) genesis n
+    → RemembersInGroup node s needs_sync genesis n → ReplicaRemembers node (synced_if needs_sync s) genesis n
 recalled node s needs_sync genesis n r =
     record { whose = r.whose; keeps = group_keeps (header_of genesis n) s needs_sync node.acceptor.state r.keeps }
 
@@ -473,8 +473,8 @@ module _ (m : Meaning) (genesis : Genesis) (n : ℕ) (node new : NodeValue) (old
     (r : RemembersInGroup node old needs_sync genesis n) (g : ActsSafely m Heard node new nothing out) (is : out.rebase
     ≡ false)
     (added : HoldsEntries store r.keeps.entries (plain r.keeps.loose ++ plain out.entries)) where
-  pub gather_recalls : RemembersInGroup new store (needs_sync_after needs_sync out) genesis n
-  gather_recalls =
+  pub add_step_recalls : RemembersInGroup new store (needs_sync_after needs_sync out) genesis n
+  add_step_recalls =
       let b = bound m Heard node new out g in
       record {
         whose = b.header ∙ r.whose;
@@ -483,31 +483,31 @@ module _ (m : Meaning) (genesis : Genesis) (n : ℕ) (node new : NodeValue) (old
       }
 
   -- once all is synced that waits for it, whatever the step says is covered
-  pub gather_syncs : (x : NodeMessage) (d : Datagram) → Contains (batch_of n out.letters) d
+  pub add_step_syncs : (x : NodeMessage) (d : Datagram) → Contains (batch_of n out.envelopes) d
       → Spells (said_by genesis n x) d.bytes
-      → AllCover m genesis n (disks (as_released (needs_sync_after needs_sync out) store)) x
-  gather_syncs x d c said =
-      step_syncs m genesis n node new (as_released needs_sync old)
-      (as_released (needs_sync_after needs_sync out) store) Heard out (recalled node old needs_sync genesis n r) g
+      → AllCover m genesis n (disks (synced_if (needs_sync_after needs_sync out) store)) x
+  add_step_syncs x d c said =
+      step_syncs m genesis n node new (synced_if needs_sync old)
+      (synced_if (needs_sync_after needs_sync out) store) Heard out (recalled node old needs_sync genesis n r) g
       (group_keeps (header_of genesis n) store
-      (needs_sync_after needs_sync out) new.acceptor.state gather_recalls.keeps) x d c said
+      (needs_sync_after needs_sync out) new.acceptor.state add_step_recalls.keeps) x d c said
 
   -- and whatever was
-  pub gather_covers : (x : NodeMessage) → AllCover m genesis n (disks (as_released needs_sync old)) x
-      → AllCover m genesis n (disks (as_released (needs_sync_after needs_sync out) store)) x
-  gather_covers x c =
+  pub add_step_covers : (x : NodeMessage) → AllCover m genesis n (disks (synced_if needs_sync old)) x
+      → AllCover m genesis n (disks (synced_if (needs_sync_after needs_sync out) store)) x
+  add_step_covers x c =
       let b = bound m Heard node new out g in
-      step_covers m genesis n node new (as_released needs_sync old)
-      (as_released (needs_sync_after needs_sync out) store) Heard out (recalled node old needs_sync genesis n r) g
+      step_covers m genesis n node new (synced_if needs_sync old)
+      (synced_if (needs_sync_after needs_sync out) store) Heard out (recalled node old needs_sync genesis n r) g
       (keeps_more (header_of genesis n) old store node.acceptor.state new.acceptor.state out is b.written b.unsynced
       needs_sync (needs_sync_after needs_sync out) refl r.keeps added) x c
 
 -- of the files as they are
-pub gather_still_covers : (m : Meaning) (genesis : Genesis) (n : ℕ) (node : NodeValue) (old store : StoreValue)
+pub add_step_still_covers : (m : Meaning) (genesis : Genesis) (n : ℕ) (node : NodeValue) (old store : StoreValue)
     (needs_sync : Bool) (es : List Entry) (r : RemembersInGroup node old needs_sync genesis n)
     → KeepsAtLeast store r.keeps.entries (plain r.keeps.loose ++ plain es) → (x : NodeMessage)
     → AllCover m genesis n (disks old) x → AllCover m genesis n (disks store) x
-gather_still_covers m genesis n node old store needs_sync es r keeps x c =
+add_step_still_covers m genesis n node old store needs_sync es r keeps x c =
     put_covers m genesis n old store r.keeps.entries r.keeps.loose es x r.keeps.holds keeps c
 
 -- ---- the sync
@@ -572,7 +572,7 @@ settled_fits m h n node old new true synced f =
 -- and whatever was covered as it would be is covered
 pub settled_covers : (m : Meaning) (genesis : Genesis) (n : ℕ) (node : NodeValue) (old new : StoreValue)
     (needs_sync : Bool) → SyncsIfNeeded needs_sync old new → RemembersInGroup node old needs_sync genesis n
-    → (x : NodeMessage) → AllCover m genesis n (disks (as_released needs_sync old)) x
+    → (x : NodeMessage) → AllCover m genesis n (disks (synced_if needs_sync old)) x
     → AllCover m genesis n (disks new) x
 settled_covers m genesis n node old new false same r x c =
     subst (λ (s : StoreValue). AllCover m genesis n (disks s) x) (sym same) c
@@ -645,9 +645,9 @@ begin_recalls node s genesis n needs_sync out is r =
 -- what is on its files it has synced
 pub based_cover : (m : Meaning) (genesis : Genesis) (n : ℕ) (s : StoreValue) (needs_sync : Bool) (out : OutboxValue)
     (x : NodeMessage) → out.rebase ≡ true → AllCover m genesis n (disks s) x
-    → AllCover m genesis n (disks (as_released (needs_sync_after needs_sync out) s)) x
+    → AllCover m genesis n (disks (synced_if (needs_sync_after needs_sync out) s)) x
 based_cover m genesis n s needs_sync out x is c =
-    subst (λ (w : Bool). AllCover m genesis n (disks (as_released w s)) x) (sym (rebased_waits needs_sync out is)) c
+    subst (λ (w : Bool). AllCover m genesis n (disks (synced_if w s)) x) (sym (rebased_waits needs_sync out is)) c
 
 module _ (m : Meaning) (h : History) (n : ℕ) (node stepped : NodeValue) (mid new : StoreValue) (needs_sync : Bool)
     (i : Input) (out : OutboxValue)
@@ -655,7 +655,7 @@ module _ (m : Meaning) (h : History) (n : ℕ) (node stepped : NodeValue) (mid n
     (g : ActsSafely m (λ k. InputFits k i) node stepped nothing out) (is : out.rebase ≡ true)
     (may : FitsBase (standing_of stepped)) (close : HoldsNear stepped)
     (holds : HoldsEntries new (Base (next_base mid (standing_of stepped)) ∷ []) []) where
-  pub based_goes : (sent : List LetterValue) → AreOf sent out.letters
+  pub based_goes : (sent : List EnvelopeValue) → AreOf sent out.envelopes
       → GroupLeavesFit m h n (with_snapshot stepped) new (needs_sync_after needs_sync out) out.notes (batch_of n sent)
   based_goes sent among =
       subst (λ (w : Bool). GroupLeavesFit m h n (with_snapshot stepped) new w out.notes (batch_of n sent))
@@ -678,7 +678,7 @@ pub asked_same : (old new : StoreValue) → IsSameStore old new → AreSame (dis
 asked_same old new same s i = pick (same.live i) (same.live_disk i) (same.other_disk i) s
 
 module _ (m : Meaning) (old new : StoreValue) (same : IsSameStore old new) where
-  pub same_as_sent : (needs_sync : Bool) → disks (as_released needs_sync new) ≡ disks (as_released needs_sync old)
+  pub same_as_sent : (needs_sync : Bool) → disks (synced_if needs_sync new) ≡ disks (synced_if needs_sync old)
   same_as_sent true = λ i. pick (same.live i) (fully_synced (same.live_disk i)) (same.other_disk i)
   same_as_sent false = λ i. pick (same.live i) (same.live_disk i) (same.other_disk i)
 
@@ -729,8 +729,8 @@ module _ (m : Meaning) (old new : StoreValue) (same : IsSameStore old new) where
       }
 
   pub same_group_covers : (genesis : Genesis) (n : ℕ) (x : NodeMessage) (needs_sync : Bool)
-      → AllCover m genesis n (disks (as_released needs_sync old)) x
-      → AllCover m genesis n (disks (as_released needs_sync new)) x
+      → AllCover m genesis n (disks (synced_if needs_sync old)) x
+      → AllCover m genesis n (disks (synced_if needs_sync new)) x
   same_group_covers genesis n x needs_sync = subst (λ d. AllCover m genesis n d x) (sym (same_as_sent needs_sync))
 
 -- ---- a group, in the words of single calls
@@ -798,7 +798,7 @@ shown_as_gathered m genesis own k n node s x r f =
 -- what fits as it will be fits as it is
 pub as_gathered : (m : Meaning) (genesis : Genesis) (k : ℕ) (node : NodeValue) (s : StoreValue) (needs_sync : Bool)
     → RemembersInGroup node s needs_sync genesis k → (h : History) (n : ℕ)
-    → NodeFits m h n (ReplicaHolds m node (as_released needs_sync s) h.genesis n) (disks (as_released needs_sync s))
+    → NodeFits m h n (ReplicaHolds m node (synced_if needs_sync s) h.genesis n) (disks (synced_if needs_sync s))
     → GroupFits m h n node s needs_sync
 as_gathered m genesis k node s false r h n f = (begin_fits m h n node s f).fits
 as_gathered m genesis k node s true r h n f = record {
@@ -811,8 +811,8 @@ as_gathered m genesis k node s true r h n f = record {
 
 pub goes_as_sent : (m : Meaning) (h : History) (n : ℕ) (node : NodeValue) (s : StoreValue) (needs_sync : Bool)
     (notes : List Note) (batch : List Datagram) → GroupLeavesFit m h n node s needs_sync notes batch
-    → LeavesFit m h n (ReplicaHolds m node (as_released needs_sync s) h.genesis n)
-    (disks (as_released needs_sync s)) notes batch
+    → LeavesFit m h n (ReplicaHolds m node (synced_if needs_sync s) h.genesis n)
+    (disks (synced_if needs_sync s)) notes batch
 goes_as_sent m h n node s needs_sync notes batch g = record {
   holding = g.holding;
   shown = group_stands m node s needs_sync h.genesis n g.holding g.shown;
@@ -824,18 +824,18 @@ goes_as_sent m h n node s needs_sync notes batch g = record {
 
 -- one more step: what it says is covered, and what was said before
 pub says_more : (m : Meaning) (genesis : Genesis) (n : ℕ) (old new : GroupValue) (before after : StoreValue)
-    → ((x : NodeMessage) → AllCover m genesis n (disks (as_released old.needs_sync before)) x
-    → AllCover m genesis n (disks (as_released new.needs_sync after)) x)
+    → ((x : NodeMessage) → AllCover m genesis n (disks (synced_if old.needs_sync before)) x
+    → AllCover m genesis n (disks (synced_if new.needs_sync after)) x)
     → ((x : NodeMessage) → Adds old new
-    (λ notes letters. (d : Datagram) → Contains (batch_of n letters) d → Spells (said_by genesis n x) d.bytes
-    → AllCover m genesis n (disks (as_released new.needs_sync after)) x))
+    (λ notes envelopes. (d : Datagram) → Contains (batch_of n envelopes) d → Spells (said_by genesis n x) d.bytes
+    → AllCover m genesis n (disks (synced_if new.needs_sync after)) x))
     → IsGroupCovered m genesis n old before → IsGroupCovered m genesis n new after
 says_more m genesis n old new first last still adds was x d c said =
     let a = adds x in
-    let listed : Contains (batch_of n old.letters ++ batch_of n a.letters) d =
+    let listed : Contains (batch_of n old.envelopes ++ batch_of n a.envelopes) d =
     subst (λ (l : List Datagram). Contains l d)
-    (ap (batch_of n) a.said ∙ map_append (datagram_of n) old.letters a.letters) c in
-    elim (Contains-append_cases (batch_of n old.letters) (batch_of n a.letters) d listed) [
+    (ap (batch_of n) a.said ∙ map_append (datagram_of n) old.envelopes a.envelopes) c in
+    elim (Contains-append_cases (batch_of n old.envelopes) (batch_of n a.envelopes) d listed) [
       | inl earlier ↦ still x (was x d earlier said)
       | inr now ↦ a.are d now said
     ]
@@ -863,8 +863,8 @@ ended_in_group m old needs_sync after any room = record {
 pub settled_node_fits : (m : Meaning) (Metered : Type 0) (old : ReplicaValue) (needs_sync : Bool) (new : ReplicaValue)
     → IsGroupSynced Metered old needs_sync new → (genesis : Genesis) (k : ℕ)
     → RemembersInGroup old.node old.store needs_sync genesis k → (h : History) (n : ℕ)
-    → NodeFits m h n (ReplicaHolds m old.node (as_released needs_sync old.store) h.genesis n)
-    (disks (as_released needs_sync old.store)) → NodeFits m h n (ReplicaHolds m new.node new.store h.genesis n)
+    → NodeFits m h n (ReplicaHolds m old.node (synced_if needs_sync old.store) h.genesis n)
+    (disks (synced_if needs_sync old.store)) → NodeFits m h n (ReplicaHolds m new.node new.store h.genesis n)
     (disks new.store)
 settled_node_fits m Metered old needs_sync new s genesis k r h n f =
     subst (λ (x : NodeValue). NodeFits m h n (ReplicaHolds m x new.store h.genesis n) (disks new.store)) (sym s.node)
@@ -876,16 +876,16 @@ pub settled_goes : (m : Meaning) (Metered : Type 0) (old : ReplicaValue) (needs_
     → IsGroupSynced Metered old needs_sync new → (genesis : Genesis) (k : ℕ)
     → RemembersInGroup old.node old.store needs_sync genesis k → (h : History) (n : ℕ) (notes : List Note)
     (batch : List Datagram)
-    → LeavesFit m h n (ReplicaHolds m old.node (as_released needs_sync old.store) h.genesis n)
-    (disks (as_released needs_sync old.store)) notes batch
+    → LeavesFit m h n (ReplicaHolds m old.node (synced_if needs_sync old.store) h.genesis n)
+    (disks (synced_if needs_sync old.store)) notes batch
     → LeavesFit m h n (ReplicaHolds m new.node new.store h.genesis n) (disks new.store) notes batch
 settled_goes m Metered old needs_sync new s genesis k r h n notes batch f =
     subst (λ (x : NodeValue). LeavesFit m h n (ReplicaHolds m x new.store h.genesis n) (disks new.store) notes batch)
     (sym s.node) (by_waits needs_sync s.syncs_all r f)
   where
     by_waits : (w : Bool) → SyncsIfNeeded w old.store new.store → RemembersInGroup old.node old.store w genesis k
-        → LeavesFit m h n (ReplicaHolds m old.node (as_released w old.store) h.genesis n)
-        (disks (as_released w old.store)) notes batch
+        → LeavesFit m h n (ReplicaHolds m old.node (synced_if w old.store) h.genesis n)
+        (disks (synced_if w old.store)) notes batch
         → LeavesFit m h n (ReplicaHolds m old.node new.store h.genesis n) (disks new.store) notes batch
     by_waits false same r f =
         subst (λ (x : StoreValue). LeavesFit m h n (ReplicaHolds m old.node x h.genesis n) (disks x) notes batch)
@@ -924,13 +924,13 @@ settled_once m n true is calls = calls
 settled_once m n false is calls = absurd (cc is)
 
 pub gathered_put : (m n : Meter) (o : OutboxValue) (entries : List Entry) → entries ≡ o.entries
-    → o.rebase ≡ false → CallsSucceed m n (put_calls entries false) → CallsSucceed m n (gather_calls o)
+    → o.rebase ≡ false → CallsSucceed m n (put_calls entries false) → CallsSucceed m n (add_step_calls o)
 gathered_put m n o entries these not_so calls =
     subst (λ (b : Bool). CallsSucceed m n (if b then rebase_calls else put_calls o.entries false)) (sym not_so)
     (subst (λ (es : List Entry). CallsSucceed m n (put_calls es false)) these calls)
 
 pub gathered_base : (m n : Meter) (o : OutboxValue) → o.rebase ≡ true → CallsSucceed m n rebase_calls
-    → CallsSucceed m n (gather_calls o)
+    → CallsSucceed m n (add_step_calls o)
 gathered_base m n o so calls =
     subst (λ (b : Bool). CallsSucceed m n (if b then rebase_calls else put_calls o.entries false)) (sym so) calls
 
@@ -1029,7 +1029,7 @@ of_store_too number by = elim by [ inl device ↦ inl device | inr failed ↦ in
 -- ---- room
 
 as_long : (needs_sync : Bool) (s : StoreValue) (side : Side)
-    → length (contents (disks (as_released needs_sync s) side)) ≡ length (contents (disks s side))
+    → length (contents (disks (synced_if needs_sync s) side)) ≡ length (contents (disks s side))
 as_long false s side = refl
 as_long true s side = at s.live side
   where
@@ -1042,6 +1042,6 @@ as_long true s side = at s.live side
 
 -- the files as they will be are as long as they are
 pub room_as_sent : (most : ℕ) (before after : Bool) (old new : StoreValue) → StaysWithin most (disks old) (disks new)
-    → StaysWithin most (disks (as_released before old)) (disks (as_released after new))
+    → StaysWithin most (disks (synced_if before old)) (disks (synced_if after new))
 room_as_sent most before after old new stays side =
     omega (arith, stays side, as_long before old side, as_long after new side)

@@ -20,7 +20,7 @@ use Rattle.lk_state.specs.Meanings.{Meaning}
 use Rattle.lk_messages.specs.Grammar.{Spells}
 use Rattle.lk_store_format.specs.Values.{HeaderValue}
 use Rattle.lk_agreement_laws.specs.Datagrams.{NodeMessage, said_by}
-use Rattle.lk_node_interface.specs.Letters.{LetterValue, datagram_of, batch_of}
+use Rattle.lk_node_interface.specs.Envelopes.{EnvelopeValue, datagram_of, batch_of}
 use Rattle.lk_node_interface.specs.declared.input.Input.{Input}
 use Rattle.lk_node_interface.specs.declared.note.Note.{Note}
 use Rattle.lk_node.specs.Calls.{InputFits, NodeFits, LeavesFit}
@@ -31,9 +31,9 @@ use Rattle.lk_node.specs.Leavings.{DisksFit, AllCover}
 use Rattle.lk_node.specs.NodeValue.{NodeValue}
 use Rattle.lk_replica.specs.Groups.{GroupValue, Adds, IsGroupCovered, KeepsGroup, LeavesInGroup}
 use Rattle.lk_replica.specs.Groups.{IsGathered, IsGroupSynced}
-use Rattle.lk_replica.specs.Groups.{IsRefusedInGroup, StepSaid, letters_of, GoesThrough, as_released, with_step}
+use Rattle.lk_replica.specs.Groups.{IsRefusedInGroup, StepSaid, envelopes_of, GoesThrough, synced_if, with_step}
 use Rattle.lk_replica.specs.Groups.{empty_group, group_that}
-use Rattle.lk_replica.specs.Groups.{gather_calls, RemembersInGroup, GroupStays}
+use Rattle.lk_replica.specs.Groups.{add_step_calls, RemembersInGroup, GroupStays}
 use Rattle.lk_replica.specs.Posts.{AreOf}
 use Rattle.lk_recovery.specs.Remembering.{ReplicaRemembers}
 use Rattle.lk_replica.specs.ReplicaValue.{ReplicaValue, device_of}
@@ -47,66 +47,66 @@ use Rattle.lk_replica.proofs.Grouped.{begun, begin_fits, room_as_sent, settled_n
 
 -- ---- steps
 
--- the steps noted this, and as many of the letters are their own
+-- the steps noted this, and as many of the envelopes are their own
 abbrev pub AreStepsOf : List Step → List StepSaid → Type 0
 AreStepsOf [] said = said ≡ []
 AreStepsOf (s ∷ steps) said =
-    (letters : List LetterValue) × (rest : List StepSaid) × (said ≡ (s.notes.items, letters) ∷ rest)
-    × (s.sends ≡ length letters) × AreStepsOf steps rest
+    (envelopes : List EnvelopeValue) × (rest : List StepSaid) × (said ≡ (s.notes.items, envelopes) ∷ rest)
+    × (s.sends ≡ length envelopes) × AreStepsOf steps rest
 
-one_step_more : (steps : List Step) (said : List StepSaid) (s : Step) (letters : List LetterValue)
-    → AreStepsOf steps said → s.sends ≡ length letters
-    → AreStepsOf (steps ++ s ∷ []) (said ++ (s.notes.items, letters) ∷ [])
-one_step_more [] said s letters are sends =
-    (letters, [], ap (λ (l : List StepSaid). l ++ (s.notes.items, letters) ∷ []) are, sends, refl)
-one_step_more (x ∷ steps) said s letters are sends = (
+one_step_more : (steps : List Step) (said : List StepSaid) (s : Step) (envelopes : List EnvelopeValue)
+    → AreStepsOf steps said → s.sends ≡ length envelopes
+    → AreStepsOf (steps ++ s ∷ []) (said ++ (s.notes.items, envelopes) ∷ [])
+one_step_more [] said s envelopes are sends =
+    (envelopes, [], ap (λ (l : List StepSaid). l ++ (s.notes.items, envelopes) ∷ []) are, sends, refl)
+one_step_more (x ∷ steps) said s envelopes are sends = (
   are.0,
-  are.1 ++ (s.notes.items, letters) ∷ [],
-  ap (λ (l : List StepSaid). l ++ (s.notes.items, letters) ∷ []) are.2,
+  are.1 ++ (s.notes.items, envelopes) ∷ [],
+  ap (λ (l : List StepSaid). l ++ (s.notes.items, envelopes) ∷ []) are.2,
   are.3,
-  one_step_more steps are.1 s letters are.4 sends,
+  one_step_more steps are.1 s envelopes are.4 sends,
 )
 
-batch_append : (n : ℕ) (xs ys : List LetterValue) → batch_of n (xs ++ ys) ≡ batch_of n xs ++ batch_of n ys
+batch_append : (n : ℕ) (xs ys : List EnvelopeValue) → batch_of n (xs ++ ys) ≡ batch_of n xs ++ batch_of n ys
 batch_append n [] ys = refl
 batch_append n (x ∷ xs) ys = ap (λ (l : List Datagram). datagram_of n x ∷ l) (batch_append n xs ys)
 
-batch_length : (n : ℕ) (xs : List LetterValue) → length (batch_of n xs) ≡ length xs
+batch_length : (n : ℕ) (xs : List EnvelopeValue) → length (batch_of n xs) ≡ length xs
 batch_length n [] = refl
 batch_length n (x ∷ xs) = omega (arith, batch_length n xs)
 
-own_of : (n k : ℕ) (letters more : List LetterValue) → k ≡ length letters
-    → take k (batch_of n (letters ++ more)) ≡ batch_of n letters
-own_of n k letters more is =
-    ap (λ (j : ℕ). take j (batch_of n (letters ++ more))) (is ∙ sym (batch_length n letters))
-    ∙ ap (take (length (batch_of n letters))) (batch_append n letters more)
-    ∙ take-append_seam (batch_of n letters) (batch_of n more)
+own_of : (n k : ℕ) (envelopes more : List EnvelopeValue) → k ≡ length envelopes
+    → take k (batch_of n (envelopes ++ more)) ≡ batch_of n envelopes
+own_of n k envelopes more is =
+    ap (λ (j : ℕ). take j (batch_of n (envelopes ++ more))) (is ∙ sym (batch_length n envelopes))
+    ∙ ap (take (length (batch_of n envelopes))) (batch_append n envelopes more)
+    ∙ take-append_seam (batch_of n envelopes) (batch_of n more)
 
-later_of : (n k : ℕ) (letters more : List LetterValue) → k ≡ length letters
-    → drop k (batch_of n (letters ++ more)) ≡ batch_of n more
-later_of n k letters more is =
-    ap (λ (j : ℕ). drop j (batch_of n (letters ++ more))) (is ∙ sym (batch_length n letters))
-    ∙ ap (drop (length (batch_of n letters))) (batch_append n letters more)
-    ∙ drop-append_seam (batch_of n letters) (batch_of n more)
+later_of : (n k : ℕ) (envelopes more : List EnvelopeValue) → k ≡ length envelopes
+    → drop k (batch_of n (envelopes ++ more)) ≡ batch_of n more
+later_of n k envelopes more is =
+    ap (λ (j : ℕ). drop j (batch_of n (envelopes ++ more))) (is ∙ sym (batch_length n envelopes))
+    ∙ ap (drop (length (batch_of n envelopes))) (batch_append n envelopes more)
+    ∙ drop-append_seam (batch_of n envelopes) (batch_of n more)
 
 -- each step takes its own
 pub parts_are : (n : ℕ) (steps : List Step) (said : List StepSaid) → AreStepsOf steps said
-    → parts_of steps (batch_of n (letters_of said)) ≡ said_by_steps n said
+    → parts_of steps (batch_of n (envelopes_of said)) ≡ said_by_steps n said
 parts_are n [] said are = ap (said_by_steps n) (sym are)
 parts_are n (s ∷ steps) said are =
-    let own = own_of n s.sends are.0 (letters_of are.1) are.3 in
-    let rest = ap (parts_of steps) (later_of n s.sends are.0 (letters_of are.1) are.3)
+    let own = own_of n s.sends are.0 (envelopes_of are.1) are.3 in
+    let rest = ap (parts_of steps) (later_of n s.sends are.0 (envelopes_of are.1) are.3)
     ∙ parts_are n steps are.1 are.4 in
-    let whole : parts_of (s ∷ steps) (batch_of n (letters_of ((s.notes.items, are.0) ∷ are.1)))
+    let whole : parts_of (s ∷ steps) (batch_of n (envelopes_of ((s.notes.items, are.0) ∷ are.1)))
     ≡ said_by_steps n ((s.notes.items, are.0) ∷ are.1) = λ i. (s.notes.items, own i) ∷ rest i in
-    subst (λ (l : List StepSaid). parts_of (s ∷ steps) (batch_of n (letters_of l)) ≡ said_by_steps n l)
+    subst (λ (l : List StepSaid). parts_of (s ∷ steps) (batch_of n (envelopes_of l)) ≡ said_by_steps n l)
     (sym are.2) whole
 
 -- and all of them take all
-pub all_sent : (n : ℕ) (said : List StepSaid) → batch_of n (letters_of said) ≡ sent_of (said_by_steps n said)
+pub all_sent : (n : ℕ) (said : List StepSaid) → batch_of n (envelopes_of said) ≡ sent_of (said_by_steps n said)
 all_sent n [] = refl
 all_sent n (x ∷ xs) =
-    batch_append n x.1 (letters_of xs) ∙ ap (λ (l : List Datagram). batch_of n x.1 ++ l) (all_sent n xs)
+    batch_append n x.1 (envelopes_of xs) ∙ ap (λ (l : List Datagram). batch_of n x.1 ++ l) (all_sent n xs)
 
 -- ---- what was gathered
 
@@ -117,13 +117,13 @@ module _ (m : Meaning) (IsText : List ℕ → Type 0) where
       → (i : Input) (new : NodeValue) (later : StoreValue) (one : GroupValue)
       → IsGathered m IsText ⊤ mid between (group_that still) i new later one
       → GathersAll m IsText node store needs_sync (done ++ i ∷ []) new later one.needs_sync
-      (steps ++ (one.notes, one.letters) ∷ [])
+      (steps ++ (one.notes, one.envelopes) ∷ [])
   gathers_on node store needs_sync [] mid between still steps g i new later one e = (
     new,
     later,
     one,
     [],
-    ap (λ (l : List StepSaid). l ++ (one.notes, one.letters) ∷ []) g.3,
+    ap (λ (l : List StepSaid). l ++ (one.notes, one.envelopes) ∷ []) g.3,
     subst (λ (k : NodeValue). IsGathered m IsText ⊤ k store
         (group_that needs_sync) i new later one) g.0
         (subst (λ (k : StoreValue). IsGathered m IsText ⊤ mid k
@@ -136,8 +136,8 @@ module _ (m : Meaning) (IsText : List ℕ → Type 0) where
     g.0,
     g.1,
     g.2,
-    g.3 ++ (one.notes, one.letters) ∷ [],
-    ap (λ (l : List StepSaid). l ++ (one.notes, one.letters) ∷ []) g.4,
+    g.3 ++ (one.notes, one.envelopes) ∷ [],
+    ap (λ (l : List StepSaid). l ++ (one.notes, one.envelopes) ∷ []) g.4,
     g.5,
     gathers_on g.0 g.1 g.2.needs_sync done mid between still g.3 g.6 i new later one e,
   )
@@ -147,7 +147,7 @@ pub record TakenSoFar (m : Meaning) (IsText : List ℕ → Type 0) (begun_as : R
     (now : ReplicaValue) (g : GroupValue) (steps : List Step) (rest : List Input) : Type 0 where
   pub said : List StepSaid
   pub counted : AreStepsOf steps said
-  pub letters : letters_of said ≡ g.letters
+  pub envelopes : envelopes_of said ≡ g.envelopes
   pub no_notes : g.notes ≡ []
   pub done : List Input
   pub parts : done ++ rest ≡ all
@@ -164,7 +164,7 @@ pub record TakenSoFar (m : Meaning) (IsText : List ℕ → Type 0) (begun_as : R
       → GroupStays m h n now.node now.store g.needs_sync × AllByRecursion (InputFits h) rest
   pub goes : (genesis : Genesis) (k : ℕ) → ReplicaRemembers begun_as.node begun_as.store genesis k
       → (n : ℕ) (q : ReplicaValue) (more : List StepSaid)
-      → GoesThrough m n (record { node = now.node; store = as_released g.needs_sync now.store; failed = false }) rest q
+      → GoesThrough m n (record { node = now.node; store = synced_if g.needs_sync now.store; failed = false }) rest q
       more → GoesThrough m n begun_as all q (said ++ more)
   pub room : StaysWithin max_after (disks begun_as.store) (disks now.store)
   pub calls : ℕ
@@ -176,7 +176,7 @@ nothing_taken : (m : Meaning) (IsText : List ℕ → Type 0) (r : ReplicaValue) 
 nothing_taken m IsText r all = record {
   said = [];
   counted = refl;
-  letters = refl;
+  envelopes = refl;
   no_notes = refl;
   done = [];
   parts = refl;
@@ -212,26 +212,26 @@ taken_nothing m IsText r all rest g steps none no_steps same =
 module _ (m : Meaning) (IsText : List ℕ → Type 0) (begun_as : ReplicaValue) (all : List Input) (old now : ReplicaValue)
     (g new : GroupValue) (steps : List Step) (i : Input) (rest : List Input) (step : Step)
     (s : TakenSoFar m IsText begun_as all old g steps (i ∷ rest))
-    (goes : Adds g new (λ notes letters. (genesis : Genesis) (k : ℕ)
+    (goes : Adds g new (λ notes envelopes. (genesis : Genesis) (k : ℕ)
     → RemembersInGroup old.node old.store g.needs_sync genesis k
-    → (h : History) (n : ℕ) → NodeFits m h n (ReplicaHolds m old.node (as_released g.needs_sync old.store) h.genesis n)
-    (disks (as_released g.needs_sync old.store)) → InputFits h i
-    → (sent : List LetterValue) → AreOf sent letters
-    → LeavesFit m h n (ReplicaHolds m now.node (as_released new.needs_sync now.store) h.genesis n)
-    (disks (as_released new.needs_sync now.store)) notes (batch_of n sent)))
+    → (h : History) (n : ℕ) → NodeFits m h n (ReplicaHolds m old.node (synced_if g.needs_sync old.store) h.genesis n)
+    (disks (synced_if g.needs_sync old.store)) → InputFits h i
+    → (sent : List EnvelopeValue) → AreOf sent envelopes
+    → LeavesFit m h n (ReplicaHolds m now.node (synced_if new.needs_sync now.store) h.genesis n)
+    (disks (synced_if new.needs_sync now.store)) notes (batch_of n sent)))
     (exact : IsGathered m IsText ⊤ old.node old.store g i now.node now.store new)
-    (notes : step.notes.items ≡ new.notes) (sends : step.sends ≡ length new.letters - length g.letters) where
+    (notes : step.notes.items ≡ new.notes) (sends : step.sends ≡ length new.envelopes - length g.envelopes) where
   abbrev one : GroupValue
   one = with_step exact.needs_sync exact.out (group_that g.needs_sync)
 
-  said_is : new.letters ≡ g.letters ++ one.letters
-  said_is = ap (λ (k : GroupValue). k.letters) exact.adds
+  said_is : new.envelopes ≡ g.envelopes ++ one.envelopes
+  said_is = ap (λ (k : GroupValue). k.envelopes) exact.adds
 
   noted_is : new.notes ≡ g.notes ++ one.notes
   noted_is = ap (λ (k : GroupValue). k.notes) exact.adds
 
-  same_letters : goes.letters ≡ one.letters
-  same_letters = append_cancel_left g.letters goes.letters one.letters (sym goes.said ∙ said_is)
+  same_envelopes : goes.envelopes ≡ one.envelopes
+  same_envelopes = append_cancel_left g.envelopes goes.envelopes one.envelopes (sym goes.said ∙ said_is)
 
   same_notes : goes.notes ≡ one.notes
   same_notes = append_cancel_left g.notes goes.notes one.notes (sym goes.noted ∙ noted_is)
@@ -251,56 +251,56 @@ module _ (m : Meaning) (IsText : List ℕ → Type 0) (begun_as : ReplicaValue) 
   own_notes : step.notes.items ≡ one.notes
   own_notes = notes ∙ noted_is ∙ ap (λ l. l ++ one.notes) s.no_notes
 
-  loopback : step.sends ≡ length one.letters
-  loopback = sends ∙ ap (λ l. length l - length g.letters) said_is
-      ∙ ap (λ k. k - length g.letters) (length-append g.letters one.letters)
-      ∙ add-sub_cancel_left (length g.letters) (length one.letters)
+  loopback : step.sends ≡ length one.envelopes
+  loopback = sends ∙ ap (λ l. length l - length g.envelopes) said_is
+      ∙ ap (λ k. k - length g.envelopes) (length-append g.envelopes one.envelopes)
+      ∙ add-sub_cancel_left (length g.envelopes) (length one.envelopes)
 
-  letters_more : (xs ys : List StepSaid) → letters_of (xs ++ ys) ≡ letters_of xs ++ letters_of ys
-  letters_more [] ys = refl
-  letters_more (x ∷ xs) ys =
-      ap (λ l. x.1 ++ l) (letters_more xs ys) ∙ sym (append_assoc x.1 (letters_of xs) (letters_of ys))
+  envelopes_more : (xs ys : List StepSaid) → envelopes_of (xs ++ ys) ≡ envelopes_of xs ++ envelopes_of ys
+  envelopes_more [] ys = refl
+  envelopes_more (x ∷ xs) ys =
+      ap (λ l. x.1 ++ l) (envelopes_more xs ys) ∙ sym (append_assoc x.1 (envelopes_of xs) (envelopes_of ys))
 
   -- in each history it goes on by it, as by a call of its own
   link : (genesis : Genesis) (k : ℕ) → RemembersInGroup old.node old.store g.needs_sync genesis k
       → (n : ℕ) (h : History)
-      → NodeFits m h n (ReplicaHolds m old.node (as_released g.needs_sync old.store) h.genesis n)
-      (disks (as_released g.needs_sync old.store)) → InputFits h i
-      → (sent : List LetterValue) → AreOf sent one.letters
-      → LeavesFit m h n (ReplicaHolds m now.node (as_released new.needs_sync now.store) h.genesis n)
-      (disks (as_released new.needs_sync now.store)) one.notes (batch_of n sent)
+      → NodeFits m h n (ReplicaHolds m old.node (synced_if g.needs_sync old.store) h.genesis n)
+      (disks (synced_if g.needs_sync old.store)) → InputFits h i
+      → (sent : List EnvelopeValue) → AreOf sent one.envelopes
+      → LeavesFit m h n (ReplicaHolds m now.node (synced_if new.needs_sync now.store) h.genesis n)
+      (disks (synced_if new.needs_sync now.store)) one.notes (batch_of n sent)
   link genesis k was n h f heard sent among =
       subst (λ (l : List Note). LeavesFit m h n (ReplicaHolds m now.node
-      (as_released new.needs_sync now.store) h.genesis n)
-      (disks (as_released new.needs_sync now.store)) l (batch_of n sent)) same_notes
+      (synced_if new.needs_sync now.store) h.genesis n)
+      (disks (synced_if new.needs_sync now.store)) l (batch_of n sent)) same_notes
       (goes.are genesis k was h n f heard sent
-      (subst (λ (l : List LetterValue). AreOf sent l) (sym same_letters) among))
+      (subst (λ (l : List EnvelopeValue). AreOf sent l) (sym same_envelopes) among))
 
   module _ (keeps : KeepsGroup m (λ h. InputFits h i) old.node old.store g now.node now.store new)
       (leaves : LeavesInGroup m (λ h. InputFits h i) 132704 old.node old.store g.needs_sync (disks now.store))
       (alive : now.failed ≡ false) where
     -- the calls of the device by which room was made, and of the step
     abbrev calls : ℕ
-    calls = (exact.room.calls tt).0 + gather_calls exact.out
+    calls = (exact.room.calls tt).0 + add_step_calls exact.out
 
     passes : CallsSucceed old.store.meter now.store.meter calls
     passes = let k = exact.room.calls tt in
-        passes_on k.0 k.2 (gather_calls exact.out) (exact.steps.calls tt)
+        passes_on k.0 k.2 (add_step_calls exact.out) (exact.steps.calls tt)
 
     pub one_taken : TakenSoFar m IsText begun_as all now (record new { notes = [] }) (steps ++ step ∷ []) rest
     one_taken = record {
-      said = s.said ++ (step.notes.items, one.letters) ∷ [];
-      counted = one_step_more steps s.said step one.letters s.counted loopback;
-      letters = letters_more s.said ((step.notes.items, one.letters) ∷ [])
-          ∙ (λ k. s.letters k ++ append-nil one.letters k) ∙ sym said_is;
+      said = s.said ++ (step.notes.items, one.envelopes) ∷ [];
+      counted = one_step_more steps s.said step one.envelopes s.counted loopback;
+      envelopes = envelopes_more s.said ((step.notes.items, one.envelopes) ∷ [])
+          ∙ (λ k. s.envelopes k ++ append-nil one.envelopes k) ∙ sym said_is;
       no_notes = refl;
       done = s.done ++ i ∷ [];
       parts = append_assoc s.done (i ∷ []) rest ∙ s.parts;
       gathered = record {
         gathers = subst (λ (l : List Note). GathersAll m IsText begun_as.node begun_as.store false
-            (s.done ++ i ∷ []) now.node now.store new.needs_sync (s.said ++ (l, one.letters) ∷ [])) (sym own_notes)
+            (s.done ++ i ∷ []) now.node now.store new.needs_sync (s.said ++ (l, one.envelopes) ∷ [])) (sym own_notes)
             (subst (λ (w : Bool). GathersAll m IsText begun_as.node begun_as.store false
-            (s.done ++ i ∷ []) now.node now.store w (s.said ++ (one.notes, one.letters) ∷ []))
+            (s.done ++ i ∷ []) now.node now.store w (s.said ++ (one.notes, one.envelopes) ∷ []))
             (sym (ap (λ (k : GroupValue). k.needs_sync) exact.adds))
             (gathers_on m IsText begun_as.node begun_as.store false s.done old.node old.store g.needs_sync s.said
             s.gathered.gathers i now.node now.store one fresh));
@@ -313,12 +313,13 @@ module _ (m : Meaning) (IsText : List ℕ → Type 0) (begun_as : ReplicaValue) 
       stays = λ h n f fit. let was = s.stays h n f fit in (keeps.stays h n was.0 was.1.0, was.1.1);
       goes = λ genesis k r n q more through.
           subst (λ (l : List StepSaid). GoesThrough m n begun_as all q l)
-          (sym (append_assoc s.said ((step.notes.items, one.letters) ∷ []) more))
-          (subst (λ (l : List Note). GoesThrough m n begun_as all q (s.said ++ (l, one.letters) ∷ more)) (sym own_notes)
-          (s.goes genesis k r n q ((one.notes, one.letters) ∷ more) (
-            record { node = now.node; store = as_released new.needs_sync now.store; failed = false },
+          (sym (append_assoc s.said ((step.notes.items, one.envelopes) ∷ []) more))
+          (subst (λ (l : List Note). GoesThrough m n begun_as all q (s.said ++ (l, one.envelopes) ∷ more))
+          (sym own_notes)
+          (s.goes genesis k r n q ((one.notes, one.envelopes) ∷ more) (
+            record { node = now.node; store = synced_if new.needs_sync now.store; failed = false },
             one.notes,
-            one.letters,
+            one.envelopes,
             more,
             refl,
             (λ h f heard sent among. link genesis k (s.recalls genesis k r) n h f heard sent among),
@@ -394,15 +395,15 @@ goes_to_the_end m IsText begun_as all now q g steps rest s none is_synced room g
     subst (λ (l : List StepSaid). GoesThrough m n begun_as all q l) (append-nil s.said)
     (s.goes genesis k r n q []
     (subst (λ (l : List Input). GoesThrough m n
-    (record { node = now.node; store = as_released g.needs_sync now.store; failed = false }) l q []) (sym none) (
+    (record { node = now.node; store = synced_if g.needs_sync now.store; failed = false }) l q []) (sym none) (
       refl,
       (λ h f. ended h f),
       room_as_sent 132704 g.needs_sync false now.store q.store
           (within_more 132704 (disks now.store) (disks q.store) room),
     )))
   where
-    ended : (h : History) → NodeFits m h n (ReplicaHolds m now.node (as_released g.needs_sync now.store) h.genesis n)
-        (disks (as_released g.needs_sync now.store)) → NodeFits m h n (ReplicaHolds m q.node q.store h.genesis n)
+    ended : (h : History) → NodeFits m h n (ReplicaHolds m now.node (synced_if g.needs_sync now.store) h.genesis n)
+        (disks (synced_if g.needs_sync now.store)) → NodeFits m h n (ReplicaHolds m q.node q.store h.genesis n)
         (disks q.store)
     ended h f = settled_node_fits m ⊤ now g.needs_sync q is_synced genesis k (s.recalls genesis k r) h n f
 
@@ -436,16 +437,16 @@ refused_in_all m IsText begun_as all now new g steps rest number s why = record 
 pub taken_in_all : (m : Meaning) (IsText : List ℕ → Type 0) (begun_as : ReplicaValue) (all : List Input)
     (now new : ReplicaValue) (g : GroupValue) (steps : List Step) (rest : List Input) (sent : List Datagram)
     → (s : TakenSoFar m IsText begun_as all now g steps rest) → rest ≡ []
-    → IsGroupSynced ⊤ now g.needs_sync new → new.failed ≡ false → sent ≡ batch_of begun_as.node.header.node g.letters
+    → IsGroupSynced ⊤ now g.needs_sync new → new.failed ≡ false → sent ≡ batch_of begun_as.node.header.node g.envelopes
     → (sent ≡ sent_of (parts_of steps sent))
     × IsTakenTogether m IsText begun_as all new (parts_of steps sent)
 taken_in_all m IsText begun_as all now new g steps rest sent s none is_synced alive batch =
     let n : ℕ = begun_as.node.header.node in
-    let letters : sent ≡ batch_of n (letters_of s.said) = batch ∙ ap (batch_of n) (sym s.letters) in
-    let parts : parts_of steps sent ≡ said_by_steps n s.said = ap (parts_of steps) letters
+    let envelopes : sent ≡ batch_of n (envelopes_of s.said) = batch ∙ ap (batch_of n) (sym s.envelopes) in
+    let parts : parts_of steps sent ≡ said_by_steps n s.said = ap (parts_of steps) envelopes
     ∙ parts_are n steps s.said s.counted in
     let whole : s.done ≡ all = sym (append-nil s.done) ∙ ap (λ (l : List Input). s.done ++ l) (sym none) ∙ s.parts in (
-      letters ∙ all_sent n s.said ∙ ap sent_of (sym parts),
+      envelopes ∙ all_sent n s.said ∙ ap sent_of (sym parts),
       record {
         mid = now;
         needs_sync = g.needs_sync;
@@ -463,15 +464,15 @@ pub gone_in_all : (m : Meaning) (IsText : List ℕ → Type 0) (begun_as : Repli
     (now new : ReplicaValue) (g : GroupValue) (steps : List Step) (rest : List Input) (sent : List Datagram)
     → (s : TakenSoFar m IsText begun_as all now g steps rest) → rest ≡ []
     → IsGroupSynced ⊤ now g.needs_sync new → StaysWithin 0 (disks now.store) (disks new.store)
-    → sent ≡ batch_of begun_as.node.header.node g.letters
+    → sent ≡ batch_of begun_as.node.header.node g.envelopes
     → (genesis : Genesis) (n : ℕ) → ReplicaRemembers begun_as.node begun_as.store genesis n
     → EachLeavesFit (λ (r : ReplicaValue) genesis k x. ReplicaHolds m r.node r.store genesis k x)
     (λ (r : ReplicaValue). disk_of (device_of r.store)) m n begun_as all new (parts_of steps sent)
 gone_in_all m IsText begun_as all now new g steps rest sent s none is_synced room batch genesis n r =
     let own : begun_as.node.header.node ≡ n = ap (λ (w : HeaderValue). w.node) r.whose in
-    let letters : sent ≡ batch_of n (letters_of s.said) = batch ∙ ap (λ (k : ℕ). batch_of k g.letters) own
-    ∙ ap (batch_of n) (sym s.letters) in
-    let parts : parts_of steps sent ≡ said_by_steps n s.said = ap (parts_of steps) letters
+    let envelopes : sent ≡ batch_of n (envelopes_of s.said) = batch ∙ ap (λ (k : ℕ). batch_of k g.envelopes) own
+    ∙ ap (batch_of n) (sym s.envelopes) in
+    let parts : parts_of steps sent ≡ said_by_steps n s.said = ap (parts_of steps) envelopes
     ∙ parts_are n steps s.said s.counted in
     subst (λ (l : List Said). EachLeavesFit (λ (r : ReplicaValue) genesis k x. ReplicaHolds m r.node r.store genesis k
     x)
@@ -484,11 +485,11 @@ gone_in_all m IsText begun_as all now new g steps rest sent s none is_synced roo
 pub covered_in_all : (m : Meaning) (IsText : List ℕ → Type 0) (begun_as : ReplicaValue) (all : List Input)
     (now new : ReplicaValue) (g : GroupValue) (steps : List Step) (rest : List Input) (sent : List Datagram)
     → TakenSoFar m IsText begun_as all now g steps rest
-    → IsGroupSynced ⊤ now g.needs_sync new → sent ≡ batch_of begun_as.node.header.node g.letters
+    → IsGroupSynced ⊤ now g.needs_sync new → sent ≡ batch_of begun_as.node.header.node g.envelopes
     → (genesis : Genesis) (n : ℕ) (x : NodeMessage) → ReplicaRemembers begun_as.node begun_as.store genesis n
     → (d : Datagram) → Contains sent d → Spells (said_by genesis n x) d.bytes → AllCover m genesis n (disks new.store) x
 covered_in_all m IsText begun_as all now new g steps rest sent s is_synced batch genesis n x r d listed spelled =
     let own : begun_as.node.header.node ≡ n = ap (λ (w : HeaderValue). w.node) r.whose in
-    let letters : sent ≡ batch_of n g.letters = batch ∙ ap (λ (k : ℕ). batch_of k g.letters) own in
+    let envelopes : sent ≡ batch_of n g.envelopes = batch ∙ ap (λ (k : ℕ). batch_of k g.envelopes) own in
     settled_covers m genesis n now.node now.store new.store g.needs_sync is_synced.syncs_all (s.recalls genesis n r) x
-    (s.covered genesis n r x d (subst (λ (l : List Datagram). Contains l d) letters listed) spelled)
+    (s.covered genesis n r x d (subst (λ (l : List Datagram). Contains l d) envelopes listed) spelled)

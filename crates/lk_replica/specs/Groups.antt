@@ -19,7 +19,7 @@ use Rattle.lk_state.specs.Meanings.{Meaning}
 use Rattle.lk_messages.specs.Grammar.{Spells}
 use Rattle.lk_agreement_laws.specs.Acceptors.{AcceptorState}
 use Rattle.lk_agreement_laws.specs.Datagrams.{NodeMessage, said_by}
-use Rattle.lk_node_interface.specs.Letters.{LetterValue, batch_of}
+use Rattle.lk_node_interface.specs.Envelopes.{EnvelopeValue, batch_of}
 use Rattle.lk_node_interface.specs.Outboxes.{OutboxValue}
 use Rattle.lk_node_interface.specs.declared.input.Input.{Input}
 use Rattle.lk_node_interface.specs.declared.note.Note.{Note}
@@ -44,10 +44,10 @@ use Rattle.lk_node.specs.SafeSteps.{with_entries}
 abbrev pub as_synced : StoreValue → StoreValue
 as_synced s = record s { live_disk = fully_synced s.live_disk }
 
--- the store as it will be when the group's letters are sent: synced, if something waits for that
-abbrev pub as_released : Bool → StoreValue → StoreValue
-as_released true s = as_synced s
-as_released false s = s
+-- the store as it will be when the group's envelopes are sent: synced, if something waits for that
+abbrev pub synced_if : Bool → StoreValue → StoreValue
+synced_if true s = as_synced s
+synced_if false s = s
 
 -- whether something waits for a sync after one more step: a Base holds everything, and is synced
 abbrev pub needs_sync_after : Bool → OutboxValue → Bool
@@ -88,26 +88,26 @@ pub record HoldsInGroup (m : Meaning) (node : NodeValue) (store : StoreValue) (n
 -- synced
 abbrev pub GroupFits : Meaning → History → ℕ → NodeValue → StoreValue → Bool → Type 0
 GroupFits m h n node store needs_sync =
-    NodeFits m h n (HoldsInGroup m node store needs_sync h.genesis n) (disks (as_released needs_sync store))
+    NodeFits m h n (HoldsInGroup m node store needs_sync h.genesis n) (disks (synced_if needs_sync store))
 
--- the effect of a step of a group with these letters
+-- the effect of a step of a group with these envelopes
 abbrev pub GroupLeavesFit : Meaning → History → ℕ → NodeValue → StoreValue → Bool → List Note → List Datagram → Type 0
 GroupLeavesFit m h n node store needs_sync notes batch =
     LeavesFit m h n (HoldsInGroup m node store needs_sync h.genesis n) (disks
-    (as_released needs_sync store)) notes batch
+    (synced_if needs_sync store)) notes batch
 
 -- what a caller sees of both: the node fits in what it holds and has on its disks once everything that waits is synced,
 -- and goes on from there
 abbrev pub FitsOnceSynced : Meaning → History → ℕ → NodeValue → StoreValue → Bool → Type 0
 FitsOnceSynced m h n node store needs_sync =
-    NodeFits m h n (ReplicaHolds m node (as_released needs_sync store) h.genesis n) (disks
-    (as_released needs_sync store))
+    NodeFits m h n (ReplicaHolds m node (synced_if needs_sync store) h.genesis n) (disks
+    (synced_if needs_sync store))
 
 abbrev pub LeavesFitOnceSynced : Meaning → History → ℕ → NodeValue → StoreValue → Bool → List Note → List Datagram
     → Type 0
 LeavesFitOnceSynced m h n node store needs_sync notes batch =
-    LeavesFit m h n (ReplicaHolds m node (as_released needs_sync store) h.genesis n)
-    (disks (as_released needs_sync store)) notes batch
+    LeavesFit m h n (ReplicaHolds m node (synced_if needs_sync store) h.genesis n)
+    (disks (synced_if needs_sync store)) notes batch
 
 -- in this history, which contains nothing of what the group has said, the node fits, what it has written rests on what
 -- was sent and lies near, and whatever a stop may leave of the files as they are fits
@@ -123,17 +123,17 @@ abbrev pub SyncsIfNeeded : Bool → StoreValue → StoreValue → Type 0
 SyncsIfNeeded true old new = (ks ls : List Stored) → HoldsEntries old ks ls → HoldsEntries new (ks ++ ls) []
 SyncsIfNeeded false old new = new ≡ old
 
--- the notes and the letters of a group so far, in order, whether something that it has written waits for a sync, and
+-- the notes and the envelopes of a group so far, in order, whether something that it has written waits for a sync, and
 -- whether something may wait for a flush: not after a Base, which is synced
 pub record GroupValue : Type 0 where
   pub notes : List Note
-  pub letters : List LetterValue
+  pub envelopes : List EnvelopeValue
   pub needs_sync : Bool
   pub needs_flush : Bool
 
 -- a group that begins
 abbrev pub empty_group : GroupValue
-empty_group = record { notes = []; letters = []; needs_sync = false; needs_flush = false }
+empty_group = record { notes = []; envelopes = []; needs_sync = false; needs_flush = false }
 
 -- a group that has taken nothing, while something waits for a sync or not
 abbrev pub group_that : Bool → GroupValue
@@ -144,24 +144,24 @@ abbrev pub with_step : Bool → OutboxValue → GroupValue → GroupValue
 with_step needs_sync out g =
     record {
       notes = g.notes ++ out.notes;
-      letters = g.letters ++ out.letters;
+      envelopes = g.envelopes ++ out.envelopes;
       needs_sync = needs_sync_after needs_sync out;
       needs_flush = not out.rebase;
     }
 
--- a step has added these notes and letters
-pub record Adds (old new : GroupValue) (Are : List Note → List LetterValue → Type 0) : Type 0 where
+-- a step has added these notes and envelopes
+pub record Adds (old new : GroupValue) (Are : List Note → List EnvelopeValue → Type 0) : Type 0 where
   pub notes : List Note
-  pub letters : List LetterValue
+  pub envelopes : List EnvelopeValue
   pub noted : new.notes ≡ old.notes ++ notes
-  pub said : new.letters ≡ old.letters ++ letters
-  pub are : Are notes letters
+  pub said : new.envelopes ≡ old.envelopes ++ envelopes
+  pub are : Are notes envelopes
 
 -- once everything that waits is synced, everything that the group has said is covered
 abbrev pub IsGroupCovered : Meaning → Genesis → ℕ → GroupValue → StoreValue → Type 0
 IsGroupCovered m genesis n g s =
-    (x : NodeMessage) (d : Datagram) → Contains (batch_of n g.letters) d → Spells (said_by genesis n x) d.bytes
-    → AllCover m genesis n (disks (as_released g.needs_sync s)) x
+    (x : NodeMessage) (d : Datagram) → Contains (batch_of n g.envelopes) d → Spells (said_by genesis n x) d.bytes
+    → AllCover m genesis n (disks (synced_if g.needs_sync s)) x
 
 -- What a call leaves on the disks in the middle of a group, however it ends: if the history has the call's input, each
 -- image that a stop may leave fits the earlier history, in which nothing of the group is sent; each covers what every
@@ -182,8 +182,8 @@ pub record RoomKeepsGroup (m : Meaning) (node : NodeValue) (store : StoreValue) 
   pub recalls : (genesis : Genesis) (n : ℕ) → RemembersInGroup node store needs_sync genesis n
       → RemembersInGroup new after waits genesis n
   pub still : (genesis : Genesis) (n : ℕ) (x : NodeMessage) → RemembersInGroup node store needs_sync genesis n
-      → AllCover m genesis n (disks (as_released needs_sync store)) x
-      → AllCover m genesis n (disks (as_released waits after)) x
+      → AllCover m genesis n (disks (synced_if needs_sync store)) x
+      → AllCover m genesis n (disks (synced_if waits after)) x
 
 -- What a step preserves in a group: in a history in which nothing of the group is sent, the node still fits; its store
 -- has what its acceptor holds; and everything that the group has said is covered once everything that waits is synced.
@@ -208,24 +208,24 @@ pub record StepLeavesInGroup (m : Meaning) (Heard : History → Type 0) (most : 
   pub grows : GrowsFromBase (disks store) after
 
 -- What a step with this outbox guarantees. goes: in each history that contains what the group has said so far, it is
--- permitted its notes and letters. stays: in each that contains nothing of it, the node still fits. recalls: its store
--- has what its acceptor holds. syncs: once everything that waits is synced, the step's letters are covered. still: and
--- so is whatever was covered.
+-- permitted its notes and envelopes. stays: in each that contains nothing of it, the node still fits. recalls: its
+-- store has what its acceptor holds. syncs: once everything that waits is synced, the step's envelopes are covered.
+-- still: and so is whatever was covered.
 pub record StepKeepsGroup (m : Meaning) (Heard : History → Type 0) (node : NodeValue) (store : StoreValue)
     (needs_sync : Bool) (out : OutboxValue) (new : NodeValue) (after : StoreValue) : Type 0 where
   pub goes : (h : History) (n : ℕ) → GroupFits m h n node store needs_sync → Heard h
-      → (sent : List LetterValue) → AreOf sent out.letters
+      → (sent : List EnvelopeValue) → AreOf sent out.envelopes
       → GroupLeavesFit m h n new after (needs_sync_after needs_sync out) out.notes (batch_of n sent)
   pub stays : (h : History) (n : ℕ) → GroupStays m h n node store needs_sync → Heard h
       → GroupStays m h n new after (needs_sync_after needs_sync out)
   pub recalls : (genesis : Genesis) (n : ℕ) → RemembersInGroup node store needs_sync genesis n
       → RemembersInGroup new after (needs_sync_after needs_sync out) genesis n
   pub syncs : (genesis : Genesis) (n : ℕ) (x : NodeMessage) → RemembersInGroup node store needs_sync genesis n
-      → (d : Datagram) → Contains (batch_of n out.letters) d → Spells (said_by genesis n x) d.bytes
-      → AllCover m genesis n (disks (as_released (needs_sync_after needs_sync out) after)) x
+      → (d : Datagram) → Contains (batch_of n out.envelopes) d → Spells (said_by genesis n x) d.bytes
+      → AllCover m genesis n (disks (synced_if (needs_sync_after needs_sync out) after)) x
   pub still : (genesis : Genesis) (n : ℕ) (x : NodeMessage) → RemembersInGroup node store needs_sync genesis n
-      → AllCover m genesis n (disks (as_released needs_sync store)) x
-      → AllCover m genesis n (disks (as_released (needs_sync_after needs_sync out) after)) x
+      → AllCover m genesis n (disks (synced_if needs_sync store)) x
+      → AllCover m genesis n (disks (synced_if (needs_sync_after needs_sync out) after)) x
 
 -- ---- what the steps of a group have done, and nothing else
 
@@ -243,8 +243,8 @@ pub record MakesRoom (Metered : Type 0) (node : NodeValue) (store : StoreValue) 
   pub calls : Metered → (k : ℕ) × CallsWhereDue node store k × CallsSucceed store.meter after.meter k
 
 -- how many calls a step writes by: those of its entries, unsynced, or of a Base
-abbrev pub gather_calls : OutboxValue → ℕ
-gather_calls out = if out.rebase then rebase_calls else put_calls out.entries false
+abbrev pub add_step_calls : OutboxValue → ℕ
+add_step_calls out = if out.rebase then rebase_calls else put_calls out.entries false
 
 -- the outbox's entries follow what the store held, and nothing more is synced
 abbrev pub Appends : StoreValue → OutboxValue → StoreValue → Type 0
@@ -260,10 +260,10 @@ pub record StepsToFile (m : Meaning) (IsText : List ℕ → Type 0) (Metered : T
   pub puts : out.rebase ≡ false → (new ≡ stepped) × Appends store out after
   pub grows : out.rebase ≡ false → GrowsByStep (disks store) (disks after)
   pub file : out.rebase ≡ false → KeepsItsFile store after
-  pub calls : Metered → CallsSucceed store.meter after.meter (gather_calls out)
+  pub calls : Metered → CallsSucceed store.meter after.meter (add_step_calls out)
 
 -- One more input of a group was taken: room was made for it, a step was taken, and its outbox is written, unsynced; its
--- notes and letters follow those of the steps before it, the group waits for a sync exactly if something that it has
+-- notes and envelopes follow those of the steps before it, the group waits for a sync exactly if something that it has
 -- written does, and nothing else was done.
 pub record IsGathered (m : Meaning) (IsText : List ℕ → Type 0) (Metered : Type 0) (node : NodeValue)
     (store : StoreValue) (before : GroupValue) (i : Input) (new : NodeValue) (after : StoreValue)
@@ -301,17 +301,17 @@ pub record IsRefusedInGroup (Honest Metered : Type 0) (old new : ReplicaValue) (
 
 -- ---- a whole group
 
--- the notes and the letters of a step of a group
+-- the notes and the envelopes of a step of a group
 abbrev pub StepSaid : Type 0
-StepSaid = List Note × List LetterValue
+StepSaid = List Note × List EnvelopeValue
 
 -- everything that the steps said
-abbrev pub letters_of : List StepSaid → List LetterValue
-letters_of [] = []
-letters_of (x ∷ xs) = x.1 ++ letters_of xs
+abbrev pub envelopes_of : List StepSaid → List EnvelopeValue
+envelopes_of [] = []
+envelopes_of (x ∷ xs) = x.1 ++ envelopes_of xs
 
 -- The replica took these inputs one after another: in each history that it fits, and that contains what it said
--- before, it goes on at each of them, as in a call of `take`, whichever of its letters are sent; and at the end it is
+-- before, it goes on at each of them, as in a call of `take`, whichever of its envelopes are sent; and at the end it is
 -- as it would be. Each `mid` is the replica as it will be once everything that it has written is synced.
 abbrev pub GoesThrough : Meaning → ℕ → ReplicaValue → List Input → ReplicaValue → List StepSaid → Type 0
 GoesThrough m n r [] q said =
@@ -319,10 +319,10 @@ GoesThrough m n r [] q said =
     → NodeFits m h n (ReplicaHolds m q.node q.store h.genesis n) (disks q.store))
     × StaysWithin max_after (disks r.store) (disks q.store)
 GoesThrough m n r (i ∷ is) q said =
-    (mid : ReplicaValue) × (notes : List Note) × (letters : List LetterValue) × (rest : List StepSaid)
-    × (said ≡ (notes, letters) ∷ rest)
+    (mid : ReplicaValue) × (notes : List Note) × (envelopes : List EnvelopeValue) × (rest : List StepSaid)
+    × (said ≡ (notes, envelopes) ∷ rest)
     × ((h : History) → NodeFits m h n (ReplicaHolds m r.node r.store h.genesis n) (disks r.store) → InputFits h i
-    → (sent : List LetterValue) → AreOf sent letters
+    → (sent : List EnvelopeValue) → AreOf sent envelopes
     → LeavesFit m h n (ReplicaHolds m mid.node mid.store h.genesis n) (disks mid.store) notes (batch_of n sent))
     × StaysWithin max_after (disks r.store) (disks mid.store)
     × GoesThrough m n mid is q rest

@@ -12,7 +12,7 @@ use Rattle.lk_log.specs.Stores.{HoldsEntries, KeepsItsFile}
 use Rattle.lk_state.specs.Meanings.{Meaning}
 use Rattle.lk_agreement_laws.specs.Datagrams.{NodeMessage, said_by}
 use Rattle.lk_messages.specs.Grammar.{Spells}
-use Rattle.lk_node_interface.specs.Letters.{LetterValue, batch_of}
+use Rattle.lk_node_interface.specs.Envelopes.{EnvelopeValue, batch_of}
 use Rattle.lk_node_interface.specs.Outboxes.{OutboxValue}
 use Rattle.lk_node_interface.specs.declared.input.Input.{Input}
 use Rattle.lk_node_interface.specs.declared.note.Note.{Note}
@@ -56,10 +56,10 @@ abbrev pub CallsOfStep : NodeValue → StoreValue → OutboxValue → StoreValue
 CallsOfStep node store out new =
     (k : ℕ) × CallsWhereDue node store k × CallsSucceed store.meter new.meter (k + write_calls out)
 
--- the replica has rebased if that was due, taken a step, written the outbox, returned its notes, and sent its letters,
--- and goes on. `Metered` says that its device counts its calls
+-- the replica has rebased if that was due, taken a step, written the outbox, returned its notes, and sent its
+-- envelopes, and goes on. `Metered` says that its device counts its calls
 pub record IsTaken (m : Meaning) (IsText : List ℕ → Type 0) (Metered : Type 0) (old : ReplicaValue) (i : Input)
-    (new : ReplicaValue) (notes : List Note) (Sends : List LetterValue → Type 0) : Type 0 where
+    (new : ReplicaValue) (notes : List Note) (Sends : List EnvelopeValue → Type 0) : Type 0 where
   pub mid : NodeValue
   pub between : StoreValue
   pub rebases : RebasesWhereDue old.node old.store mid between
@@ -68,27 +68,27 @@ pub record IsTaken (m : Meaning) (IsText : List ℕ → Type 0) (Metered : Type 
   pub steps : Steps m IsText mid i stepped out
   pub writes : Writes stepped between out new.node new.store
   pub noted : notes ≡ out.notes
-  pub sent : Sends out.letters
+  pub sent : Sends out.envelopes
   pub calls : Metered → CallsOfStep old.node old.store out new.store
   pub alive : new.failed ≡ false
   pub store_alive : new.store.failed ≡ false
   pub awake : new.node.halted ≡ false
 
--- what a call guarantees of the letters that it gave to its post, whatever the post
+-- what a call guarantees of the envelopes that it gave to its post, whatever the post
 pub record GivesBy (m : Meaning) (IsText : List ℕ → Type 0) (Metered : Type 0) (old : ReplicaValue) (i : Input)
-    (new : ReplicaValue) (r : Result (Vec Note Global) ReplicaFault) (letters : List LetterValue)
-    (Sends : List LetterValue → Type 0) : Type 0 where
-  -- if it goes on, it has taken its step, and these are the step's letters
-  pub taken : IfGoesOn r (λ notes. IsTaken m IsText Metered old i new notes (λ all. (all ≡ letters) × Sends all))
-  -- what it then holds permits all its notes and letters
+    (new : ReplicaValue) (r : Result (Vec Note Global) ReplicaFault) (envelopes : List EnvelopeValue)
+    (Sends : List EnvelopeValue → Type 0) : Type 0 where
+  -- if it goes on, it has taken its step, and these are the step's envelopes
+  pub taken : IfGoesOn r (λ notes. IsTaken m IsText Metered old i new notes (λ all. (all ≡ envelopes) × Sends all))
+  -- what it then holds permits all its notes and envelopes
   pub goes : (h : History) (n : ℕ)
       → NodeFits m h n (ReplicaHolds m old.node old.store h.genesis n) (disks old.store) → InputFits h i
       → IfGoesOn r (λ notes. LeavesFit m h n (ReplicaHolds m new.node new.store h.genesis n)
-      (disks new.store) notes (batch_of n letters))
-  -- however it ends, and whatever it restarted from, each image that a stop may leave covers what the letters say,
+      (disks new.store) notes (batch_of n envelopes))
+  -- however it ends, and whatever it restarted from, each image that a stop may leave covers what the envelopes say,
   -- since that was synced before they were given
   pub syncs : (genesis : Genesis) (n : ℕ) (x : NodeMessage) → ReplicaRemembers old.node old.store genesis n
-      → (d : Datagram) → Contains (batch_of n letters) d → Spells (said_by genesis n x) d.bytes
+      → (d : Datagram) → Contains (batch_of n envelopes) d → Spells (said_by genesis n x) d.bytes
       → AllCover m genesis n (disks new.store) x
 
 -- A call failed with the fault of this number, for its cause. `Honest` says that its device does what its contract
@@ -167,9 +167,9 @@ IsOfLast old number = max_count ≤ old.store.generation → IsDue old.node old.
 -- the replica took this input, and sent these datagrams of its node
 pub record IsTakenAs (m : Meaning) (IsText : List ℕ → Type 0) (old : ReplicaValue) (i : Input)
     (new : ReplicaValue) (notes : List Note) (sent : List Datagram) : Type 0 where
-  pub letters : List LetterValue
-  pub batch : sent ≡ batch_of old.node.header.node letters
-  pub taken : IsTaken m IsText ⊤ old i new notes (λ ls. ls ≡ letters)
+  pub envelopes : List EnvelopeValue
+  pub batch : sent ≡ batch_of old.node.header.node envelopes
+  pub taken : IsTaken m IsText ⊤ old i new notes (λ ls. ls ≡ envelopes)
 
 -- the result of a call
 abbrev pub ComesTo : Meaning → (List ℕ → Type 0) → ReplicaValue → Input → ReplicaValue

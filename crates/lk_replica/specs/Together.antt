@@ -6,7 +6,7 @@ use Rattle.lk_disk.specs.declared.device.Side.{Side}
 use Rattle.lk_log.specs.Rooms.{StaysWithin}
 use Rattle.lk_log.specs.StoreValue.{StoreValue}
 use Rattle.lk_state.specs.Meanings.{Meaning}
-use Rattle.lk_node_interface.specs.Letters.{batch_of}
+use Rattle.lk_node_interface.specs.Envelopes.{batch_of}
 use Rattle.lk_node_interface.specs.declared.input.Input.{Input}
 use Rattle.lk_node_interface.specs.declared.note.Note.{Note}
 use Rattle.lk_node.specs.Calls.{InputFits, NodeFits, LeavesFit}
@@ -21,7 +21,7 @@ use Rattle.lk_replica.specs.declared.taken.TakenAll.{TakenAll}
 
 -- ---- what the steps noted, and what they sent
 
--- the notes and the letters of a step of the group, which are sent once all steps are over
+-- the notes and the envelopes of a step of the group, which are sent once all steps are over
 abbrev pub Said : Type 0
 Said = List Note × List Datagram
 
@@ -38,7 +38,7 @@ parts_of (s ∷ steps) sent = (s.notes.items, take s.sends sent) ∷ parts_of st
 abbrev pub said_in : TakenAll → List Said
 said_in t = parts_of t.steps.items t.sent.items
 
--- the letters of the steps, as datagrams of the node
+-- the envelopes of the steps, as datagrams of the node
 abbrev pub said_by_steps : ℕ → List StepSaid → List Said
 said_by_steps n [] = []
 said_by_steps n (x ∷ xs) = (x.0, batch_of n x.1) ∷ said_by_steps n xs
@@ -64,14 +64,14 @@ EachLeavesFit {R} Shows disks m n r (i ∷ is) q said = (mid : R) × (one : Said
 -- ---- what it has done, and nothing else
 
 -- a node with these files, of which something waited for a sync or not, took these inputs, one after another; and the
--- notes and letters of each step
+-- notes and envelopes of each step
 abbrev pub GathersAll : Meaning → (List ℕ → Type 0) → NodeValue → StoreValue → Bool → List Input → NodeValue
     → StoreValue → Bool → List StepSaid → Type 0
 GathersAll m IsText node store needs_sync [] new after still steps =
     (new ≡ node) × (after ≡ store) × (still ≡ needs_sync) × (steps ≡ [])
 GathersAll m IsText node store needs_sync (i ∷ is) new after still steps =
     (mid : NodeValue) × (between : StoreValue) × (one : GroupValue) × (rest : List StepSaid)
-    × (steps ≡ (one.notes, one.letters) ∷ rest)
+    × (steps ≡ (one.notes, one.envelopes) ∷ rest)
     × IsGathered m IsText ⊤ node store (group_that needs_sync) i mid between one
     × GathersAll m IsText mid between one.needs_sync is new after still rest
 
@@ -81,7 +81,7 @@ pub record IsGatheredFrom (m : Meaning) (IsText : List ℕ → Type 0) (old : Re
   pub gathers : GathersAll m IsText old.node old.store false inputs mid.node mid.store needs_sync steps
   pub alive : (mid ≡ old) ⊎ (mid.failed ≡ false)
 
--- it took all of these, synced once if something waited for that, and then sent the letters of the steps
+-- it took all of these, synced once if something waited for that, and then sent the envelopes of the steps
 pub record IsTakenTogether (m : Meaning) (IsText : List ℕ → Type 0) (old : ReplicaValue) (inputs : List Input)
     (new : ReplicaValue) (said : List Said) : Type 0 where
   pub mid : ReplicaValue

@@ -18,7 +18,7 @@ use Rattle.lk_node_interface.specs.declared.fault.ReplicaFault.{ReplicaFault}
 use Rattle.lk_node_interface.specs.declared.fault.ReplicaFault.TheVariants as fault
 use Rattle.lk_recovery.specs.Compacting.{Rebases}
 use Rattle.lk_recovery.specs.Rebased.{HasSwitchedFiles, IsNotWritten, KeepsOrBegins, MatchesBase}
-use Rattle.lk_replica.specs.Groups.{as_released, Appends, gather_calls}
+use Rattle.lk_replica.specs.Groups.{synced_if, Appends, add_step_calls}
 
 -- entries were put into the store, which may have failed: each image that a stop may leave has everything that was
 -- synced, and a prefix of the rest and of these; the same file is live, and has grown by no more bytes than so many
@@ -56,7 +56,7 @@ pub record LeavesGathered (node : NodeValue) (store : StoreValue) (out : OutboxV
 abbrev pub SwitchesAsSynced : Meaning → Type 0 → NodeValue → StoreValue → NodeValue → StoreValue → Type 0
 SwitchesAsSynced m Metered node store new after =
     (needs_sync : Bool) (ks ls : List Stored) → HoldsEntries store ks ls
-    → HasSwitchedFiles m Metered node (as_released needs_sync store) new after
+    → HasSwitchedFiles m Metered node (synced_if needs_sync store) new after
 
 -- an outbox was written: if it says so, by a Base, and otherwise by its entries, unsynced; in the calls that this takes
 -- of a device that counts them (`Metered`)
@@ -65,7 +65,7 @@ pub record HasGathered (m : Meaning) (Metered : Type 0) (node : NodeValue) (stor
   pub switches : out.rebase ≡ true → SwitchesAsSynced m Metered node store new after
   pub rebases : out.rebase ≡ true → Rebases node store new after
   pub puts : out.rebase ≡ false → Appends store out after
-  pub calls : Metered → CallsSucceed store.meter after.meter (gather_calls out)
+  pub calls : Metered → CallsSucceed store.meter after.meter (add_step_calls out)
 
 -- the sync, or flush, failed as a write does, but with `Device`, or else with `Failed` after an earlier error
 pub record IsNotSynced (Honest Metered : Type 0) (store after : StoreValue) (e : ReplicaFault) : Type 0 where

@@ -1,4 +1,4 @@
-// Steps of a group: their entries are written unsynced, and synced once before their letters are sent.
+// Steps of a group: their entries are written unsynced, and synced once before their envelopes are sent.
 ghost use Rattle.std.specs.Prelude.{◌≡◌, ℕ, ◌-◌, ◌<◌, ◌≤◌, ◌||◌, Bool, List, [], ◌++◌, length, true, false, Contains};
 ghost use Rattle.std.specs.Prelude.{IfErr, IfOk, IsOk, OnOk, OnErr, IsErrAnd, IsErrOf, ⊤};
 ghost use Rattle.lk_types.specs.Limits.{max_base, max_count};
@@ -10,7 +10,7 @@ ghost use Rattle.lk_log.specs.StoreValue.{disks};
 ghost use Rattle.lk_log.specs.Stores.{HoldsEntries, KeepsAtLeast, KeepsItsFile};
 ghost use Rattle.lk_messages.specs.Grammar.{Spells};
 ghost use Rattle.lk_agreement_laws.specs.Datagrams.{NodeMessage, Datagram as DatagramValue, said_by};
-ghost use Rattle.lk_node_interface.specs.Letters.{LetterValue, batch_of};
+ghost use Rattle.lk_node_interface.specs.Envelopes.{EnvelopeValue, batch_of};
 ghost use Rattle.lk_node.specs.Calls.{InputFits, NodeFits};
 ghost use Rattle.lk_node.specs.Executing.{NothingToRun};
 ghost use Rattle.lk_node.specs.Histories.{History, Genesis};
@@ -35,7 +35,7 @@ use crate::taken::Step;
 use lk_disk::LogDisk;
 use lk_log::Store;
 use lk_node::Node;
-use lk_node_interface::{Input, Letter, Note, Outbox, Post, ReplicaFault};
+use lk_node_interface::{Envelope, Input, Note, Outbox, Post, ReplicaFault};
 use lk_recovery::{is_rebase_due, write_base};
 use lk_state::Machine;
 use lk_types::NoMemory;
@@ -43,11 +43,11 @@ use std::alloc::Global;
 use std::marker::Model;
 use std::mem;
 
-/// A group so far: its notes, its letters in order, and whether something written waits for a sync, or for a flush.
+/// A group so far: its notes, its envelopes in order, and whether something written waits for a sync, or for a flush.
 #[derive(Drop)]
 pub struct Group {
     notes: Vec<Note>,
-    letters: Vec<Letter>,
+    envelopes: Vec<Envelope>,
     needs_sync: bool,
     needs_flush: bool,
 }
@@ -59,7 +59,7 @@ impl Model for Group {
 
     ghost view = { λ g. record {
       notes = g.notes.items;
-      letters = g.letters.items;
+      envelopes = g.envelopes.items;
       needs_sync = g.needs_sync;
       needs_flush = g.needs_flush;
     } };
@@ -72,7 +72,7 @@ impl Group {
     {
         Group {
             notes: Vec::new(alloc),
-            letters: Vec::new(alloc),
+            envelopes: Vec::new(alloc),
             needs_sync: false,
             needs_flush: false,
         }
@@ -85,11 +85,11 @@ impl Group {
         &self.notes
     }
 
-    /// The letters of the steps, in order.
-    pub fn letters(&self) -> &[Letter]
-        ensures { result.now ≡ self.now.letters }
+    /// The envelopes of the steps, in order.
+    pub fn envelopes(&self) -> &[Envelope]
+        ensures { result.now ≡ self.now.envelopes }
     {
-        &self.letters
+        &self.envelopes
     }
 
     /// Whether something written waits for a sync.
@@ -106,16 +106,16 @@ impl Group {
         self.needs_flush
     }
 
-    /// Returns the last step, and removes its notes from the group; its letters stay. `before` is how many letters the
-    /// group had before it. Call this after each step: it takes all notes that the group has.
+    /// Returns the last step, and removes its notes from the group; its envelopes stay. `before` is how many envelopes
+    /// the group had before it. Call this after each step: it takes all notes that the group has.
     pub fn drain_step(&mut self, alloc: Global, before: usize) -> Step
         ensures notes { result.notes.items ≡ self.old.notes }
-        ensures sends { result.sends ≡ length self.old.letters - before }
+        ensures sends { result.sends ≡ length self.old.envelopes - before }
         ensures others { self.new ≡ record self.old { notes = [] } }
     {
         Step {
             notes: mem::replace(&mut self.notes, Vec::new(alloc)),
-            sends: self.letters.len().saturating_sub(before),
+            sends: self.envelopes.len().saturating_sub(before),
         }
     }
 
@@ -126,15 +126,15 @@ impl Group {
         self.notes
     }
 
-    /// Returns the letters of the steps, in order.
-    pub fn into_letters(self) -> Vec<Letter>
-        ensures { result.items ≡ self.letters }
+    /// Returns the envelopes of the steps, in order.
+    pub fn into_envelopes(self) -> Vec<Envelope>
+        ensures { result.items ≡ self.envelopes }
     {
-        self.letters
+        self.envelopes
     }
 
-    /// Appends the notes and letters of a step. `needs_sync` is whether something waited for a sync before it; after a
-    /// rebase nothing waits. Out of memory it may have appended a part, so the caller must end the replica; an empty
+    /// Appends the notes and envelopes of a step. `needs_sync` is whether something waited for a sync before it; after
+    /// a rebase nothing waits. Out of memory it may have appended a part, so the caller must end the replica; an empty
     /// group takes a step without memory.
     pub fn add(&mut self, needs_sync: bool, outbox: Outbox) -> Result<(), NoMemory>
         ensures added { OnOk result (self.new ≡ with_step needs_sync outbox self.old) }
@@ -145,10 +145,10 @@ impl Group {
             entries: _,
             sync,
             notes,
-            letters,
+            envelopes,
         } = outbox;
         append(&mut self.notes, notes)?;
-        append(&mut self.letters, letters)?;
+        append(&mut self.envelopes, envelopes)?;
         self.needs_sync = if rebase { false } else { needs_sync || sync };
         self.needs_flush = !rebase;
         Ok(())
@@ -286,7 +286,7 @@ fn make_room<M: Machine, D: LogDisk + Drop>(
     Ok(false)
 }
 
-// Takes one more step of a group: writes its entries, and keeps its notes and letters. Sends nothing.
+// Takes one more step of a group: writes its entries, and keeps its notes and envelopes. Sends nothing.
 fn step_in_group<M: Machine, D: LogDisk + Drop>(
     node: &mut Node<M>,
     store: &mut Store<D>,
@@ -296,9 +296,9 @@ fn step_in_group<M: Machine, D: LogDisk + Drop>(
     requires { store.old.format ≡ 2 }
     ensures goes { D.is_honest
         → OnOk result (Adds group.old group.new
-        (λ notes letters. (h : History) (n : ℕ) → GroupFits M.meaning h n node.old store.old group.old.needs_sync
+        (λ notes envelopes. (h : History) (n : ℕ) → GroupFits M.meaning h n node.old store.old group.old.needs_sync
         → InputFits h input.entry
-        → (sent : List LetterValue) → AreOf sent letters
+        → (sent : List EnvelopeValue) → AreOf sent envelopes
         → GroupLeavesFit M.meaning h n node.new store.new group.new.needs_sync notes (batch_of n sent))) }
     ensures disks { D.is_honest
         → LeavesInGroup M.meaning
@@ -330,22 +330,22 @@ fn step_in_group<M: Machine, D: LogDisk + Drop>(
 }
 
 impl<M: Machine, D: LogDisk + Drop> Replica<M, D> {
-    /// Takes an input into a group. Nothing is sent before `release`, and the step's entries are synced only there,
-    /// unless a Base is written, which holds them: before the step if a rebase is due, after it for an installed
+    /// Takes an input into a group. Nothing is sent before `sync_and_send`, and the step's entries are synced only
+    /// there, unless a Base is written, which holds them: before the step if a rebase is due, after it for an installed
     /// snapshot.
     ///
     /// It fails as `take` does, but never with `Send`, and after that every call fails with `Failed` (11): nothing of
     /// the group is sent.
-    pub fn gather(&mut self, input: Input, group: &mut Group) -> Result<(), ReplicaFault>
-        // In each history that the node fits once synced, what it holds after the call permits its notes and letters.
+    pub fn add_step(&mut self, input: Input, group: &mut Group) -> Result<(), ReplicaFault>
+        // In each history that the node fits once synced, what it holds after the call permits its notes and envelopes.
         // So the history may contain everything that the group said before.
         ensures goes { D.is_honest
             → OnOk result (Adds group.old group.new
-            (λ notes letters. (genesis : Genesis) (k : ℕ)
+            (λ notes envelopes. (genesis : Genesis) (k : ℕ)
             → RemembersInGroup self.old.node self.old.store group.old.needs_sync genesis k
             → (h : History) (n : ℕ)
             → FitsOnceSynced M.meaning h n self.old.node self.old.store group.old.needs_sync
-            → InputFits h input.entry → (sent : List LetterValue) → AreOf sent letters
+            → InputFits h input.entry → (sent : List EnvelopeValue) → AreOf sent envelopes
             → LeavesFitOnceSynced M.meaning h n self.new.node self.new.store group.new.needs_sync notes
             (batch_of n sent))) }
         // After any exit, if nothing of the group is sent, the disks fit. Each step first writes a Base if one is due,
@@ -356,8 +356,8 @@ impl<M: Machine, D: LogDisk + Drop> Replica<M, D> {
             (λ h. InputFits h input.entry) max_after self.old.node self.old.store
             group.old.needs_sync (disks self.new.store) }
         ensures grows { D.is_honest → GrowsFromBase (disks self.old.store) (disks self.new.store) }
-        // The group goes on if nothing of it is sent, and its letters are covered once everything that waits for a sync
-        // is synced.
+        // The group goes on if nothing of it is sent, and its envelopes are covered once everything that waits for a
+        // sync is synced.
         ensures keeps { D.is_honest
             → OnOk result (KeepsGroup M.meaning
             (λ h. InputFits h input.entry) self.old.node self.old.store group.old self.new.node
@@ -387,10 +387,14 @@ impl<M: Machine, D: LogDisk + Drop> Replica<M, D> {
     }
 
     /// Ends a group: syncs once, if a promise or a vote of it waits for that, or else gives what it has written to the
-    /// operating system, and then sends its letters in order. Returns whether all were sent: a lost one is no error.
+    /// operating system, and then sends its envelopes in order. Returns whether all were sent: a lost one is no error.
     ///
     /// It fails with `Device` (7), and with `Failed` (11) after an earlier error; then nothing of the group is sent.
-    pub fn release<P: Post>(&mut self, group: &Group, post: &mut P) -> Result<bool, ReplicaFault>
+    pub fn sync_and_send<P: Post>(
+        &mut self,
+        group: &Group,
+        post: &mut P,
+    ) -> Result<bool, ReplicaFault>
         // The node fits each history that it was to fit once it was synced.
         ensures fits { D.is_honest → (genesis : Genesis) (k : ℕ)
             → RemembersInGroup self.old.node self.old.store group.now.needs_sync genesis k
@@ -407,11 +411,11 @@ impl<M: Machine, D: LogDisk + Drop> Replica<M, D> {
         ensures syncs { D.is_honest → (genesis : Genesis) (n : ℕ) (x : NodeMessage)
             → RemembersInGroup self.old.node self.old.store group.now.needs_sync genesis n
             → IsGroupCovered M.meaning genesis n group.now self.old.store
-            → IfOk result (λ all. (d : DatagramValue) → Contains (batch_of n group.now.letters) d
+            → IfOk result (λ all. (d : DatagramValue) → Contains (batch_of n group.now.envelopes) d
             → Spells (said_by genesis n x) d.bytes → AllCover M.meaning genesis n (disks self.new.store) x) }
-        // The letters were given to the post in order, each once, and nothing else; after an error none was.
+        // The envelopes were given to the post in order, each once, and nothing else; after an error none was.
         ensures delivers { IfOk result
-            (λ all. IsDelivered P.Carries P.sent P.failures P.is_observable group.now.letters all post.old post.new) }
+            (λ all. IsDelivered P.Carries P.sent P.failures P.is_observable group.now.envelopes all post.old post.new) }
         ensures silent { OnErr result (post.new ≡ post.old) }
         // It has synced once what waited for that, and has done nothing else.
         ensures exact { D.is_honest → OnOk result (IsGroupSynced D.is_metered self.old group.now.needs_sync self.new) }
@@ -424,7 +428,7 @@ impl<M: Machine, D: LogDisk + Drop> Replica<M, D> {
         ensures cause { CountsFailures self.old.store.failures self.new.store.failures result }
     {
         self.sync_group(group.needs_sync(), group.needs_flush())?;
-        let all = deliver(group.letters(), post);
+        let all = deliver(group.envelopes(), post);
         Ok(all)
     }
 }

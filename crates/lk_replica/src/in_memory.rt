@@ -30,9 +30,9 @@ impl<M: Machine, D: LogDisk + Drop> Replica<M, D> {
         self.node.header().node()
     }
 
-    // Returns a post without letters.
+    // Returns a post without envelopes.
     fn empty_post(&self) -> MemoryPost
-        ensures { result ≡ record { letters = []; failures = 0 } }
+        ensures { result ≡ record { envelopes = []; failures = 0 } }
     {
         MemoryPost::new(self.alloc)
     }
@@ -68,7 +68,7 @@ impl<M: Machine> MemoryReplica for Replica<M, MemoryDisk> {
         let notes = Replica::take(self, input, &mut post)?;
         match post.into_datagrams(node) {
             Ok(sent) => Ok(Taken { notes, sent }),
-            // No datagram could be made of the letters, so all of them are lost.
+            // No datagram could be made of the envelopes, so all of them are lost.
             Err(NoMemory) => Err(ReplicaFault::Send(notes)),
         }
     }
@@ -79,15 +79,15 @@ impl<M: Machine> MemoryReplica for Replica<M, MemoryDisk> {
         let mut group = Group::new(alloc);
         let mut steps = Vec::new(alloc);
         'inputs: for input in inputs {
-            let before = group.letters().len();
-            self.gather(input, &mut group)?;
+            let before = group.envelopes().len();
+            self.add_step(input, &mut group)?;
             let step = group.drain_step(alloc, before);
             self.keep(&mut steps, step)?;
         }
         self.sync_group(group.needs_sync(), group.needs_flush())?;
-        match datagrams(alloc, node, group.into_letters()) {
+        match datagrams(alloc, node, group.into_envelopes()) {
             Ok(sent) => Ok(TakenAll { steps, sent }),
-            // No datagram could be made of the letters, so all of them are lost, and the notes too.
+            // No datagram could be made of the envelopes, so all of them are lost, and the notes too.
             Err(NoMemory) => Err(ReplicaFault::Send(Vec::new(alloc))),
         }
     }

@@ -1,19 +1,19 @@
-// A post in memory, which keeps the letters that it is given.
+// A post in memory, which keeps the envelopes that it is given.
 ghost use Rattle.std.specs.Prelude.{◌≡◌, ◌∷◌, ◌++◌, [], IfOk, OnOk, OnErr};
-ghost use Rattle.lk_node_interface.specs.Letters.{LetterValue, party_of, datagram_of, batch_of};
+ghost use Rattle.lk_node_interface.specs.Envelopes.{EnvelopeValue, party_of, datagram_of, batch_of};
 
 use crate::datagram::Datagram;
 use lk_agreement_laws::Party;
-use lk_node_interface::{Letter, Post, SendFault, To};
+use lk_node_interface::{Envelope, Post, SendFault, To};
 use lk_types::{NoMemory, NodeNo};
 use std::alloc::Global;
 use std::marker::Model;
 
-/// A post that keeps the letters that were sent, in order, and counts those that were lost for want of memory.
+/// A post that keeps the envelopes that were sent, in order, and counts those that were lost for want of memory.
 #[derive(Drop)]
 pub struct MemoryPost {
     alloc: Global,
-    letters: Vec<Letter>,
+    envelopes: Vec<Envelope>,
     failures: u64,
 }
 
@@ -22,19 +22,19 @@ impl Model for MemoryPost {
 
     ghost Value = { MemoryPostValue };
 
-    ghost view = { λ c. record { letters = c.letters.items; failures = c.failures } };
+    ghost view = { λ c. record { envelopes = c.envelopes.items; failures = c.failures } };
 }
 
 impl Post for MemoryPost {
-    ghost use Rattle.lk_replica.specs.Posts.{KeepsLetter};
+    ghost use Rattle.lk_replica.specs.Posts.{KeepsEnvelope};
 
-    ghost sent = { λ c. c.letters };
+    ghost sent = { λ c. c.envelopes };
 
     ghost is_observable = { Unit {0} };
 
     ghost failures = { λ c. c.failures };
 
-    ghost Carries = { KeepsLetter };
+    ghost Carries = { KeepsEnvelope };
 
     fn send(&mut self, to: To, bytes: &[u8]) -> Result<(), SendFault> {
         match self.keep(to, bytes) {
@@ -47,7 +47,7 @@ impl Post for MemoryPost {
     }
 }
 
-// Returns the recipient of a letter, without its port.
+// Returns the recipient of an envelope, without its port.
 fn party_of(to: To) -> Party
     ensures { result ≡ party_of to }
 {
@@ -57,11 +57,11 @@ fn party_of(to: To) -> Party
     }
 }
 
-// Converts a letter of a node to a datagram.
-fn datagram_of(node: NodeNo, letter: Letter) -> Datagram
-    ensures { result ≡ datagram_of node letter }
+// Converts an envelope of a node to a datagram.
+fn datagram_of(node: NodeNo, envelope: Envelope) -> Datagram
+    ensures { result ≡ datagram_of node envelope }
 {
-    let Letter { to, bytes } = letter;
+    let Envelope { to, bytes } = envelope;
     Datagram {
         from: Party::Node(node),
         to: party_of(to),
@@ -69,20 +69,20 @@ fn datagram_of(node: NodeNo, letter: Letter) -> Datagram
     }
 }
 
-/// Converts letters of a node to datagrams, in order.
+/// Converts envelopes of a node to datagrams, in order.
 #[tactic(auto, using(lk_node::proofs::Nodes::mapped_append))]
 pub fn datagrams(
     alloc: Global,
     node: NodeNo,
-    letters: Vec<Letter>,
+    envelopes: Vec<Envelope>,
 ) -> Result<Vec<Datagram>, NoMemory>
-    ensures ok { IfOk result (λ ds. ds.items ≡ batch_of node letters.items) }
-    // Only letters need memory.
-    ensures memory { OnErr result (letters.items ≡ [] → ⊥) }
+    ensures ok { IfOk result (λ ds. ds.items ≡ batch_of node envelopes.items) }
+    // Only envelopes need memory.
+    ensures memory { OnErr result (envelopes.items ≡ [] → ⊥) }
 {
     let mut datagrams = Vec::new(alloc);
-    for letter in letters {
-        datagrams.push(datagram_of(node, letter))?;
+    for envelope in envelopes {
+        datagrams.push(datagram_of(node, envelope))?;
     }
     Ok(datagrams)
 }
@@ -90,40 +90,40 @@ pub fn datagrams(
 impl MemoryPost {
     /// Creates a post to which nothing has been sent.
     pub fn new(alloc: Global) -> MemoryPost
-        ensures { result ≡ record { letters = []; failures = 0 } }
+        ensures { result ≡ record { envelopes = []; failures = 0 } }
     {
         MemoryPost {
             alloc,
-            letters: Vec::new(alloc),
+            envelopes: Vec::new(alloc),
             failures: 0,
         }
     }
 
-    // Appends a letter. Out of memory it changes nothing.
+    // Appends an envelope. Out of memory it changes nothing.
     fn keep(&mut self, to: To, bytes: &[u8]) -> Result<(), NoMemory>
         ensures ok { OnOk result
             (self.new ≡ record {
-              letters = self.old.letters ++ record { to = to; bytes = bytes.now } ∷ [];
+              envelopes = self.old.envelopes ++ record { to = to; bytes = bytes.now } ∷ [];
               failures = self.old.failures;
             }) }
         ensures err { OnErr result (self.new ≡ self.old) }
     {
         let bytes = bytes.to_vec(self.alloc)?;
-        self.letters.push(Letter { to, bytes })?;
+        self.envelopes.push(Envelope { to, bytes })?;
         Ok(())
     }
 
-    /// Converts the letters that were sent to datagrams of the node, in order.
+    /// Converts the envelopes that were sent to datagrams of the node, in order.
     pub fn into_datagrams(self, node: NodeNo) -> Result<Vec<Datagram>, NoMemory>
-        ensures ok { IfOk result (λ ds. ds.items ≡ batch_of node self.letters) }
-        // Only letters need memory.
-        ensures memory { OnErr result (self.letters ≡ [] → ⊥) }
+        ensures ok { IfOk result (λ ds. ds.items ≡ batch_of node self.envelopes) }
+        // Only envelopes need memory.
+        ensures memory { OnErr result (self.envelopes ≡ [] → ⊥) }
     {
         let MemoryPost {
             alloc,
-            letters,
+            envelopes,
             failures: _,
         } = self;
-        datagrams(alloc, node, letters)
+        datagrams(alloc, node, envelopes)
     }
 }

@@ -145,7 +145,7 @@ pub trait MemoryReplica: Sized + Drop {
             (λ t. (k : ℕ) × CallsSucceed (behaves.memory self.old).meter (behaves.memory self.new).meter k) }
         ensures calls_err { IfErr result
             (λ e. RefusedAfter (fault_number e) (behaves.memory self.old).meter (behaves.memory self.new).meter) }
-        // It sends the letters of the steps, in order.
+        // It sends the envelopes of the steps, in order.
         ensures exact { IfOk result
             (λ t. (t.sent.items ≡ sent_of (said_in t))
             × behaves.TakesAll self.old inputs.entry.items self.new (Ok (said_in t))) }

@@ -6,7 +6,7 @@ ghost use Rattle.lk_disk.specs.Meters.{trapped};
 ghost use Rattle.lk_log.specs.StoreValue.{disks};
 ghost use Rattle.lk_recovery.specs.Compacting.{IsDue};
 ghost use Rattle.lk_node.specs.Calls.{InputFits};
-ghost use Rattle.lk_replica.specs.Posts.{GivesLetters, SendsAs, RefusesSends};
+ghost use Rattle.lk_replica.specs.Posts.{GivesEnvelopes, SendsAs, RefusesSends};
 ghost use Rattle.lk_replica.specs.Taking.{GivesBy, IsRefused, StaysUp};
 ghost use Rattle.lk_recovery.specs.Rebased.{LeavesDisks};
 ghost use Rattle.lk_node_interface.specs.Faults.{fault_number, CountsFailures, IfGoesOn, WantsNoMemory};
@@ -52,13 +52,13 @@ impl<M: Machine, D: LogDisk + Drop> Replica<M, D> {
     /// generation 2^48; after that every call fails with `Failed` (11). With `Send` (15) some datagrams are lost, and
     /// the replica goes on.
     pub fn take<P: Post>(&mut self, input: Input, post: &mut P) -> Result<Vec<Note>, ReplicaFault>
-        // Letters were given to the post in order, each once, and nothing else. If it goes on, it has then written the
-        // outbox of its step and returned its notes, and these are the step's letters: what it holds permits all of
-        // them. Sync before send: whatever the post, every image covers what it was given. Under `Send` the letters
-        // whose send failed are lost.
-        ensures gives { GivesLetters P.Carries post.old post.new
-            (λ letters. D.is_honest → GivesBy M.meaning M.IsText D.is_metered self.old
-            input.entry self.new result letters
+        // Envelopes were given to the post in order, each once, and nothing else. If it goes on, it has then written
+        // the outbox of its step and returned its notes, and these are the step's envelopes: what it holds permits all
+        // of them. Sync before send: whatever the post, every image covers what it was given. Under `Send` the
+        // envelopes whose send failed are lost.
+        ensures gives { GivesEnvelopes P.Carries post.old post.new
+            (λ envelopes. D.is_honest → GivesBy M.meaning M.IsText D.is_metered self.old
+            input.entry self.new result envelopes
             (λ all. P.is_observable → SendsAs result all (P.sent post.old) (P.sent post.new) (P.failures post.old)
             (P.failures post.new))) }
         ensures alive { IfGoesOn result (λ notes. StaysUp D.is_honest self.old self.new) }
@@ -81,8 +81,8 @@ impl<M: Machine, D: LogDisk + Drop> Replica<M, D> {
             → IsErrAnd result (λ e. WantsNoMemory (fault_number e)) }
     {
         let mut group = Group::new(self.alloc());
-        self.gather(input, &mut group)?;
-        let all = self.release(&group, post)?;
+        self.add_step(input, &mut group)?;
+        let all = self.sync_and_send(&group, post)?;
         let notes = group.into_notes();
         if !all {
             return Err(ReplicaFault::Send(notes));

@@ -29,15 +29,15 @@ use Rattle.lk_seed.specs.Seedings.{AreLeftBy}
 use Rattle.lk_seed.specs.declared.wanted.Wanted.{Wanted}
 
 -- what it had sent itself it still has, and what it sends itself comes to it
-pub own_more : (node : ℕ) (sent more letters : List Datagram) → All (IsOwn node sent) letters
-    → All (IsOwn node (sent ++ more)) (letters ++ own_of node more)
-own_more node sent more letters own =
+pub own_more : (node : ℕ) (sent more envelopes : List Datagram) → All (IsOwn node sent) envelopes
+    → All (IsOwn node (sent ++ more)) (envelopes ++ own_of node more)
+own_more node sent more envelopes own =
     let to_it : Datagram → Bool = λ d. is_to node d.to in
-    All-append (IsOwn node (sent ++ more)) letters (filter to_it more)
+    All-append (IsOwn node (sent ++ more)) envelopes (filter to_it more)
     (All-weaker (IsOwn node sent) (IsOwn node (sent ++ more)) (λ d o. record {
       was_sent = Contains-append_left sent more d o.was_sent;
       to_itself = o.to_itself;
-    }) letters own)
+    }) envelopes own)
     (λ k d short. record {
       was_sent = All-filter to_it (Contains (sent ++ more)) more
           (All-weaker (Contains more) (Contains (sent ++ more)) (λ x h. Contains-append_right sent more x h) more
@@ -52,13 +52,13 @@ goes_on header wanted old new member taken = record {
   whose = taken.whose;
   sent = member.sent ++ taken.more;
   becomes = taken.becomes;
-  own = subst (All (IsOwn header.node (member.sent ++ taken.more))) (sym taken.letters)
-      (own_more header.node member.sent taken.more old.letters member.own);
+  own = subst (All (IsOwn header.node (member.sent ++ taken.more))) (sym taken.envelopes)
+      (own_more header.node member.sent taken.more old.envelopes member.own);
 }
 
 pub begun : (header : HeaderValue) (wanted : List Wanted) (m : MemberValue) (notes : List Note)
     → RevivesTo table_meaning IsTableText empty header (Ok (m.replica, notes)) → m.header ≡ header
-    → m.letters ≡ [] → IsMember header wanted m
+    → m.envelopes ≡ [] → IsMember header wanted m
 begun header wanted m notes revives whose none = record {
   whose = whose;
   sent = [];
@@ -69,12 +69,12 @@ begun header wanted m notes revives whose none = record {
 pub has_taken : (header : HeaderValue) (wanted : List Wanted) (sent : List Datagram) (old new : MemberValue) (i : Input)
     (notes : List Note) (more : List Datagram) → old.header ≡ header → Becomes header wanted old.replica sent
     → MayReach header wanted sent i → ComesTo table_meaning IsTableText old.replica i new.replica (Ok (notes, more))
-    → new.letters ≡ old.letters ++ own_of old.header.node more → new.header ≡ old.header
+    → new.envelopes ≡ old.envelopes ++ own_of old.header.node more → new.header ≡ old.header
     → HasTaken header wanted sent old new
-has_taken header wanted sent old new i notes more is was may came letters whose = record {
+has_taken header wanted sent old new i notes more is was may came envelopes whose = record {
   more = more;
   becomes = takes old.replica new.replica sent more i notes was may came;
-  letters = subst (λ (h : HeaderValue). new.letters ≡ old.letters ++ own_of h.node more) is letters;
+  envelopes = subst (λ (h : HeaderValue). new.envelopes ≡ old.envelopes ++ own_of h.node more) is envelopes;
   whose = whose ∙ is;
 }
 
@@ -82,40 +82,40 @@ head_and_rest : (d : Datagram) (ds : List Datagram) → 0 < length ds → d ≡ 
 head_and_rest d [] some is = absurd (omega (arith, some))
 head_and_rest d (x ∷ xs) some is = ap (λ (y : Datagram). y ∷ xs) (sym is)
 
--- after the first letter that waits was delivered
+-- after the first envelope that waits was delivered
 pub has_delivered : (header : HeaderValue) (wanted : List Wanted) (old mid new : MemberValue) (d : Datagram)
-    → IsMember header wanted old → 0 < length old.letters → d ≡ get_or old.letters 0 d
-    → mid.letters ≡ remove old.letters 0 → mid.header ≡ old.header → mid.replica ≡ old.replica
+    → IsMember header wanted old → 0 < length old.envelopes → d ≡ get_or old.envelopes 0 d
+    → mid.envelopes ≡ remove old.envelopes 0 → mid.header ≡ old.header → mid.replica ≡ old.replica
     → ((sent : List Datagram) → mid.header ≡ header → Becomes header wanted mid.replica sent
     → MayReach header wanted sent (Heard d.bytes) → HasTaken header wanted sent mid new)
     → IsMember header wanted new
 has_delivered header wanted old mid new d member some is rest whose same taken =
-    let own : All (IsOwn header.node member.sent) (d ∷ remove old.letters 0) =
-    subst (All (IsOwn header.node member.sent)) (head_and_rest d old.letters some is) member.own in
+    let own : All (IsOwn header.node member.sent) (d ∷ remove old.envelopes 0) =
+    subst (All (IsOwn header.node member.sent)) (head_and_rest d old.envelopes some is) member.own in
     let still : IsMember header wanted mid = record {
       whose = whose ∙ member.whose;
       sent = member.sent;
       becomes = subst (λ (r : ReplicaValue). Becomes header wanted r member.sent) (sym same) member.becomes;
       own = subst (All (IsOwn header.node member.sent)) (sym rest)
-          (All-tail (IsOwn header.node member.sent) d (remove old.letters 0) own);
+          (All-tail (IsOwn header.node member.sent) d (remove old.envelopes 0) own);
     } in
     goes_on header wanted mid new still
     (taken member.sent still.whose still.becomes
-    (inr (d, All-head (IsOwn header.node member.sent) d (remove old.letters 0) own, refl)))
+    (inr (d, All-head (IsOwn header.node member.sent) d (remove old.envelopes 0) own, refl)))
 
 -- after a request was taken
 pub has_asked : (header : HeaderValue) (wanted : List Wanted) (old mid new : MemberValue) (bytes : List ℕ)
-    → IsMember header wanted old → mid.header ≡ old.header → mid.replica ≡ old.replica → mid.letters ≡ old.letters
+    → IsMember header wanted old → mid.header ≡ old.header → mid.replica ≡ old.replica → mid.envelopes ≡ old.envelopes
     → AreOfRequest old.header.cluster wanted bytes
     → ((sent : List Datagram) → mid.header ≡ header → Becomes header wanted mid.replica sent
     → MayReach header wanted sent (Heard bytes) → HasTaken header wanted sent mid new)
     → IsMember header wanted new
-has_asked header wanted old mid new bytes member whose same letters asks taken =
+has_asked header wanted old mid new bytes member whose same envelopes asks taken =
     let still : IsMember header wanted mid = record {
       whose = whose ∙ member.whose;
       sent = member.sent;
       becomes = subst (λ (r : ReplicaValue). Becomes header wanted r member.sent) (sym same) member.becomes;
-      own = subst (All (IsOwn header.node member.sent)) (sym letters) member.own;
+      own = subst (All (IsOwn header.node member.sent)) (sym envelopes) member.own;
     } in
     goes_on header wanted mid new still
     (taken member.sent still.whose still.becomes

@@ -81,12 +81,12 @@ pub record HasTaken (header : HeaderValue) (wanted : List Wanted) (sent : List D
     (old new : MemberValue) : Type 0 where
   pub more : List Datagram
   pub becomes : Becomes header wanted new.replica (sent ++ more)
-  pub letters : new.letters ≡ old.letters ++ own_of header.node more
+  pub envelopes : new.envelopes ≡ old.envelopes ++ own_of header.node more
   pub whose : new.header ≡ header
 
--- the member is such a replica, and it has sent itself the letters that wait
+-- the member is such a replica, and it has sent itself the envelopes that wait
 pub record IsMember (header : HeaderValue) (wanted : List Wanted) (m : MemberValue) : Type 0 where
   pub whose : m.header ≡ header
   pub sent : List Datagram
   pub becomes : Becomes header wanted m.replica sent
-  pub own : All (IsOwn header.node sent) m.letters
+  pub own : All (IsOwn header.node sent) m.envelopes

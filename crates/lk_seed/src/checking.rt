@@ -8,17 +8,20 @@ ghost use Rattle.lk_seed.specs.Seedings.{HasWanted};
 use crate::wanted::Wanted;
 use lk_disk::LogDisk;
 use lk_inspect::inspect::inspect_device;
-use lk_locks::{Name, Slot};
+use lk_locks::{LockEntry, Name};
 use lk_program_fault::ProgramFault;
 use std::alloc::Global;
 
 // Whether a name is free here at a last fence that is not below the wanted one.
 #[tactic(auto, using(crate::proofs::FenceLaws::has_at))]
-fn has_fence(names: &[(Name, Slot)], one: &Wanted) -> bool
+fn has_fence(names: &[(Name, LockEntry)], one: &Wanted) -> bool
     ensures { result ≡ true → HasFence names.now one.now }
 {
-    for (name, slot) in names {
-        if *name == one.name && slot.fence.get() >= one.fence.get() && !slot.holders.is_held() {
+    for (name, lock_entry) in names {
+        if *name == one.name
+            && lock_entry.fence.get() >= one.fence.get()
+            && !lock_entry.holders.is_held()
+        {
             return true;
         }
     }
@@ -26,7 +29,7 @@ fn has_fence(names: &[(Name, Slot)], one: &Wanted) -> bool
 }
 
 // Whether that is so of all.
-fn has_fences(names: &[(Name, Slot)], wanted: &[Wanted]) -> bool
+fn has_fences(names: &[(Name, LockEntry)], wanted: &[Wanted]) -> bool
     ensures { result ≡ true → HasFences wanted.now names.now }
 {
     for one in wanted {

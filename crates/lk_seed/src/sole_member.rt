@@ -11,7 +11,7 @@ ghost use Rattle.lk_store_format.specs.Values.{HeaderValue};
 
 use bytes::BytesMut;
 use lk_agreement_laws::Party;
-use lk_locks::{Body, Holders, LockTable, Name, Slot};
+use lk_locks::{Body, Holders, LockEntry, LockTable, Name};
 use lk_memory_disk::MemoryDisk;
 use lk_messages::{Content, Message};
 use lk_node_interface::{Input, ReplicaFault};
@@ -29,16 +29,16 @@ pub const CLIENT: u16 = 256;
 // How many ticks it is given to begin to lead: it waits at most 28.
 const TICKS: u32 = 100;
 
-// How many letters it may send itself for one input, and for those letters. It sends itself four for a request.
+// How many envelopes it may send itself for one input, and for those envelopes. It sends itself four for a request.
 const MOST_LETTERS: u32 = 256;
 
-/// The only member: its replica, the letters to itself that wait, and the number of the last request.
+/// The only member: its replica, the envelopes to itself that wait, and the number of the last request.
 #[derive(Drop)]
 pub struct SoleMember {
     alloc: Global,
     header: Header,
     replica: Replica<LockTable, MemoryDisk>,
-    letters: Vec<Datagram>,
+    envelopes: Vec<Datagram>,
     asked: u64,
 }
 
@@ -50,12 +50,12 @@ impl Model for SoleMember {
     ghost view = { λ m. record {
       header = m.header;
       replica = m.replica;
-      letters = m.letters.items;
+      envelopes = m.envelopes.items;
       asked = m.asked;
     } };
 }
 
-// Returns what a fault of the replica means to the program. A letter is lost only if memory runs out.
+// Returns what a fault of the replica means to the program. An envelope is lost only if memory runs out.
 fn program_fault(fault: &ReplicaFault) -> ProgramFault {
     match fault {
         ReplicaFault::Send(_) => ProgramFault::NoMemory,
@@ -85,12 +85,16 @@ fn is_to(node: NodeNo, to: Party) -> bool
 }
 
 // Appends those of these datagrams that go to this node.
-fn keep_own(letters: &mut Vec<Datagram>, node: NodeNo, sent: Vec<Datagram>) -> Result<(), NoMemory>
-    ensures { OnOk result (letters.new.items ≡ letters.old.items ++ own_of node sent.items) }
+fn keep_own(
+    envelopes: &mut Vec<Datagram>,
+    node: NodeNo,
+    sent: Vec<Datagram>,
+) -> Result<(), NoMemory>
+    ensures { OnOk result (envelopes.new.items ≡ envelopes.old.items ++ own_of node sent.items) }
 {
     'sent: for datagram in sent {
         if is_to(node, datagram.to) {
-            letters.push(datagram)?;
+            envelopes.push(datagram)?;
         }
     }
     Ok(())
@@ -111,14 +115,14 @@ impl SoleMember {
                 alloc,
                 header: header.copy(),
                 replica: revived.replica,
-                letters: Vec::new(alloc),
+                envelopes: Vec::new(alloc),
                 asked: 0,
             }),
             Err(refused) => Err(program_fault(&refused.fault)),
         }
     }
 
-    // Gives it an input, and keeps the letters that it sends itself.
+    // Gives it an input, and keeps the envelopes that it sends itself.
     #[tactic(auto, using(crate::proofs::MemberLaws::has_taken))]
     fn take(&mut self, input: Input) -> Result<(), ProgramFault>
         ensures takes { (header : HeaderValue) (wanted : List WantedValue) (sent : List DatagramValue)
@@ -129,33 +133,33 @@ impl SoleMember {
         match MemoryReplica::take(&mut self.replica, input) {
             Ok(taken) => {
                 let Taken { notes: _, sent } = taken;
-                keep_own(&mut self.letters, self.header.node(), sent)?;
+                keep_own(&mut self.envelopes, self.header.node(), sent)?;
                 Ok(())
             }
             Err(fault) => Err(program_fault(&fault)),
         }
     }
 
-    // Delivers the first letter that waits. Returns whether there was one.
+    // Delivers the first envelope that waits. Returns whether there was one.
     #[tactic(auto, using(crate::proofs::MemberLaws::has_delivered))]
     fn deliver(&mut self) -> Result<bool, ProgramFault>
         ensures keeps { (header : HeaderValue) (wanted : List WantedValue) → IsMember header wanted self.old
             → OnOk result (IsMember header wanted self.new) }
     {
-        if self.letters.is_empty() {
+        if self.envelopes.is_empty() {
             return Ok(false);
         }
-        let letter = self.letters.remove(0);
-        self.take(Input::Datagram(lk_wire::Datagram::of(&letter.bytes)))?;
+        let envelope = self.envelopes.remove(0);
+        self.take(Input::Datagram(lk_wire::Datagram::of(&envelope.bytes)))?;
         Ok(true)
     }
 
-    // Delivers letters until none waits.
+    // Delivers envelopes until none waits.
     fn settle(&mut self) -> Result<(), ProgramFault>
         ensures keeps { (header : HeaderValue) (wanted : List WantedValue) → IsMember header wanted self.old
             → OnOk result (IsMember header wanted self.new) }
     {
-        'letters: for _ in 0..MOST_LETTERS {
+        'envelopes: for _ in 0..MOST_LETTERS {
             if !self.deliver()? {
                 return Ok(());
             }
@@ -181,7 +185,7 @@ impl SoleMember {
         ensures spells { (wanted : List WantedValue) → IsOfGrant wanted body.now
             → IfOk result (λ bytes. AreOfRequest self.old.header.cluster wanted bytes.items) }
         ensures same { (self.new.header ≡ self.old.header) × (self.new.replica ≡ self.old.replica)
-            × (self.new.letters ≡ self.old.letters) }
+            × (self.new.envelopes ≡ self.old.envelopes) }
     {
         let next = self.asked.saturating_add(1);
         let (Some(client), Some(number)) = (ClientNo::of(CLIENT), RequestNumber::of(next)) else {
@@ -196,7 +200,7 @@ impl SoleMember {
         written(self.alloc, &message)
     }
 
-    // Asks it for this, and delivers letters until it is done.
+    // Asks it for this, and delivers envelopes until it is done.
     #[tactic(auto, using(crate::proofs::MemberLaws::has_asked))]
     fn ask(&mut self, body: &Body) -> Result<(), ProgramFault>
         ensures keeps { (header : HeaderValue) (wanted : List WantedValue) → IsOfGrant wanted body.now
@@ -208,14 +212,14 @@ impl SoleMember {
     }
 
     // The entry of a name in its table.
-    fn slot(&self, name: &Name) -> Option<Slot> {
-        self.replica.node().machine().slot(name)
+    fn lock_entry(&self, name: &Name) -> Option<LockEntry> {
+        self.replica.node().machine().lock_entry(name)
     }
 
     /// The last fence of a name, 0 if it was never granted.
     pub fn last_fence(&self, name: &Name) -> u64 {
-        match self.slot(name) {
-            Some(slot) => slot.fence.get(),
+        match self.lock_entry(name) {
+            Some(lock_entry) => lock_entry.fence.get(),
             None => 0,
         }
     }
@@ -226,7 +230,7 @@ impl SoleMember {
             → IsMember header wanted self.old → OnOk result (IsMember header wanted self.new) }
     {
         self.ask(&Body::Acquire(name.copy()))?;
-        let Some(Slot { fence, holders: _ }) = self.slot(name) else {
+        let Some(LockEntry { fence, holders: _ }) = self.lock_entry(name) else {
             return Ok(false);
         };
         self.ask(&Body::Release(name.copy(), fence))?;

@@ -5,7 +5,7 @@ ghost use Rattle.lk_types.specs.Limits.{max_count};
 ghost use Rattle.lk_seed.specs.Fences.{all_wanted_past, wanted_past};
 ghost use Rattle.lk_seed.specs.Words.{SpellsWanted};
 
-use lk_locks::{Name, Slot};
+use lk_locks::{LockEntry, Name};
 use lk_types::limits::MAX_COUNT;
 use lk_types::{Fence, NoMemory};
 use lk_word_parsers::number::read_number;
@@ -47,11 +47,12 @@ pub fn read_wanted(word: &[u8]) -> Option<Wanted>
     Some(Wanted { name, fence })
 }
 
-// Returns what is wanted of a name with this slot: its last fence and `past` more. `None` if no grant could follow it.
-fn wanted_of(name: &Name, slot: &Slot, past: u64) -> Option<Wanted>
-    ensures { IfSome result (λ w. (w ≡ wanted_past past (name.now, slot.now)) × (w.fence < max_count)) }
+// Returns what is wanted of a name with this lock entry: its last fence and `past` more. `None` if no grant could
+// follow it.
+fn wanted_of(name: &Name, lock_entry: &LockEntry, past: u64) -> Option<Wanted>
+    ensures { IfSome result (λ w. (w ≡ wanted_past past (name.now, lock_entry.now)) × (w.fence < max_count)) }
 {
-    let Some(value) = slot.fence.get().checked_add(past) else {
+    let Some(value) = lock_entry.fence.get().checked_add(past) else {
         return None;
     };
     let Some(fence) = fence_of(value) else {
@@ -68,14 +69,14 @@ fn wanted_of(name: &Name, slot: &Slot, past: u64) -> Option<Wanted>
 #[tactic(auto, using(crate::proofs::FenceLaws::wanted_more))]
 pub fn add_wanted(
     wanted: &mut Vec<Wanted>,
-    names: &[(Name, Slot)],
+    names: &[(Name, LockEntry)],
     past: u64,
 ) -> Result<bool, NoMemory>
     ensures { IfOk result (λ all. all ≡ true
         → wanted.new.items ≡ wanted.old.items ++ all_wanted_past past names.now) }
 {
-    for (name, slot) in names {
-        let Some(one) = wanted_of(name, slot, past) else {
+    for (name, lock_entry) in names {
+        let Some(one) = wanted_of(name, lock_entry, past) else {
             return Ok(false);
         };
         wanted.push(one)?;

@@ -1,14 +1,14 @@
--- What became of the letters of a group.
+-- What became of the envelopes of a group.
 use Rattle.std.proofs.Common.{◌≡◌, ℕ, Bool, true, false, List, [], ◌∷◌, ◌++◌, Option, sym, ap, ◌∙◌, subst, append_assoc}
 use Rattle.std.proofs.Common.{append-nil, inl, inr}
 use Rattle.std.specs.Prelude.{Result, Ok, Err, IfOk, OnOk, OnErr}
-use Rattle.lk_node_interface.specs.Letters.{LetterValue}
+use Rattle.lk_node_interface.specs.Envelopes.{EnvelopeValue}
 use Rattle.lk_replica.specs.Groups.{GroupValue}
-use Rattle.lk_replica.specs.Posts.{CarriesAll, GivesLetters}
+use Rattle.lk_replica.specs.Posts.{CarriesAll, GivesEnvelopes}
 use Rattle.lk_address_book.specs.Addresses.{AddressBook}
 use Rattle.lk_server_replica.specs.Groups.{Sayings, Gatherings}
-use Rattle.lk_server.specs.Gatherings.{DeliversAllLetters, SaysNothing}
-use Rattle.lk_transport.specs.Posts.{SocketPostValue, SendState, Becomes, CarriesLetter, send_state_of}
+use Rattle.lk_server.specs.Gatherings.{DeliversAllEnvelopes, SaysNothing}
+use Rattle.lk_transport.specs.Posts.{SocketPostValue, SendState, Becomes, CarriesEnvelope, send_state_of}
 use Rattle.lk_server.specs.Servers.{ServerValue, Grows, send_state_at}
 
 -- what stands whatever became of a call stands after a refusal
@@ -45,39 +45,40 @@ if_ok_four (Ok x) f p q u v = f x p q u v
 if_ok_four (Err e) f p q u v = tt
 
 -- of a post nothing else changes
-pub same_node : (observable : Type 0) (old new : SocketPostValue) (letters : List LetterValue)
-    → CarriesAll (CarriesLetter observable) old letters new → new.node ≡ old.node
+pub same_node : (observable : Type 0) (old new : SocketPostValue) (envelopes : List EnvelopeValue)
+    → CarriesAll (CarriesEnvelope observable) old envelopes new → new.node ≡ old.node
 same_node observable old new [] all = ap (λ (p : SocketPostValue). p.node) all
-same_node observable old new (l ∷ letters) all = same_node observable all.1 new letters all.3 ∙ all.2.node
+same_node observable old new (l ∷ envelopes) all = same_node observable all.1 new envelopes all.3 ∙ all.2.node
 
-pub same_coming : (observable : Type 0) (old new : SocketPostValue) (letters : List LetterValue)
-    → CarriesAll (CarriesLetter observable) old letters new → observable → new.incoming ≡ old.incoming
+pub same_coming : (observable : Type 0) (old new : SocketPostValue) (envelopes : List EnvelopeValue)
+    → CarriesAll (CarriesEnvelope observable) old envelopes new → observable → new.incoming ≡ old.incoming
 same_coming observable old new [] all t = ap (λ (p : SocketPostValue). p.incoming) all
-same_coming observable old new (l ∷ letters) all t = same_coming observable all.1 new letters all.3 t ∙ all.2.still t
+same_coming observable old new (l ∷ envelopes) all t =
+    same_coming observable all.1 new envelopes all.3 t ∙ all.2.still t
 
-pub same_addresses : (observable : Type 0) (old new : SocketPostValue) (letters : List LetterValue)
-    → CarriesAll (CarriesLetter observable) old letters new → new.addresses ≡ old.addresses
+pub same_addresses : (observable : Type 0) (old new : SocketPostValue) (envelopes : List EnvelopeValue)
+    → CarriesAll (CarriesEnvelope observable) old envelopes new → new.addresses ≡ old.addresses
 same_addresses observable old new [] all = ap (λ (p : SocketPostValue). p.addresses) all
-same_addresses observable old new (l ∷ letters) all = same_addresses observable all.1 new letters all.3
+same_addresses observable old new (l ∷ envelopes) all = same_addresses observable all.1 new envelopes all.3
     ∙ all.2.addresses
 
 pub trays : (observable : Type 0) (node : ℕ) (book : AddressBook) (old new : SocketPostValue)
-    (letters : List LetterValue)
+    (envelopes : List EnvelopeValue)
     → node ≡ old.node → book ≡ old.addresses →
-    CarriesAll (CarriesLetter observable) old letters new
-    → CarriesAll (Becomes observable node book) (send_state_of old) letters (send_state_of new)
+    CarriesAll (CarriesEnvelope observable) old envelopes new
+    → CarriesAll (Becomes observable node book) (send_state_of old) envelopes (send_state_of new)
 trays observable node book old new [] whose by all = ap send_state_of all
-trays observable node book old new (l ∷ letters) whose by all = (
+trays observable node book old new (l ∷ envelopes) whose by all = (
   all.0,
   send_state_of all.1,
   subst (λ (n : ℕ). Becomes observable n book (send_state_of old) l all.0 (send_state_of all.1)) (sym whose)
       (subst (λ (b : AddressBook). Becomes observable old.node b (send_state_of old) l all.0 (send_state_of all.1))
       (sym by) all.2.becomes),
-  trays observable node book all.1 new letters (whose ∙ sym all.2.node) (by ∙ sym all.2.addresses) all.3,
+  trays observable node book all.1 new envelopes (whose ∙ sym all.2.node) (by ∙ sym all.2.addresses) all.3,
 )
 
--- the letters that are kept stand behind those that were
-grows_one : (observable : Type 0) (node : ℕ) (book : AddressBook) (old new : SendState) (l : LetterValue)
+-- the envelopes that are kept stand behind those that were
+grows_one : (observable : Type 0) (node : ℕ) (book : AddressBook) (old new : SendState) (l : EnvelopeValue)
     (is_sent : Bool)
     → Becomes observable node book old l is_sent new → Grows old.loopback new.loopback
 grows_one observable node book old new l true (inl keeps) = record { added = l ∷ []; is = keeps.loopback }
@@ -92,28 +93,30 @@ grows_one observable node book old new l false loses = record {
       ∙ sym (append-nil old.loopback);
 }
 
-pub grows_on : {old mid new : List LetterValue} → Grows old mid → Grows mid new → Grows old new
+pub grows_on : {old mid new : List EnvelopeValue} → Grows old mid → Grows mid new → Grows old new
 grows_on {old = old} a b =
     record { added = a.added ++ b.added; is = b.is ∙ ap (λ l. l ++ b.added) a.is ∙ append_assoc old a.added b.added }
 
-pub grows_by : (observable : Type 0) (node : ℕ) (book : AddressBook) (old new : SendState) (letters : List LetterValue)
-    → CarriesAll (Becomes observable node book) old letters new → Grows old.loopback new.loopback
+pub grows_by : (observable : Type 0) (node : ℕ) (book : AddressBook) (old new : SendState)
+    (envelopes : List EnvelopeValue)
+    → CarriesAll (Becomes observable node book) old envelopes new → Grows old.loopback new.loopback
 grows_by observable node book old new [] all =
     record { added = []; is = ap (λ (t : SendState). t.loopback) all ∙ sym (append-nil old.loopback) }
-grows_by observable node book old new (l ∷ letters) all =
+grows_by observable node book old new (l ∷ envelopes) all =
     grows_on (grows_one observable node book old all.1 l all.0 all.2)
-    (grows_by observable node book all.1 new letters all.3)
+    (grows_by observable node book all.1 new envelopes all.3)
 
 -- whatever has become of a call, the post is that node's, and has these addresses; and the same is to come
-pub same_post : (observable : Type 0) {T E : Type 0} (r : Result T E) (H : List LetterValue → Type 0)
-    (before after : SocketPostValue) → OnOk r (GivesLetters (CarriesLetter observable) before after H) → OnErr r (after
+pub same_post : (observable : Type 0) {T E : Type 0} (r : Result T E) (H : List EnvelopeValue → Type 0)
+    (before after : SocketPostValue) → OnOk r (GivesEnvelopes (CarriesEnvelope observable) before after H)
+    → OnErr r (after
     ≡ before)
     → (after.node ≡ before.node) × (after.addresses ≡ before.addresses) × (observable → after.incoming
     ≡ before.incoming)
 same_post observable (Ok x) H before after gives unsent = (
-  same_node observable before after gives.letters gives.carried,
-  same_addresses observable before after gives.letters gives.carried,
-  same_coming observable before after gives.letters gives.carried,
+  same_node observable before after gives.envelopes gives.carried,
+  same_addresses observable before after gives.envelopes gives.carried,
+  same_coming observable before after gives.envelopes gives.carried,
 )
 same_post observable (Err e) H before after gives unsent = (
   ap (λ (p : SocketPostValue). p.node) unsent,
@@ -125,29 +128,29 @@ module _ {R : Type 0} (S : Sayings R) (G : Gatherings R) (observable : Type 0) (
     (before after : SocketPostValue) (group : GroupValue) where
   -- the end of a group
   pub hands_on_all : {T E : Type 0} (mine : R) → mine ≡ old.replica → (r : Result T E)
-      → OnOk r (GivesLetters (CarriesLetter observable) before after
-      (λ letters. (first : R) (given : List (Option (List ℕ))) → G first given group mine
-      → S first given letters new.replica))
+      → OnOk r (GivesEnvelopes (CarriesEnvelope observable) before after
+      (λ envelopes. (first : R) (given : List (Option (List ℕ))) → G first given group mine
+      → S first given envelopes new.replica))
       → new.node ≡ before.node → new.addresses ≡ before.addresses → send_state_of before
       ≡ send_state_at old.loopback old
       → send_state_of after ≡ send_state_at new.loopback new → OnOk r
-      (DeliversAllLetters S G observable group old new)
+      (DeliversAllEnvelopes S G observable group old new)
   hands_on_all mine is (Err e) said whose by first last = tt
   hands_on_all mine is (Ok x) said whose by begun last = λ from given was sent failures.
-      let all = trays observable new.node new.addresses before after said.letters whose by said.carried in
-      let met = subst (λ (t : SendState). CarriesAll (Becomes observable new.node new.addresses) t said.letters
+      let all = trays observable new.node new.addresses before after said.envelopes whose by said.carried in
+      let met = subst (λ (t : SendState). CarriesAll (Becomes observable new.node new.addresses) t said.envelopes
       (send_state_of after))
       begun all in
       let carried = subst (λ (t : SendState). CarriesAll (Becomes observable new.node new.addresses)
-      (send_state_at old.loopback old) said.letters t) last met in
+      (send_state_at old.loopback old) said.envelopes t) last met in
       let same : send_state_at old.loopback old ≡ send_state_at old.loopback from =
       λ i. record { loopback = old.loopback; sent = sym sent i; failures = sym failures i } in
       record {
-        letters = said.letters;
+        envelopes = said.envelopes;
         says = said.holds from.replica given (subst (λ (x : R). G from.replica given group x) (sym is) was);
         kept = grows_by observable new.node new.addresses (send_state_at old.loopback old)
-            (send_state_at new.loopback new) said.letters carried;
-        carried = subst (λ (t : SendState). CarriesAll (Becomes observable new.node new.addresses) t said.letters
+            (send_state_at new.loopback new) said.envelopes carried;
+        carried = subst (λ (t : SendState). CarriesAll (Becomes observable new.node new.addresses) t said.envelopes
             (send_state_at new.loopback new)) same carried;
       }
 

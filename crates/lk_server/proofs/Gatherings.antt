@@ -5,7 +5,7 @@ use Rattle.std.proofs.Common.{length-append, inl, inr, arith}
 use Rattle.std.proofs.lemmas.Bool.{cases_Bool}
 use Rattle.std.proofs.lemmas.List.{map-append, take_all}
 use Rattle.std.specs.declared.net.socket_addr.SocketAddr.{SocketAddr}
-use Rattle.lk_node_interface.specs.Letters.{LetterValue}
+use Rattle.lk_node_interface.specs.Envelopes.{EnvelopeValue}
 use Rattle.lk_replica.specs.Groups.{GroupValue}
 use Rattle.lk_address_book.specs.Addresses.{AddressBook, Filter, filter_of, IsSameFilter}
 use Rattle.lk_server_replica.specs.Groups.{Sayings, Gatherings, GathersMore, SaysNoMore}
@@ -94,11 +94,11 @@ pub taken_first : (s : Filter) (d : SocketAddr × List ℕ) (more : List (Socket
     → is_filtered_out s d ≡ false → all_filtered s (d ∷ more) ≡ opened_as s d ∷ all_filtered s more
 taken_first s d more is = ap (λ (l : List (SocketAddr × List ℕ)). l ++ all_filtered s more) (kept_whole s d is)
 
-abbrev bytes_of : LetterValue → List ℕ
+abbrev bytes_of : EnvelopeValue → List ℕ
 bytes_of l = l.bytes
 
--- one more letter
-pub own_more : (taken : List LetterValue) (l : LetterValue)
+-- one more envelope
+pub own_more : (taken : List EnvelopeValue) (l : EnvelopeValue)
     → datagrams_in taken [] ++ l.bytes ∷ [] ≡ datagrams_in (taken ++ l ∷ []) []
 own_more taken l =
     ap (λ (ds : List (List ℕ)). ds ++ l.bytes ∷ []) (append-nil (map bytes_of taken))
@@ -134,25 +134,25 @@ drop_all zero (x ∷ xs) le = absurd (omega (arith, le))
 drop_all (suc n) [] le = refl
 drop_all (suc n) (x ∷ xs) le = drop_all n xs (omega (arith, le))
 
--- so many letters were taken
-pub own_full : (loopback taken left : List LetterValue) (n : ℕ) → loopback ≡ taken ++ left → length taken ≡ n
+-- so many envelopes were taken
+pub own_full : (loopback taken left : List EnvelopeValue) (n : ℕ) → loopback ≡ taken ++ left → length taken ≡ n
     → (take n loopback ≡ taken) × (drop n loopback ≡ left)
 own_full loopback taken left n parts long = (
-  subst₂ (λ (k : ℕ) (o : List LetterValue). take k o ≡ taken) long (sym parts) (take_front taken left),
-  subst₂ (λ (k : ℕ) (o : List LetterValue). drop k o ≡ left) long (sym parts) (drop_front taken left),
+  subst₂ (λ (k : ℕ) (o : List EnvelopeValue). take k o ≡ taken) long (sym parts) (take_front taken left),
+  subst₂ (λ (k : ℕ) (o : List EnvelopeValue). drop k o ≡ left) long (sym parts) (drop_front taken left),
 )
 
 -- all of them were
-pub own_all : (loopback taken left : List LetterValue) (n : ℕ) → loopback ≡ taken ++ left → left ≡ []
+pub own_all : (loopback taken left : List EnvelopeValue) (n : ℕ) → loopback ≡ taken ++ left → left ≡ []
     → length taken ≤ n
     → (take n loopback ≡ taken) × (drop n loopback ≡ left)
 own_all loopback taken left n parts none short =
-    let is : loopback ≡ taken = parts ∙ ap (λ (l : List LetterValue). taken ++ l) none ∙ append-nil taken in (
-      subst (λ (o : List LetterValue). take n o ≡ taken) (sym is) (take_all n taken short),
-      subst (λ (o : List LetterValue). drop n o ≡ left) (sym is) (drop_all n taken short ∙ sym none),
+    let is : loopback ≡ taken = parts ∙ ap (λ (l : List EnvelopeValue). taken ++ l) none ∙ append-nil taken in (
+      subst (λ (o : List EnvelopeValue). take n o ≡ taken) (sym is) (take_all n taken short),
+      subst (λ (o : List EnvelopeValue). drop n o ≡ left) (sym is) (drop_all n taken short ∙ sym none),
     )
 
-pub some_own : (loopback taken left : List LetterValue) (l : LetterValue) → loopback
+pub some_own : (loopback taken left : List EnvelopeValue) (l : EnvelopeValue) → loopback
     ≡ (taken ++ l ∷ []) ++ left → loopback ≢ []
 some_own loopback taken left l parts none =
     omega (arith, ap length (sym none ∙ parts), length-append (taken ++ l ∷ []) left, length-append taken (l ∷ []))
@@ -479,35 +479,35 @@ module _ {R : Type 0} (G : Gatherings R) where
             (append-nil xs) (come_more (a.comes t) (none t));
       }
 
-  -- all letters that waited were taken
-  pub own_stops : (taken : List LetterValue) (group one now : GroupValue) (old mid new : ServerValue R)
+  -- all envelopes that waited were taken
+  pub own_stops : (taken : List EnvelopeValue) (group one now : GroupValue) (old mid new : ServerValue R)
       → old.loopback ≡ taken ++ mid.loopback → length taken ≤ 63
       → AddsAll G (datagrams_in taken []) group one old mid
       → mid.loopback ≡ [] → new ≡ mid → now ≡ one → AddsLoopback G 63 group now old new
   own_stops taken group one now old mid new parts few t none same is =
       let all = own_all old.loopback taken mid.loopback 63 parts none few in
       record {
-        adds = subst (λ (ls : List LetterValue). AddsAll G (datagrams_in ls []) group now old new) (sym all.0)
+        adds = subst (λ (ls : List EnvelopeValue). AddsAll G (datagrams_in ls []) group now old new) (sym all.0)
             (subst₂ (λ (x : GroupValue) (s : ServerValue R). AddsAll G (datagrams_in taken []) group x old s) (sym is)
             (sym same) t);
         left = ap (λ (s : ServerValue R). s.loopback) same ∙ sym all.1;
       }
 
   -- so many were
-  pub own_fills : (taken : List LetterValue) (group now : GroupValue) (old new : ServerValue R)
+  pub own_fills : (taken : List EnvelopeValue) (group now : GroupValue) (old new : ServerValue R)
       → old.loopback ≡ taken ++ new.loopback → length taken ≡ 63
       → AddsAll G (datagrams_in taken []) group now old new
       → AddsLoopback G 63 group now old new
   own_fills taken group now old new parts many t =
       let all = own_full old.loopback taken new.loopback 63 parts many in
       record {
-        adds = subst (λ (ls : List LetterValue). AddsAll G (datagrams_in ls []) group now old new)
+        adds = subst (λ (ls : List EnvelopeValue). AddsAll G (datagrams_in ls []) group now old new)
             (sym all.0) t;
         left = sym all.1;
       }
 
   -- one more
-  pub own_goes : (taken : List LetterValue) (l : LetterValue) (group one now : GroupValue)
+  pub own_goes : (taken : List EnvelopeValue) (l : EnvelopeValue) (group one now : GroupValue)
       (old mid new : ServerValue R) → AddsAll G (datagrams_in taken []) group one old mid
       → AddsAll G (l.bytes ∷ []) one now mid new
       → AddsAll G (datagrams_in (taken ++ l ∷ []) []) group now old new
@@ -643,14 +643,15 @@ module _ {R : Type 0} (S : Sayings R) (G : Gatherings R) where
         comes = λ t. come_wider le (come_more (a.comes t) (b.comes t));
       }
 
-  -- a letter has ended it
-  pub own_breaks : (taken : List LetterValue) (l : LetterValue) (group one : GroupValue) (old mid new : ServerValue R)
+  -- an envelope has ended it
+  pub own_breaks : (taken : List EnvelopeValue) (l : EnvelopeValue) (group one : GroupValue)
+      (old mid new : ServerValue R)
       → old.loopback ≡ taken ++ mid.loopback → length taken + 1 ≤ 63 → mid.loopback ≡ l ∷ new.loopback
       → AddsAll G (datagrams_in taken []) group one old mid → EndsWithin S G (l.bytes ∷ []) one mid new
       → EndsLoopback S G 63 group old new
   own_breaks taken l group one old mid new parts few first a e =
       let all_parts : old.loopback ≡ (taken ++ l ∷ []) ++ new.loopback = parts
-      ∙ ap (λ (o : List LetterValue). taken ++ o) first
+      ∙ ap (λ (o : List EnvelopeValue). taken ++ o) first
       ∙ sym (append_assoc taken (l ∷ []) new.loopback) in
       let all = own_full old.loopback (taken ++ l ∷ []) new.loopback (length (taken ++ l ∷ [])) all_parts refl in
       record {
@@ -658,7 +659,7 @@ module _ {R : Type 0} (S : Sayings R) (G : Gatherings R) where
         at_most = omega (arith, few, length-append taken (l ∷ []));
         some = λ is. absurd (omega (arith, is, length-append taken (l ∷ [])));
         waited = some_own old.loopback taken new.loopback l all_parts;
-        ends = subst (λ (ls : List LetterValue). EndsWithin S G (datagrams_in ls []) group old new) (sym all.0)
+        ends = subst (λ (ls : List EnvelopeValue). EndsWithin S G (datagrams_in ls []) group old new) (sym all.0)
             (subst (λ (ds : List (List ℕ)). EndsWithin S G ds group old new) (own_more taken l)
             (ends_more (datagrams_in taken []) (l.bytes ∷ []) group one old mid new a e));
         left = sym all.1;

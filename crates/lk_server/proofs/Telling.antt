@@ -6,7 +6,7 @@ use Rattle.lk_auth.specs.declared.seals.Seals.{Seals}
 use Rattle.lk_watch.specs.Tables.{standing_in}
 use Rattle.lk_watch.specs.Queues.{QueueValue, Table as Standings, HearsOrNot, NoneDueBefore, TellsFirst}
 use Rattle.lk_watch.specs.Queues.{TellsEach}
-use Rattle.lk_watch.specs.declared.waiter.Letter.{Letter}
+use Rattle.lk_watch.specs.declared.waiter.Envelope.{Envelope}
 use Rattle.lk_transport.specs.Posts.{SendState}
 use Rattle.lk_transport.specs.Watches.{SendsNotice, SendsNotices}
 use Rattle.lk_transport.specs.declared.received_watch.ReceivedWatch.{ReceivedWatch}
@@ -20,17 +20,17 @@ use Rattle.lk_watch.specs.declared.seen.SeenName.{SeenName}
 use Rattle.std.specs.Prelude.{IfSome}
 use Rattle.lk_server_replica.specs.declared.probed_state.ProbedState.{ProbedState}
 
--- ---- one letter after another
+-- ---- one envelope after another
 
-tells_more : (table : Standings) (letters : List Letter) (letter : Letter) (old mid new : QueueValue)
-    → TellsEach table old letters mid → TellsFirst table mid letter new
-    → TellsEach table old (letters ++ letter ∷ []) new
-tells_more table [] letter old mid new each one =
-    (new, subst (λ (q : QueueValue). TellsFirst table q letter new) each one, refl)
-tells_more table (l ∷ letters) letter old mid new each one =
-    (each.0, each.1, tells_more table letters letter each.0 mid new each.2 one)
+tells_more : (table : Standings) (envelopes : List Envelope) (envelope : Envelope) (old mid new : QueueValue)
+    → TellsEach table old envelopes mid → TellsFirst table mid envelope new
+    → TellsEach table old (envelopes ++ envelope ∷ []) new
+tells_more table [] envelope old mid new each one =
+    (new, subst (λ (q : QueueValue). TellsFirst table q envelope new) each one, refl)
+tells_more table (l ∷ envelopes) envelope old mid new each one =
+    (each.0, each.1, tells_more table envelopes envelope each.0 mid new each.2 one)
 
-pub sends_both : (observable : Type 0) (s : Seals) (node : ℕ) (xs ys : List Letter) (old mid new : SendState)
+pub sends_both : (observable : Type 0) (s : Seals) (node : ℕ) (xs ys : List Envelope) (old mid new : SendState)
     → SendsNotices observable s node xs old mid → SendsNotices observable s node ys mid new
     → SendsNotices observable s node (xs ++ ys) old new
 sends_both observable s node [] ys old mid new none two =
@@ -38,29 +38,30 @@ sends_both observable s node [] ys old mid new none two =
 sends_both observable s node (x ∷ xs) ys old mid new one two =
     (one.0, one.1, sends_both observable s node xs ys one.0 mid new one.2 two)
 
--- each letter is counted
-pub letters_left : (table : Standings) (letters : List Letter) (old new : QueueValue) → TellsEach table old letters new
-    → new.left + length letters ≡ old.left
-letters_left table [] old new same = let left : new.left ≡ old.left = ap (λ (q : QueueValue). q.left) same in
+-- each envelope is counted
+pub envelopes_left : (table : Standings) (envelopes : List Envelope) (old new : QueueValue) → TellsEach table old
+    envelopes new
+    → new.left + length envelopes ≡ old.left
+envelopes_left table [] old new same = let left : new.left ≡ old.left = ap (λ (q : QueueValue). q.left) same in
     omega (arith, left)
-letters_left table (l ∷ letters) old new each =
-    omega (arith, each.1.counted, letters_left table letters each.0 new each.2)
+envelopes_left table (l ∷ envelopes) old new each =
+    omega (arith, each.1.counted, envelopes_left table envelopes each.0 new each.2)
 
 module _ {R : Type 0} (T : R → Standings) (observable : Type 0) where
   -- those so far were told
-  abbrev pub HasTold : List Letter → ServerValue R → ServerValue R → Type 0
-  HasTold letters old new =
-      TellsEach (T old.replica) old.waiting.queue letters new.waiting.queue
-      × SendsNotices observable old.addresses.seals old.node letters (send_state_at old.loopback old)
+  abbrev pub HasTold : List Envelope → ServerValue R → ServerValue R → Type 0
+  HasTold envelopes old new =
+      TellsEach (T old.replica) old.waiting.queue envelopes new.waiting.queue
+      × SendsNotices observable old.addresses.seals old.node envelopes (send_state_at old.loopback old)
       (send_state_at new.loopback new)
       × (observable → new.incoming ≡ old.incoming)
       × ChangesByNotices old new
 
   -- the next one
-  pub tells_next : (letter : Letter) (mid one new : ServerValue R)
-      → TellsFirst (T mid.replica) mid.waiting.queue letter one.waiting.queue
+  pub tells_next : (envelope : Envelope) (mid one new : ServerValue R)
+      → TellsFirst (T mid.replica) mid.waiting.queue envelope one.waiting.queue
       → ChangesQueue mid one
-      → SendsNotice observable one.addresses.seals one.node letter (send_state_at one.loopback one)
+      → SendsNotice observable one.addresses.seals one.node envelope (send_state_at one.loopback one)
       (send_state_at new.loopback new)
       → new ≡ record one {
         sent = new.sent;
@@ -68,7 +69,7 @@ module _ {R : Type 0} (T : R → Standings) (observable : Type 0) where
         incoming = new.incoming;
       }
       → TellsNext (T mid.replica) observable mid new
-  tells_next letter mid one new tells one_is sends new_is =
+  tells_next envelope mid one new tells one_is sends new_is =
       let seals : one.addresses.seals ≡ mid.addresses.seals =
       ap (λ (s : ServerValue R). s.addresses.seals) one_is in
       let node : one.node ≡ mid.node = ap (λ (s : ServerValue R). s.node) one_is in
@@ -76,36 +77,38 @@ module _ {R : Type 0} (T : R → Standings) (observable : Type 0) where
       ap (λ (s : ServerValue R). send_state_at s.loopback s) one_is in
       let queue : one.waiting.queue ≡ new.waiting.queue = sym (ap (λ (s : ServerValue R). s.waiting.queue) new_is) in
       let after = send_state_at new.loopback new in
-      let by_keys : SendsNotice observable mid.addresses.seals mid.node letter (send_state_at one.loopback one) after =
-      subst₂ (λ (s : Seals) (n : ℕ). SendsNotice observable s n letter (send_state_at one.loopback one) after)
+      let by_keys : SendsNotice observable mid.addresses.seals mid.node envelope
+      (send_state_at one.loopback one) after =
+      subst₂ (λ (s : Seals) (n : ℕ). SendsNotice observable s n envelope (send_state_at one.loopback one) after)
       seals node sends in
       record {
-        letter = letter;
-        tells = subst (λ (q : QueueValue). TellsFirst (T mid.replica) mid.waiting.queue letter q) queue tells;
-        sends = subst (λ (t : SendState). SendsNotice observable mid.addresses.seals mid.node letter t after) before
+        envelope = envelope;
+        tells = subst (λ (q : QueueValue). TellsFirst (T mid.replica) mid.waiting.queue envelope q) queue tells;
+        sends = subst (λ (t : SendState). SendsNotice observable mid.addresses.seals mid.node envelope t after) before
             by_keys;
       }
 
   -- and one more
-  pub told_more : (letters : List Letter) (old mid new : ServerValue R) → HasTold letters old mid
+  pub told_more : (envelopes : List Envelope) (old mid new : ServerValue R) → HasTold envelopes old mid
       → (next : TellsNext (T mid.replica) observable mid new)
       → (observable → new.incoming ≡ mid.incoming) → ChangesByNotices mid new
-      → HasTold (letters ++ next.letter ∷ []) old new
-  told_more letters old mid new so_far next still new_is =
+      → HasTold (envelopes ++ next.envelope ∷ []) old new
+  told_more envelopes old mid new so_far next still new_is =
       let changes = so_far.3 in
-      let letter = next.letter in
+      let envelope = next.envelope in
       let replica : mid.replica ≡ old.replica = ap (λ (s : ServerValue R). s.replica) changes in
       let seals : mid.addresses.seals ≡ old.addresses.seals =
       ap (λ (s : ServerValue R). s.addresses.seals) changes in
       let node : mid.node ≡ old.node = ap (λ (s : ServerValue R). s.node) changes in
-      let told : TellsFirst (T old.replica) mid.waiting.queue letter new.waiting.queue =
-      subst (λ (r : R). TellsFirst (T r) mid.waiting.queue letter new.waiting.queue) replica next.tells in
+      let told : TellsFirst (T old.replica) mid.waiting.queue envelope new.waiting.queue =
+      subst (λ (r : R). TellsFirst (T r) mid.waiting.queue envelope new.waiting.queue) replica next.tells in
       let after = send_state_at new.loopback new in
-      let sent : SendsNotice observable old.addresses.seals old.node letter (send_state_at mid.loopback mid) after =
-      subst₂ (λ (s : Seals) (n : ℕ). SendsNotice observable s n letter (send_state_at mid.loopback mid) after)
+      let sent : SendsNotice observable old.addresses.seals old.node envelope (send_state_at mid.loopback mid) after =
+      subst₂ (λ (s : Seals) (n : ℕ). SendsNotice observable s n envelope (send_state_at mid.loopback mid) after)
       seals node next.sends in (
-        tells_more (T old.replica) letters letter old.waiting.queue mid.waiting.queue new.waiting.queue so_far.0 told,
-        sends_both observable old.addresses.seals old.node letters (letter ∷ []) (send_state_at old.loopback old)
+        tells_more (T old.replica) envelopes envelope old.waiting.queue mid.waiting.queue new.waiting.queue
+            so_far.0 told,
+        sends_both observable old.addresses.seals old.node envelopes (envelope ∷ []) (send_state_at old.loopback old)
             (send_state_at mid.loopback mid) after so_far.1 (after, sent, refl),
         λ t. still t ∙ so_far.2 t,
         new_is ∙ ap (λ (s : ServerValue R). record s {
@@ -118,14 +121,14 @@ module _ {R : Type 0} (T : R → Standings) (observable : Type 0) where
 
 module _ {R : Type 0} (T : R → Standings) (observable : Type 0) where
   -- those who were to be told are
-  pub told_all : (letters : List Letter) (old mid new : ServerValue R) → HasTold T observable letters old mid
+  pub told_all : (envelopes : List Envelope) (old mid new : ServerValue R) → HasTold T observable envelopes old mid
       → ((mid.waiting.queue.left ≡ 0) ⊎ NoneDueBefore (T mid.replica) mid.waiting.queue.waiters
       (length mid.waiting.queue.waiters))
       → new ≡ mid → TellsWaiters (T old.replica) observable true old new
-  told_all letters old mid new so_far ends same =
+  told_all envelopes old mid new so_far ends same =
       let replica : mid.replica ≡ old.replica = ap (λ (s : ServerValue R). s.replica) so_far.3 in
       let told : TellsWaiters (T old.replica) observable true old mid = record {
-        letters = letters;
+        envelopes = envelopes;
         tells = record {
           each = so_far.0;
           ends = subst (λ (r : R). (mid.waiting.queue.left ≡ 0) ⊎ NoneDueBefore (T r) mid.waiting.queue.waiters
@@ -138,11 +141,11 @@ module _ {R : Type 0} (T : R → Standings) (observable : Type 0) where
 -- ---- a watch is answered
 
 module _ {R : Type 0} (table : Table) (observable : Type 0) (speaks : Bool) (r : ReceivedWatch) where
-  -- by a letter
-  pub answered : (letter : Letter) (old mid new : ServerValue R)
-      → HearsOrNot (standing_in table) speaks r.watch r.from old.waiting.queue (letter ∷ []) mid.waiting.queue
+  -- by an envelope
+  pub answered : (envelope : Envelope) (old mid new : ServerValue R)
+      → HearsOrNot (standing_in table) speaks r.watch r.from old.waiting.queue (envelope ∷ []) mid.waiting.queue
       → ChangesQueue old mid
-      → SendsNotice observable mid.addresses.seals mid.node letter (send_state_at mid.loopback mid)
+      → SendsNotice observable mid.addresses.seals mid.node envelope (send_state_at mid.loopback mid)
       (send_state_at new.loopback new)
       → new ≡ record mid {
         sent = new.sent;
@@ -150,7 +153,7 @@ module _ {R : Type 0} (table : Table) (observable : Type 0) (speaks : Bool) (r :
         incoming = new.incoming;
       }
       → AnswersWatch table observable speaks (Some r) old new
-  answered letter old mid new hears mid_is sends new_is =
+  answered envelope old mid new hears mid_is sends new_is =
       let seals : mid.addresses.seals ≡ old.addresses.seals =
       ap (λ (s : ServerValue R). s.addresses.seals) mid_is in
       let node : mid.node ≡ old.node = ap (λ (s : ServerValue R). s.node) mid_is in
@@ -158,16 +161,18 @@ module _ {R : Type 0} (table : Table) (observable : Type 0) (speaks : Bool) (r :
       ap (λ (s : ServerValue R). send_state_at s.loopback s) mid_is in
       let queue : mid.waiting.queue ≡ new.waiting.queue = sym (ap (λ (s : ServerValue R). s.waiting.queue) new_is) in
       let after = send_state_at new.loopback new in
-      let by_keys : SendsNotice observable old.addresses.seals old.node letter (send_state_at mid.loopback mid) after =
-      subst₂ (λ (s : Seals) (n : ℕ). SendsNotice observable s n letter (send_state_at mid.loopback mid) after)
+      let by_keys : SendsNotice observable old.addresses.seals old.node envelope
+      (send_state_at mid.loopback mid) after =
+      subst₂ (λ (s : Seals) (n : ℕ). SendsNotice observable s n envelope (send_state_at mid.loopback mid) after)
       seals node sends in
       record {
-        letters = letter ∷ [];
+        envelopes = envelope ∷ [];
         hears = subst (λ (q : QueueValue). HearsOrNot (standing_in table) speaks r.watch r.from old.waiting.queue
-            (letter ∷ []) q) queue hears;
+            (envelope ∷ []) q) queue hears;
         sends = (
           after,
-          subst (λ (t : SendState). SendsNotice observable old.addresses.seals old.node letter t after) before by_keys,
+          subst (λ (t : SendState). SendsNotice observable old.addresses.seals old.node envelope t after)
+              before by_keys,
           refl,
         );
       }
@@ -177,7 +182,7 @@ module _ {R : Type 0} (table : Table) (observable : Type 0) (speaks : Bool) (r :
       → HearsOrNot (standing_in table) speaks r.watch r.from old.waiting.queue [] new.waiting.queue
       → ChangesQueue old new → AnswersWatch table observable speaks (Some r) old new
   unanswered old new hears new_is = record {
-    letters = [];
+    envelopes = [];
     hears = hears;
     sends = ap (λ (s : ServerValue R). send_state_at s.loopback s) new_is;
   }
@@ -238,14 +243,14 @@ module _ {R : Type 0} (T : R → Table) (Shows : R → ProbedState → Type 0) (
         is_now = says;
         seen = seen;
         looks = looks;
-        answers = heard.letters;
+        answers = heard.envelopes;
         heard = mid.waiting.queue;
         hears = heard.hears;
-        told = told.letters;
+        told = told.envelopes;
         tells = told.tells;
-        sends = sends_both observable old.addresses.seals old.node heard.letters told.letters
+        sends = sends_both observable old.addresses.seals old.node heard.envelopes told.envelopes
             (send_state_at old.loopback old) (send_state_at mid.loopback mid) after heard.sends
-            (subst₂ (λ (s : Seals) (n : ℕ). SendsNotices observable s n told.letters (send_state_at mid.loopback mid)
+            (subst₂ (λ (s : Seals) (n : ℕ). SendsNotices observable s n told.envelopes (send_state_at mid.loopback mid)
             after) seals node told.sends);
         still = λ t. still t ∙ quiet t ∙ ap (λ (s : ServerValue R). s.incoming) first_is;
         waiting = waiting;

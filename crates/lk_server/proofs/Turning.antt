@@ -5,12 +5,12 @@ use Rattle.std.proofs.Common.{drop, Option, Some, None, inl, inr, refl, ap, sym,
 use Rattle.std.proofs.Common.{append_assoc, arith}
 use Rattle.std.specs.Prelude.{Result, Ok, Err, OnOk, OnErr}
 use Rattle.std.specs.declared.net.socket_addr.SocketAddr.{SocketAddr}
-use Rattle.lk_node_interface.specs.Letters.{LetterValue}
+use Rattle.lk_node_interface.specs.Envelopes.{EnvelopeValue}
 use Rattle.lk_replica.specs.Groups.{GroupValue}
 use Rattle.lk_address_book.specs.Addresses.{AddressBook, Filter, filter_of, IsSameFilter}
 use Rattle.lk_server_replica.specs.Groups.{Sayings, Gatherings, GathersMore, SaysNoMore}
 use Rattle.lk_server.specs.Gatherings.{AreFound, Finds, AddsAll, EndsWithin, AddsLoopback, EndsLoopback}
-use Rattle.lk_server.specs.Gatherings.{AddsHeard, EndsHeard, AddsWaiting, AddsGroup, EndsGroup, DeliversAllLetters}
+use Rattle.lk_server.specs.Gatherings.{AddsHeard, EndsHeard, AddsWaiting, AddsGroup, EndsGroup, DeliversAllEnvelopes}
 use Rattle.lk_server.specs.Gatherings.{ChangesAtInput, ChangesInGroup, GathersNudge, SaysNothing}
 use Rattle.lk_pacing.specs.Paces.{MayFollow}
 use Rattle.lk_auth.specs.Seals.{heard}
@@ -18,9 +18,9 @@ use Rattle.lk_address_book.specs.Senders.{RecordsSenders}
 use Rattle.lk_address_book.specs.Filters.{is_filtered_out, all_filtered}
 use Rattle.lk_transport.specs.Streams.{Stream, Receives, ReceivesOne, frames_in, listed}
 use Rattle.lk_transport.proofs.Streaming.{receives_frames, come_none, come_first}
-use Rattle.lk_server.specs.Servers.{ServerValue, DeliversLetters, DeliversNothing, HasReceived, IsSameServer, Turn}
+use Rattle.lk_server.specs.Servers.{ServerValue, DeliversEnvelopes, DeliversNothing, HasReceived, IsSameServer, Turn}
 use Rattle.lk_server.specs.Servers.{LastTurn}
-use Rattle.lk_server.specs.Servers.{IsIdle, Given, GivenPrefix, LettersFirst, all_inputs, all_ticks, counted}
+use Rattle.lk_server.specs.Servers.{IsIdle, Given, GivenPrefix, EnvelopesFirst, all_inputs, all_ticks, counted}
 use Rattle.lk_server.specs.Servers.{datagrams_in, one_more, MayWithhold, Withholding}
 use Rattle.lk_server.specs.Servers.{ReceivesGroup, one_more_tick}
 use Rattle.lk_pacing.specs.declared.turn_input.TurnInput.{TurnInput}
@@ -119,17 +119,17 @@ withholding_on old mid new ticks withheld w = elim w [
 ]
 
 -- what comes after a first one is something
-pub some_datagrams : (s : Filter) (loopback : List LetterValue) (d : SocketAddr × List ℕ)
+pub some_datagrams : (s : Filter) (loopback : List EnvelopeValue) (d : SocketAddr × List ℕ)
     (more : List (SocketAddr × List ℕ)) → loopback ≡ [] → is_filtered_out s d ≡ false
     → datagrams_in loopback (all_filtered s (d ∷ more)) ≢ []
 some_datagrams s loopback d more none apart is =
     let both : heard s.seals d.1 ∷ map (λ (x : SocketAddr × List ℕ). x.1) (all_filtered s more) ≡ [] =
-    sym (ap (λ (o : List LetterValue). datagrams_in o (all_filtered s (d ∷ more))) none
+    sym (ap (λ (o : List EnvelopeValue). datagrams_in o (all_filtered s (d ∷ more))) none
     ∙ ap (λ (cs : List (SocketAddr × List ℕ)). datagrams_in [] cs) (taken_first s d more apart)) ∙ is in
     cc both
 
--- of no letters none are taken
-take_none : (n : ℕ) (loopback : List LetterValue) → loopback ≡ [] → take n loopback ≡ []
+-- of no envelopes none are taken
+take_none : (n : ℕ) (loopback : List EnvelopeValue) → loopback ≡ [] → take n loopback ≡ []
 take_none zero [] none = refl
 take_none (suc n) [] none = refl
 take_none n (l ∷ loopback) none = absurd (cc none)
@@ -201,7 +201,7 @@ group_first (first ∷ further) old new r =
 
 -- what is taken of the frames that came is what may be taken
 received_first : {R : Type 0} (observable : Type 0) (frames : List (SocketAddr × List ℕ)) (old new : ServerValue R)
-    → HasReceived observable frames old new → LettersFirst observable (all_filtered
+    → HasReceived observable frames old new → EnvelopesFirst observable (all_filtered
     (filter_of old.addresses) frames) old
 received_first observable frames old new r = record {
   alone = elim r.alone [
@@ -233,7 +233,7 @@ received_on observable frames old mid new still r = record {
 module _ {R : Type 0} (S : Sayings R) (G : Gatherings R) (observable : Type 0) where
   -- ---- what is taken
 
-  -- frames of the socket, where no letter of the node to itself waits
+  -- frames of the socket, where no envelope of the node to itself waits
   pub socket_group : (frame : SocketAddr × List ℕ) (frames : List (SocketAddr × List ℕ)) (group now : GroupValue)
       (old new : ServerValue R) → old.loopback ≡ [] → new.loopback ≡ old.loopback → length frames ≤ 63
       → is_filtered_out (filter_of old.addresses) frame ≡ false
@@ -246,12 +246,12 @@ module _ {R : Type 0} (S : Sayings R) (G : Gatherings R) (observable : Type 0) w
       waits = λ telling some. absurd (some none);
       comes = λ telling empty. comes telling;
     };
-    adds = subst (λ (o : List LetterValue). AddsAll G
+    adds = subst (λ (o : List EnvelopeValue). AddsAll G
         (datagrams_in (take 64 o) (all_filtered (filter_of old.addresses) (frame ∷ frames))) group now old new)
         (sym none) t.adds;
     some = some_datagrams (filter_of old.addresses) (take 64 old.loopback) frame frames
-        (ap (λ (o : List LetterValue). take 64 o) none) apart;
-    left = loopback ∙ none ∙ sym (ap (λ (o : List LetterValue). drop 64 o) none);
+        (ap (λ (o : List EnvelopeValue). take 64 o) none) apart;
+    left = loopback ∙ none ∙ sym (ap (λ (o : List EnvelopeValue). drop 64 o) none);
     heard = t.heard;
     network = t.network;
   }
@@ -262,7 +262,7 @@ module _ {R : Type 0} (S : Sayings R) (G : Gatherings R) (observable : Type 0) w
       → (observable → ReceivesGroup (frame ∷ frames) old.incoming new.incoming)
       → EndsHeard S G (frame ∷ frames) group old new → EndsGroup S G observable (frame ∷ frames) group old new
   socket_ends frame frames group old new none loopback few apart comes t =
-      let e = subst (λ (o : List LetterValue). EndsWithin S G
+      let e = subst (λ (o : List EnvelopeValue). EndsWithin S G
       (datagrams_in (take 0 o) (all_filtered (filter_of old.addresses) (frame ∷ frames))) group old new)
       (sym none) t.ends in
       record {
@@ -273,7 +273,7 @@ module _ {R : Type 0} (S : Sayings R) (G : Gatherings R) (observable : Type 0) w
           comes = λ telling empty. comes telling;
         };
         count = 0;
-        letters = record { at_most = omega arith; some = λ is. none };
+        envelopes = record { at_most = omega arith; some = λ is. none };
         given = e.given;
         first = record {
           whole = all_inputs old.pace old.received
@@ -281,18 +281,18 @@ module _ {R : Type 0} (S : Sayings R) (G : Gatherings R) (observable : Type 0) w
           may = given_some old.pace old.received
               (datagrams_in (take 0 old.loopback) (all_filtered (filter_of old.addresses) (frame ∷ frames)))
               (some_datagrams (filter_of old.addresses) (take 0 old.loopback) frame frames
-              (ap (λ (o : List LetterValue). take 0 o) none) apart);
+              (ap (λ (o : List EnvelopeValue). take 0 o) none) apart);
           front = e.front;
         };
         silent = e.silent;
         ticks = e.ticks;
-        left = loopback ∙ none ∙ sym (ap (λ (o : List LetterValue). drop 0 o) none);
+        left = loopback ∙ none ∙ sym (ap (λ (o : List EnvelopeValue). drop 0 o) none);
         heard = t.heard;
         network = t.network;
       }
 
-  -- letters of the node to itself: a first one, and further ones
-  own_received : (l : LetterValue) (rest : List LetterValue) (old new : ServerValue R) → old.loopback ≡ l ∷ rest
+  -- envelopes of the node to itself: a first one, and further ones
+  own_received : (l : EnvelopeValue) (rest : List EnvelopeValue) (old new : ServerValue R) → old.loopback ≡ l ∷ rest
       → new.incoming ≡ old.incoming → HasReceived observable [] old new
   own_received l rest old new loopback still = record {
     alone = inr refl;
@@ -301,71 +301,72 @@ module _ {R : Type 0} (S : Sayings R) (G : Gatherings R) (observable : Type 0) w
     comes = λ telling empty. absurd (let both : l ∷ rest ≡ [] = sym loopback ∙ empty in cc both);
   }
 
-  pub own_group : (l : LetterValue) (group one now : GroupValue) (old mid new : ServerValue R) → old.loopback
+  pub own_group : (l : EnvelopeValue) (group one now : GroupValue) (old mid new : ServerValue R) → old.loopback
       ≡ l ∷ mid.loopback
       → new.addresses ≡ old.addresses → new.incoming ≡ old.incoming
       → AddsAll G (l.bytes ∷ []) group one old mid → AddsLoopback G 63 one now mid new
       → AddsWaiting G observable [] group now old new
   own_group l group one now old mid new loopback book still first further = record {
     received = own_received l mid.loopback old new loopback still;
-    adds = subst (λ (o : List LetterValue). AddsAll G (datagrams_in (take 64 o) []) group now old new)
+    adds = subst (λ (o : List EnvelopeValue). AddsAll G (datagrams_in (take 64 o) []) group now old new)
         (sym loopback)
         (takes_more G (l.bytes ∷ []) (datagrams_in
         (take 63 mid.loopback) []) group one now old mid new first further.adds);
     some = λ is. let both : l.bytes ∷ datagrams_in (take 63 mid.loopback) [] ≡ [] =
-        sym (ap (λ (o : List LetterValue). datagrams_in (take 64 o) []) loopback) ∙ is in cc both;
-    left = further.left ∙ sym (ap (λ (o : List LetterValue). drop 64 o) loopback);
+        sym (ap (λ (o : List EnvelopeValue). datagrams_in (take 64 o) []) loopback) ∙ is in cc both;
+    left = further.left ∙ sym (ap (λ (o : List EnvelopeValue). drop 64 o) loopback);
     heard = book;
     network = (ap (λ (b : AddressBook). b.hosts) book, ap (λ (b : AddressBook). filter_of b) book);
   }
 
   -- so many of them have ended it
-  own_ends_at : (count : ℕ) (l : LetterValue) (rest : List LetterValue) (group : GroupValue) (old new : ServerValue R)
+  own_ends_at : (count : ℕ) (l : EnvelopeValue) (rest : List EnvelopeValue) (group : GroupValue)
+      (old new : ServerValue R)
       → old.loopback ≡ l ∷ rest → new.addresses ≡ old.addresses → new.incoming ≡ old.incoming → suc count ≤ 64
       → EndsWithin S G (datagrams_in (take (suc count) (l ∷ rest)) []) group old new
       → new.loopback ≡ drop (suc count) (l ∷ rest) → EndsGroup S G observable [] group old new
   own_ends_at count l rest group old new loopback book still few ends left =
-      let e = subst (λ (o : List LetterValue). EndsWithin S G (datagrams_in (take (suc count) o) []) group old new)
+      let e = subst (λ (o : List EnvelopeValue). EndsWithin S G (datagrams_in (take (suc count) o) []) group old new)
       (sym loopback) ends in
       record {
         received = own_received l rest old new loopback still;
         count = suc count;
-        letters = record { at_most = few; some = λ is. absurd (omega (arith, is)) };
+        envelopes = record { at_most = few; some = λ is. absurd (omega (arith, is)) };
         given = e.given;
         first = record {
           whole = all_inputs old.pace old.received (datagrams_in (take (suc count) old.loopback) []);
           may = given_some old.pace old.received (datagrams_in (take (suc count) old.loopback) [])
               (λ is. let both : l.bytes ∷ datagrams_in (take count rest) [] ≡ [] =
-              sym (ap (λ (o : List LetterValue). datagrams_in (take (suc count) o) []) loopback) ∙ is in cc both);
+              sym (ap (λ (o : List EnvelopeValue). datagrams_in (take (suc count) o) []) loopback) ∙ is in cc both);
           front = e.front;
         };
         silent = e.silent;
         ticks = e.ticks;
-        left = left ∙ sym (ap (λ (o : List LetterValue). drop (suc count) o) loopback);
+        left = left ∙ sym (ap (λ (o : List EnvelopeValue). drop (suc count) o) loopback);
         heard = book;
         network = (ap (λ (b : AddressBook). b.hosts) book, ap (λ (b : AddressBook). filter_of b) book);
       }
 
   -- the first has
-  pub own_ends_first : (l : LetterValue) (group : GroupValue) (old new : ServerValue R) → old.loopback
+  pub own_ends_first : (l : EnvelopeValue) (group : GroupValue) (old new : ServerValue R) → old.loopback
       ≡ l ∷ new.loopback
       → new.addresses ≡ old.addresses → new.incoming ≡ old.incoming
       → EndsWithin S G (l.bytes ∷ []) group old new → EndsGroup S G observable [] group old new
   own_ends_first l group old new loopback book still ends =
       own_ends_at 0 l new.loopback group old new loopback book still (omega arith)
-      (subst (λ (o : List LetterValue). EndsWithin S G (datagrams_in (l ∷ o) []) group old new)
+      (subst (λ (o : List EnvelopeValue). EndsWithin S G (datagrams_in (l ∷ o) []) group old new)
       (sym (none new.loopback)) ends) (sym (all new.loopback))
     where
-      none : (o : List LetterValue) → take 0 o ≡ []
+      none : (o : List EnvelopeValue) → take 0 o ≡ []
       none [] = refl
       none (x ∷ o) = refl
 
-      all : (o : List LetterValue) → drop 0 o ≡ o
+      all : (o : List EnvelopeValue) → drop 0 o ≡ o
       all [] = refl
       all (x ∷ o) = refl
 
   -- a further one has
-  pub own_ends : (l : LetterValue) (group one : GroupValue) (old mid new : ServerValue R) → old.loopback
+  pub own_ends : (l : EnvelopeValue) (group one : GroupValue) (old mid new : ServerValue R) → old.loopback
       ≡ l ∷ mid.loopback
       → new.addresses ≡ old.addresses → new.incoming ≡ old.incoming
       → AddsAll G (l.bytes ∷ []) group one old mid → EndsLoopback S G 63 one mid new
@@ -477,7 +478,7 @@ module _ {R : Type 0} (S : Sayings R) (G : Gatherings R) (observable : Type 0) w
     tick_ends_behind timed silent = record {
       received = tick_received;
       count = 64;
-      letters = record { at_most = omega arith; some = λ is. absurd (omega (arith, is)) };
+      envelopes = record { at_most = omega arith; some = λ is. absurd (omega (arith, is)) };
       given = ticked;
       first = given_all old.pace old.received waited ticked may_tick;
       silent = λ first given was.
@@ -523,7 +524,7 @@ module _ {R : Type 0} (S : Sayings R) (G : Gatherings R) (observable : Type 0) w
 
     no_datagrams : (n : ℕ) → datagrams_in (take n old.loopback) (all_filtered (filter_of old.addresses) frames) ≡ []
     no_datagrams n = ap (λ (cs : List (SocketAddr × List ℕ)). datagrams_in (take n old.loopback) cs) none_taken
-        ∙ ap (λ (o : List LetterValue). datagrams_in o []) (own_is n)
+        ∙ ap (λ (o : List EnvelopeValue). datagrams_in o []) (own_is n)
 
     alone_received : HasReceived observable frames old new
     alone_received =
@@ -561,7 +562,7 @@ module _ {R : Type 0} (S : Sayings R) (G : Gatherings R) (observable : Type 0) w
       withholds = one_given old mid new [] (ap (λ (s : ServerValue R). s.pace) f.same)
           (ap (λ (s : ServerValue R). s.addresses.deaf) f.same) (ap (λ (s : ServerValue R). s.withheld) f.same)
           (ap (λ (s : ServerValue R). s.ticks) f.same) (ap (λ (s : ServerValue R). s.withheld) same) none;
-      left = alone_own ∙ sym (ap (λ (o : List LetterValue). drop 64 o) loopback);
+      left = alone_own ∙ sym (ap (λ (o : List EnvelopeValue). drop 64 o) loopback);
       heard = alone_heard;
       network = alone_outside;
     }
@@ -571,7 +572,7 @@ module _ {R : Type 0} (S : Sayings R) (G : Gatherings R) (observable : Type 0) w
     tick_ends_alone timed silent = record {
       received = alone_received;
       count = 64;
-      letters = record { at_most = omega arith; some = λ is. absurd (omega (arith, is)) };
+      envelopes = record { at_most = omega arith; some = λ is. absurd (omega (arith, is)) };
       given = None ∷ [];
       first = given_all old.pace old.received
           (datagrams_in (take 64 old.loopback) (all_filtered (filter_of old.addresses) frames)) (None ∷ [])
@@ -579,7 +580,7 @@ module _ {R : Type 0} (S : Sayings R) (G : Gatherings R) (observable : Type 0) w
           (datagrams_in (take 64 old.loopback) (all_filtered (filter_of old.addresses) frames)) (no_datagrams 64));
       silent = subst₂ (λ (x : GroupValue) (r : R). SaysNoMore S G (None ∷ []) x r new.replica) begun mine silent;
       ticks = alone_counted timed;
-      left = alone_own ∙ sym (ap (λ (o : List LetterValue). drop 64 o) loopback);
+      left = alone_own ∙ sym (ap (λ (o : List EnvelopeValue). drop 64 o) loopback);
       heard = alone_heard;
       network = alone_outside;
     }
@@ -735,10 +736,10 @@ module _ {R : Type 0} (S : Sayings R) (G : Gatherings R) (observable : Type 0) w
   -- ---- what is handed on
 
   -- a replica that says nothing more
-  abbrev pub hands_none : (given : List (Option (List ℕ))) (loopback : List LetterValue) (old new : ServerValue R)
-      → DeliversNothing S given loopback old new → DeliversLetters S observable given loopback old new
+  abbrev pub hands_none : (given : List (Option (List ℕ))) (loopback : List EnvelopeValue) (old new : ServerValue R)
+      → DeliversNothing S given loopback old new → DeliversEnvelopes S observable given loopback old new
   hands_none given loopback old new h = record {
-    letters = [];
+    envelopes = [];
     says = h.says;
     kept = record { added = []; is = h.loopback ∙ sym (append-nil loopback) };
     carried = λ i. record { loopback = h.loopback i; sent = h.sent i; failures = h.failures i };
@@ -761,7 +762,7 @@ module _ {R : Type 0} (S : Sayings R) (G : Gatherings R) (observable : Type 0) w
   pub turn_of : (frames : List (SocketAddr × List ℕ)) (group one now : GroupValue) (old mid nudged new : ServerValue R)
       → G old.replica [] group old.replica → AddsGroup G observable frames group one old mid
       → GathersNudge G one now mid.replica nudged.replica → ChangesAtInput mid nudged
-      → DeliversAllLetters S G observable now nudged new
+      → DeliversAllEnvelopes S G observable now nudged new
       → mid.sent ≡ old.sent → mid.socket_failures ≡ old.socket_failures → IsSameServer old mid
       → new.addresses ≡ nudged.addresses → new.received ≡ nudged.received → new.ticks ≡ nudged.ticks
       → new.withheld ≡ nudged.withheld → IsSameServer nudged new → new.failed ≡ false
@@ -769,12 +770,12 @@ module _ {R : Type 0} (S : Sayings R) (G : Gatherings R) (observable : Type 0) w
   turn_of frames group one now old mid nudged new begins t n changed hands sent failures first book received untimed
       unheld then lives =
       let g = n old.replica t.given (t.gathers old.replica [] begins) in record {
-        letters_first = received_first observable frames old mid t.received;
+        envelopes_first = received_first observable frames old mid t.received;
         timed = t.given;
         may = t.may;
         given = g.0;
         nudged = g.1;
-        hands_on = subst (λ (loopback : List LetterValue). DeliversLetters S observable g.0 loopback old new)
+        hands_on = subst (λ (loopback : List EnvelopeValue). DeliversEnvelopes S observable g.0 loopback old new)
             (ap (λ (s : ServerValue R). s.loopback) changed ∙ t.left)
             (hands old g.0 g.2 (sym (ap (λ (s : ServerValue R). s.sent) changed ∙ sent))
             (sym (ap (λ (s : ServerValue R). s.socket_failures) changed ∙ failures)));
@@ -800,9 +801,9 @@ module _ {R : Type 0} (S : Sayings R) (G : Gatherings R) (observable : Type 0) w
   last_of frames group one now old mid nudged new begins t n changed none sent failures first book untimed then
       ended =
       let g = n old.replica t.given (t.gathers old.replica [] begins) in record {
-        letters_first = received_first observable frames old mid t.received;
+        envelopes_first = received_first observable frames old mid t.received;
         count = 64;
-        letters = record { at_most = omega arith; some = λ is. absurd (omega (arith, is)) };
+        envelopes = record { at_most = omega arith; some = λ is. absurd (omega (arith, is)) };
         timed = t.given;
         first = given_all old.pace old.received
             (datagrams_in (take 64 old.loopback) (all_filtered (filter_of old.addresses) frames)) t.given t.may;
@@ -831,9 +832,9 @@ module _ {R : Type 0} (S : Sayings R) (G : Gatherings R) (observable : Type 0) w
       → mid.sent ≡ old.sent → mid.socket_failures ≡ old.socket_failures → IsSameServer old mid → new.failed ≡ true
       → LastTurn S observable (all_filtered (filter_of old.addresses) frames) old new
   last_at_nudge frames group one old mid new begins t silent changed sent failures first ended = record {
-    letters_first = received_first observable frames old mid t.received;
+    envelopes_first = received_first observable frames old mid t.received;
     count = 64;
-    letters = record { at_most = omega arith; some = λ is. absurd (omega (arith, is)) };
+    envelopes = record { at_most = omega arith; some = λ is. absurd (omega (arith, is)) };
     timed = t.given;
     first = given_all old.pace old.received
         (datagrams_in (take 64 old.loopback) (all_filtered (filter_of old.addresses) frames)) t.given t.may;
@@ -861,9 +862,9 @@ module _ {R : Type 0} (S : Sayings R) (G : Gatherings R) (observable : Type 0) w
       → new.sent ≡ old.sent → new.socket_failures ≡ old.socket_failures → IsSameServer old new → new.failed ≡ true
       → LastTurn S observable (all_filtered (filter_of old.addresses) frames) old new
   last_within frames group old new begins e sent failures same ended = record {
-    letters_first = received_first observable frames old new e.received;
+    envelopes_first = received_first observable frames old new e.received;
     count = e.count;
-    letters = e.letters;
+    envelopes = e.envelopes;
     timed = e.given;
     first = e.first;
     given = e.given;
@@ -883,10 +884,10 @@ module _ {R : Type 0} (S : Sayings R) (G : Gatherings R) (observable : Type 0) w
   pub tick_of : {T E : Type 0} (r : Result T E) (group now : GroupValue) (old mid new : ServerValue R)
       → G old.replica [] group old.replica → GathersMore G (None ∷ []) group now old.replica mid.replica
       → mid.loopback ≡ old.loopback → mid.sent ≡ old.sent → mid.socket_failures ≡ old.socket_failures
-      → OnOk r (DeliversAllLetters S G observable now mid new) → OnOk r (DeliversLetters S observable
+      → OnOk r (DeliversAllEnvelopes S G observable now mid new) → OnOk r (DeliversEnvelopes S observable
       (None ∷ []) old.loopback old new)
   tick_of (Ok x) group now old mid new begins gathers loopback sent failures hands =
-      subst (λ (o : List LetterValue). DeliversLetters S observable (None ∷ []) o old new) loopback
+      subst (λ (o : List EnvelopeValue). DeliversEnvelopes S observable (None ∷ []) o old new) loopback
       (hands old (None ∷ []) (gathers old.replica [] begins) (sym sent) (sym failures))
   tick_of (Err e) group now old mid new begins gathers loopback sent failures hands = tt
 

@@ -12,7 +12,7 @@ use Rattle.lk_address_book.specs.Senders.{RecordsSenders}
 use Rattle.lk_address_book.specs.Filters.{is_filtered_out, all_filtered}
 use Rattle.lk_transport.specs.Streams.{ReceivesOne, ComeWithin}
 use Rattle.lk_server.specs.Servers.{ServerValue, all_inputs, all_ticks, counted, datagrams_in, Given, GivenPrefix}
-use Rattle.lk_server.specs.Servers.{HasReceived, IsPrefix, MayEndNudged, TakesLetters, DeliversLetters, Withholding}
+use Rattle.lk_server.specs.Servers.{HasReceived, IsPrefix, MayEndNudged, TakesEnvelopes, DeliversEnvelopes, Withholding}
 
 -- a replica is given nothing of these frames: there is none, or one, which is a probe or a report, or came from a node
 -- of another genesis, or is a request while the server is deaf
@@ -29,8 +29,8 @@ pub record Finds {R : Type 0} (observable : Type 0) (found : TurnInput) (frames 
   pub comes : observable → ReceivesOne frames old.incoming new.incoming
   pub same : record new { incoming = old.incoming } ≡ old
 
--- ---- what a part of a turn may change: an input or a datagram that the replica takes, a letter of the node to itself,
--- what comes to the socket, and all that a turn takes
+-- ---- what a part of a turn may change: an input or a datagram that the replica takes, an envelope of the node to
+-- itself, what comes to the socket, and all that a turn takes
 
 abbrev pub ChangesAtInput : {R : Type 0} → ServerValue R → ServerValue R → Type 0
 ChangesAtInput old new =
@@ -54,8 +54,8 @@ ChangesAtDatagram old new =
       ticks = new.ticks;
     }
 
-abbrev pub ChangesAtLetter : {R : Type 0} → ServerValue R → ServerValue R → Type 0
-ChangesAtLetter old new =
+abbrev pub ChangesAtEnvelope : {R : Type 0} → ServerValue R → ServerValue R → Type 0
+ChangesAtEnvelope old new =
     new ≡ record old {
       replica = new.replica;
       failed = new.failed;
@@ -149,7 +149,7 @@ module _ {R : Type 0} (Gathers : Gatherings R) where
     pub ticks : new.ticks ≡ all_ticks old.ticks (all_inputs old.pace old.received datagrams)
     pub pace : new.pace ≡ old.pace
 
-  -- the first letters of the node to itself were taken, at most this many
+  -- the first envelopes of the node to itself were taken, at most this many
   pub record AddsLoopback (most : ℕ) (group now : GroupValue) (old new : ServerValue R) : Type 0 where
     pub adds : AddsAll (datagrams_in (take most old.loopback) []) group now old new
     pub left : new.loopback ≡ drop most old.loopback
@@ -167,7 +167,7 @@ module _ {R : Type 0} (Gathers : Gatherings R) where
     pub adds : AddsHeard frames group now old new
     pub comes : observable → ComeWithin most frames old.incoming new.incoming
 
-  -- what waits is taken: letters of the node to itself, or these frames of the socket
+  -- what waits is taken: envelopes of the node to itself, or these frames of the socket
   pub record AddsWaiting (observable : Type 0) (frames : List (SocketAddr × List ℕ)) (group now : GroupValue)
       (old new : ServerValue R) : Type 0 where
     pub received : HasReceived observable frames old new
@@ -202,7 +202,7 @@ module _ {R : Type 0} (Says : Sayings R) (Gathers : Gatherings R) where
     pub silent : SaysNoMore Says Gathers given group old.replica new.replica
     pub ticks : new.ticks ≡ all_ticks old.ticks given
 
-  -- the replica ended at the first letters of the node to itself, of which it took this many
+  -- the replica ended at the first envelopes of the node to itself, of which it took this many
   pub record EndsLoopback (most : ℕ) (group : GroupValue) (old new : ServerValue R) : Type 0 where
     pub count : ℕ
     pub at_most : count ≤ most
@@ -230,7 +230,7 @@ module _ {R : Type 0} (Says : Sayings R) (Gathers : Gatherings R) where
       (old new : ServerValue R) : Type 0 where
     pub received : HasReceived observable frames old new
     pub count : ℕ
-    pub letters : TakesLetters count old.loopback
+    pub envelopes : TakesEnvelopes count old.loopback
     pub given : List (Option (List ℕ))
     pub first : GivenPrefix old.pace old.received
         (datagrams_in (take count old.loopback) (all_filtered (filter_of old.addresses) frames)) given
@@ -242,7 +242,7 @@ module _ {R : Type 0} (Says : Sayings R) (Gathers : Gatherings R) where
 
   -- ---- the end of a group
 
-  -- nothing of the group leaves: no letter is kept or sent
+  -- nothing of the group leaves: no envelope is kept or sent
   pub record SaysNothing (group : GroupValue) (old new : ServerValue R) : Type 0 where
     pub silent : (start : R) (given : List (Option (List ℕ))) → Gathers start given group old.replica
         → Says start given [] new.replica
@@ -251,9 +251,9 @@ module _ {R : Type 0} (Says : Sayings R) (Gathers : Gatherings R) where
     pub failures : new.socket_failures ≡ old.socket_failures
 
   -- whatever input the group had since the server was in this state, with nothing of it sent, the server has handed on
-  -- the replica's letters
-  abbrev pub DeliversAllLetters : Type 0 → GroupValue → ServerValue R → ServerValue R → Type 0
-  DeliversAllLetters observable group old new =
+  -- the replica's envelopes
+  abbrev pub DeliversAllEnvelopes : Type 0 → GroupValue → ServerValue R → ServerValue R → Type 0
+  DeliversAllEnvelopes observable group old new =
       (start : ServerValue R) (given : List (Option (List ℕ))) → Gathers start.replica given group old.replica
       → start.sent ≡ old.sent → start.socket_failures ≡ old.socket_failures
-      → DeliversLetters Says observable given old.loopback start new
+      → DeliversEnvelopes Says observable given old.loopback start new

@@ -1,4 +1,4 @@
--- How a server handles probes and reports, after the letters of a turn.
+-- How a server handles probes and reports, after the envelopes of a turn.
 use Rattle.std.specs.Prelude.{◌≡◌, ℕ, List, Option, Some, None}
 use Rattle.lk_types.specs.declared.member.Member.{Member}
 use Rattle.lk_probe.specs.declared.reported.Reported.{Reported}

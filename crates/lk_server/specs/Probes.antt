@@ -61,7 +61,7 @@ pub record IsReportTo (node : ℕ) (genesis : List ℕ) (count withheld quiet : 
   pub reached : ReportsReach p.asks_reach heard watches digest shown report.reach
 
 -- the probe was answered, by the server's own count of periods, with whom it hears in this one, how many watches it
--- keeps and the digest that it took last, where a member gets its letters, or else where the probe came from; nothing
+-- keeps and the digest that it took last, where a member gets its envelopes, or else where the probe came from; nothing
 -- else is sent or changed, nor is what is to come, if the socket tells that. `Shows` is what a replica shows
 pub record RepliesToProbe {R : Type 0} (Shows : R → ProbedState → Type 0) (observable : Type 0) (a : ReceivedProbe)
     (old new : ServerValue R) : Type 0 where

@@ -1,10 +1,10 @@
--- The input that a server gives to its replica, and the fate of the letters.
+-- The input that a server gives to its replica, and the fate of the envelopes.
 use Rattle.std.specs.Prelude.{◌≡◌, ◌≢◌, ◌⊎◌, ◌↔◌, ◌≤◌, Bool, true, false, ◌+◌, ◌*◌, ◌%◌, ◌^◌, ℕ, List, [], ◌∷◌, ◌++◌}
 use Rattle.std.specs.Prelude.{IsTrue, length, map, min, take, drop, Option, Some, None, if◌then◌else◌}
 use Rattle.std.specs.declared.net.socket_addr.SocketAddr.{SocketAddr}
 use Rattle.lk_types.specs.Ranges.{IsClient}
 use Rattle.lk_types.specs.declared.member.Member.{Member}
-use Rattle.lk_node_interface.specs.Letters.{LetterValue}
+use Rattle.lk_node_interface.specs.Envelopes.{EnvelopeValue}
 use Rattle.lk_node_interface.specs.declared.input.Input.{Input}
 use Rattle.lk_node_interface.specs.declared.input.Input.TheVariants.{Tick, Nudge, Datagram}
 use Rattle.lk_node_interface.specs.declared.nudge_reason.NudgeReason.TheVariants.{Period, TicksWithheld, Fed}
@@ -31,8 +31,8 @@ pub record ServerValue (R : Type 0) : Type 0 where
   -- what its ticks go by
   pub pace : Pace
   pub replica : R
-  -- the letters of the node to itself that it has not taken yet
-  pub loopback : List LetterValue
+  -- the envelopes of the node to itself that it has not taken yet
+  pub loopback : List EnvelopeValue
   -- from where others wrote, the hosts, the keys, and which genesis is known at which address
   pub addresses : AddressBook
   -- how many datagrams came, how many ticks its replica was given, and how many were withheld
@@ -166,7 +166,7 @@ EndsPeriodOf number withheld (Datagram bytes) = ⊥
 abbrev pub EndsPeriod : {R : Type 0} → ServerValue R → Input → Type 0
 EndsPeriod s input = EndsPeriodOf (periods s) (WithholdsTicks s) input
 
--- a period is counted, and the replica has taken what ends it, as its `gather` takes it
+-- a period is counted, and the replica has taken what ends it, as its `add_step` takes it
 pub record TakesPeriodEnd {R : Type 0} (Takes : R → GroupValue → Input → R → GroupValue → Type 0)
     (group now : GroupValue) (old new : ServerValue R) : Type 0 where
   pub input : Input
@@ -190,10 +190,10 @@ Given pace received (bytes ∷ more) given =
 abbrev pub MayEndNudged : List (Option (List ℕ)) → List (Option (List ℕ)) → Type 0
 MayEndNudged timed given = (given ≡ timed) ⊎ (given ≡ timed ++ None ∷ [])
 
--- the datagrams that a turn takes: letters of the node to itself, and what came from the socket
-abbrev pub datagrams_in : List LetterValue → List (SocketAddr × List ℕ) → List (List ℕ)
+-- the datagrams that a turn takes: envelopes of the node to itself, and what came from the socket
+abbrev pub datagrams_in : List EnvelopeValue → List (SocketAddr × List ℕ) → List (List ℕ)
 datagrams_in loopback came =
-    map (λ (l : LetterValue). l.bytes) loopback ++ map (λ (c : SocketAddr × List ℕ). c.1) came
+    map (λ (l : EnvelopeValue). l.bytes) loopback ++ map (λ (c : SocketAddr × List ℕ). c.1) came
 
 -- it is a prefix of the other list
 abbrev pub IsPrefix : {X : Type 0} → List X → List X → Type 0
@@ -206,33 +206,33 @@ pub record GivenPrefix (pace : Pace) (received : ℕ) (datagrams : List (List �
   pub may : Given pace received datagrams whole
   pub front : IsPrefix given whole
 
--- ---- the fate of the letters
+-- ---- the fate of the envelopes
 
--- it has more letters at the end
-pub record Grows (old new : List LetterValue) : Type 0 where
-  pub added : List LetterValue
+-- it has more envelopes at the end
+pub record Grows (old new : List EnvelopeValue) : Type 0 where
+  pub added : List EnvelopeValue
   pub is : new ≡ old ++ added
 
--- what the letters may change, given the kept letters of the node to itself
-abbrev pub send_state_at : {R : Type 0} → List LetterValue → ServerValue R → SendState
+-- what the envelopes may change, given the kept envelopes of the node to itself
+abbrev pub send_state_at : {R : Type 0} → List EnvelopeValue → ServerValue R → SendState
 send_state_at loopback s = record { loopback = loopback; sent = s.sent; failures = s.socket_failures }
 
--- the replica took exactly this input as one group and produced these letters; each was kept, sent to its destination,
--- or lost by a failed send, in order, and nothing else was sent or kept. `loopback` are the earlier ones to the node
--- itself, without those that were taken
-pub record DeliversLetters {R : Type 0}
-    (Says : R → List (Option (List ℕ)) → List LetterValue → R → Type 0) (observable : Type 0)
-    (given : List (Option (List ℕ))) (loopback : List LetterValue) (old new : ServerValue R) : Type 0 where
-  pub letters : List LetterValue
-  pub says : Says old.replica given letters new.replica
+-- the replica took exactly this input as one group and produced these envelopes; each was kept, sent to its
+-- destination, or lost by a failed send, in order, and nothing else was sent or kept. `loopback` are the earlier ones
+-- to the node itself, without those that were taken
+pub record DeliversEnvelopes {R : Type 0}
+    (Says : R → List (Option (List ℕ)) → List EnvelopeValue → R → Type 0) (observable : Type 0)
+    (given : List (Option (List ℕ))) (loopback : List EnvelopeValue) (old new : ServerValue R) : Type 0 where
+  pub envelopes : List EnvelopeValue
+  pub says : Says old.replica given envelopes new.replica
   pub kept : Grows loopback new.loopback
-  pub carried : CarriesAll (Becomes observable new.node new.addresses) (send_state_at loopback old) letters
+  pub carried : CarriesAll (Becomes observable new.node new.addresses) (send_state_at loopback old) envelopes
       (send_state_at new.loopback new)
 
--- the replica took exactly this input and produced nothing: no letter was kept or sent. `stood` are the earlier
--- letters of the node to itself
-pub record DeliversNothing {R : Type 0} (Says : R → List (Option (List ℕ)) → List LetterValue → R → Type 0)
-    (given : List (Option (List ℕ))) (stood : List LetterValue) (old new : ServerValue R) : Type 0 where
+-- the replica took exactly this input and produced nothing: no envelope was kept or sent. `stood` are the earlier
+-- envelopes of the node to itself
+pub record DeliversNothing {R : Type 0} (Says : R → List (Option (List ℕ)) → List EnvelopeValue → R → Type 0)
+    (given : List (Option (List ℕ))) (stood : List EnvelopeValue) (old new : ServerValue R) : Type 0 where
   pub says : Says old.replica given [] new.replica
   pub loopback : new.loopback ≡ stood
   pub sent : new.sent ≡ old.sent
@@ -248,7 +248,7 @@ ReceivesGroup [] old new = Receives None old new
 ReceivesGroup (first ∷ further) old new =
     (mid : Stream) × Receives (Some first) old mid × ComeWithin (2 * length further + 2) further mid new
 
--- these frames came: none where letters of the node to itself wait, and at most 64. Where letters wait nothing is
+-- these frames came: none where envelopes of the node to itself wait, and at most 64. Where envelopes wait nothing is
 -- received; else exactly these frames are what the receives of the turn found, in order, if the socket tells that
 pub record HasReceived {R : Type 0} (observable : Type 0) (frames : List (SocketAddr × List ℕ))
     (old new : ServerValue R) : Type 0 where
@@ -257,17 +257,17 @@ pub record HasReceived {R : Type 0} (observable : Type 0) (frames : List (Socket
   pub waits : observable → old.loopback ≢ [] → new.incoming ≡ old.incoming
   pub comes : observable → old.loopback ≡ [] → ReceivesGroup frames old.incoming new.incoming
 
--- what may be taken of the socket: nothing where letters of the node to itself wait, at most 64 datagrams, and the
+-- what may be taken of the socket: nothing where envelopes of the node to itself wait, at most 64 datagrams, and the
 -- first of what is to come if the socket tells that
-pub record LettersFirst {R : Type 0} (observable : Type 0) (came : List (SocketAddr × List ℕ))
+pub record EnvelopesFirst {R : Type 0} (observable : Type 0) (came : List (SocketAddr × List ℕ))
     (old : ServerValue R) : Type 0 where
   pub alone : (old.loopback ≡ []) ⊎ (came ≡ [])
   pub few : length came ≤ 64
   pub comes : observable → old.loopback ≡ []
       → IsPrefix came (all_filtered (filter_of old.addresses) (frames_in old.incoming))
 
--- so many letters of the node to itself are taken: at most 64, and at least one where some wait
-pub record TakesLetters (count : ℕ) (loopback : List LetterValue) : Type 0 where
+-- so many envelopes of the node to itself are taken: at most 64, and at least one where some wait
+pub record TakesEnvelopes (count : ℕ) (loopback : List EnvelopeValue) : Type 0 where
   pub at_most : count ≤ 64
   pub some : count ≡ 0 → loopback ≡ []
 
@@ -291,17 +291,17 @@ pub record IsSameServer {R : Type 0} (old new : ServerValue R) : Type 0 where
   pub spoke : new.waiting.spoke ≡ old.waiting.spoke
   pub served : new.waiting.served ≡ old.waiting.served
 
--- Where letters of the node to itself wait, it takes the first 64 of them, in order, and nothing of the socket; else
+-- Where envelopes of the node to itself wait, it takes the first 64 of them, in order, and nothing of the socket; else
 -- what came. Its replica was given just that as one group, and a tick where one was due and not withheld, and each tick
 -- was counted; it may have been nudged at the end of the group. Whoever sent what came was heard, and it goes on
-pub record Turn {R : Type 0} (Says : R → List (Option (List ℕ)) → List LetterValue → R → Type 0) (observable : Type 0)
+pub record Turn {R : Type 0} (Says : R → List (Option (List ℕ)) → List EnvelopeValue → R → Type 0) (observable : Type 0)
     (came : List (SocketAddr × List ℕ)) (old new : ServerValue R) : Type 0 where
-  pub letters_first : LettersFirst observable came old
+  pub envelopes_first : EnvelopesFirst observable came old
   pub timed : List (Option (List ℕ))
   pub may : Given old.pace old.received (datagrams_in (take 64 old.loopback) came) timed
   pub given : List (Option (List ℕ))
   pub nudged : MayEndNudged timed given
-  pub hands_on : DeliversLetters Says observable given (drop 64 old.loopback) old new
+  pub hands_on : DeliversEnvelopes Says observable given (drop 64 old.loopback) old new
   pub counted : new.received ≡ counted old.received (datagrams_in (take 64 old.loopback) came)
   pub ticks : new.ticks ≡ all_ticks old.ticks timed
   pub withholds : Withholding old new
@@ -310,31 +310,31 @@ pub record Turn {R : Type 0} (Says : R → List (Option (List ℕ)) → List Let
   pub alive : new.failed ≡ false
 
 -- A turn has ended the replica, after a prefix of its input, at the nudge after all of it, or at the sync after that:
--- this many letters of the node to itself were taken, and the last datagram that arrived has ended it; nothing of the
+-- this many envelopes of the node to itself were taken, and the last datagram that arrived has ended it; nothing of the
 -- group is sent
-pub record LastTurn {R : Type 0} (Says : R → List (Option (List ℕ)) → List LetterValue → R
+pub record LastTurn {R : Type 0} (Says : R → List (Option (List ℕ)) → List EnvelopeValue → R
     → Type 0) (observable : Type 0)
     (came : List (SocketAddr × List ℕ)) (old new : ServerValue R) : Type 0 where
-  pub letters_first : LettersFirst observable came old
+  pub envelopes_first : EnvelopesFirst observable came old
   pub count : ℕ
-  pub letters : TakesLetters count old.loopback
+  pub envelopes : TakesEnvelopes count old.loopback
   pub timed : List (Option (List ℕ))
   pub first : GivenPrefix old.pace old.received (datagrams_in (take count old.loopback) came) timed
   pub given : List (Option (List ℕ))
   pub nudged : MayEndNudged timed given
   pub after_all : (given ≡ timed)
       ⊎ Given old.pace old.received (datagrams_in (take count old.loopback) came) timed
-  pub hands_on : DeliversLetters Says observable given (drop count old.loopback) old new
-  pub silent : hands_on.letters ≡ []
+  pub hands_on : DeliversEnvelopes Says observable given (drop count old.loopback) old new
+  pub silent : hands_on.envelopes ≡ []
   pub ticks : new.ticks ≡ all_ticks old.ticks timed
   pub heard : RecordsSenders old.cluster came old.addresses new.addresses
   pub same : IsSameServer old new
   pub ended : new.failed ≡ true
 
--- An idle turn: no letter of the node to itself waited, one receive found these frames, one or none, which say nothing
--- to the replica. It was given nothing, nothing was sent, and nothing is changed but what is to come, which is now what
--- follows that receive, and the counts of ticks that were withheld and of silence. By datagrams a turn in which no
--- frame comes is never idle: it is a tick
+-- An idle turn: no envelope of the node to itself waited, one receive found these frames, one or none, which say
+-- nothing to the replica. It was given nothing, nothing was sent, and nothing is changed but what is to come, which is
+-- now what follows that receive, and the counts of ticks that were withheld and of silence. By datagrams a turn in
+-- which no frame comes is never idle: it is a tick
 pub record IsIdle {R : Type 0} (observable : Type 0) (frames : List (SocketAddr × List ℕ))
     (old new : ServerValue R) : Type 0 where
   pub loopback : old.loopback ≡ []
@@ -346,7 +346,7 @@ pub record IsIdle {R : Type 0} (observable : Type 0) (frames : List (SocketAddr 
 
 -- a turn in which these frames came: its replica was given what was taken of them, or what waited, or a tick; or the
 -- turn is idle
-abbrev pub TurnOrIdle : {R : Type 0} (Says : R → List (Option (List ℕ)) → List LetterValue → R → Type 0)
+abbrev pub TurnOrIdle : {R : Type 0} (Says : R → List (Option (List ℕ)) → List EnvelopeValue → R → Type 0)
     (observable : Type 0) → List (SocketAddr × List ℕ) → ServerValue R → ServerValue R → Type 0
 TurnOrIdle Says observable frames old new =
     Turn Says observable (all_filtered (filter_of old.addresses) frames) old new ⊎ IsIdle observable frames old new

@@ -12,7 +12,7 @@ use Rattle.lk_server_replica.specs.Feedings.{is_fed}
 use Rattle.lk_server_replica.specs.Groups.{Sayings, Gatherings}
 use Rattle.lk_server_replica.specs.Silences.{quiet_after, quiet_withheld}
 use Rattle.lk_server_replica.specs.declared.replica_status.ReplicaStatus.{ReplicaStatus}
-use Rattle.lk_server.specs.Gatherings.{DeliversAllLetters}
+use Rattle.lk_server.specs.Gatherings.{DeliversAllEnvelopes}
 use Rattle.lk_server.specs.Servers.{ServerValue, AreWithheld, EndsPeriodOf, one_more_tick, periods_by}
 
 -- what it has noted: the digest that it keeps, whether an input of the group has fed the replica, the periods without a
@@ -40,7 +40,7 @@ noted s = record {
   deaf = s.addresses.deaf;
 }
 
--- what a call of `gather` that succeeded does: the replica and the group before it, its input, and both after it
+-- what a call of `add_step` that succeeded does: the replica and the group before it, its input, and both after it
 abbrev pub Takings : Type 0 → Type 1
 Takings R = R → GroupValue → Input → R → GroupValue → Type 0
 
@@ -144,7 +144,7 @@ pub record TurnsNotes {R : Type 0} (Says : Sayings R) (Gathers : Gatherings R) (
   pub now : GroupValue
   pub nudged : ServerValue R
   pub nudges : NudgesIfFed Takes Keeps HasStatus one now mid nudged
-  pub releases : DeliversAllLetters Says Gathers observable now nudged new
+  pub sends_all : DeliversAllEnvelopes Says Gathers observable now nudged new
   pub kept : noted new ≡ noted nudged
   pub rests : new.fed ≡ false
 

@@ -1,4 +1,4 @@
--- How a server handles watches, after the letters of a turn and what it does about probes.
+-- How a server handles watches, after the envelopes of a turn and what it does about probes.
 use Rattle.std.specs.Prelude.{◌≡◌, ◌⊎◌, ℕ, Bool, true, false, not, ◌&&◌, List, [], ◌∷◌, ◌++◌, Option, Some, None}
 use Rattle.std.specs.Prelude.{IfSome}
 use Rattle.lk_locks.specs.Plain.{Table}
@@ -6,7 +6,7 @@ use Rattle.lk_watch.specs.Seen.{seen_in, standing_by}
 use Rattle.lk_watch.specs.Tables.{standing_in}
 use Rattle.lk_watch.specs.Queues.{QueueValue, Table as Standings, HearsOrNot, TellsAll, TellsFirst}
 use Rattle.lk_watch.specs.declared.seen.SeenName.{SeenName}
-use Rattle.lk_watch.specs.declared.waiter.Letter.{Letter}
+use Rattle.lk_watch.specs.declared.waiter.Envelope.{Envelope}
 use Rattle.lk_transport.specs.Watches.{SendsNotice, SendsNotices}
 use Rattle.lk_transport.specs.declared.received_watch.ReceivedWatch.{ReceivedWatch}
 use Rattle.lk_waiting.specs.Waits.{AreAllChanged, HasNothingNew, WaitingValue, begun_at}
@@ -23,16 +23,16 @@ IsMoment Shows s m = (shown : ProbedState) × Shows s.replica shown × (m ≡ re
   executed = shown.progress.executed;
 })
 
--- the watch that is kept is heard, if one is, and these letters are to be sent for it
-abbrev pub HearsKept : Table → Bool → Option ReceivedWatch → QueueValue → List Letter → QueueValue → Type 0
-HearsKept table speaks None old letters new = (letters ≡ []) × (new ≡ old)
-HearsKept table speaks (Some r) old letters new =
-    HearsOrNot (standing_in table) speaks r.watch r.from old letters new
+-- the watch that is kept is heard, if one is, and these envelopes are to be sent for it
+abbrev pub HearsKept : Table → Bool → Option ReceivedWatch → QueueValue → List Envelope → QueueValue → Type 0
+HearsKept table speaks None old envelopes new = (envelopes ≡ []) × (new ≡ old)
+HearsKept table speaks (Some r) old envelopes new =
+    HearsOrNot (standing_in table) speaks r.watch r.from old envelopes new
 
 -- where it speaks for the cluster, those who are to be told are, by what is said of the names
-abbrev pub TellsIf : Bool → Standings → QueueValue → List Letter → QueueValue → Type 0
-TellsIf true standings old letters new = TellsAll standings old letters new
-TellsIf false standings old letters new = (letters ≡ []) × (new ≡ old)
+abbrev pub TellsIf : Bool → Standings → QueueValue → List Envelope → QueueValue → Type 0
+TellsIf true standings old envelopes new = TellsAll standings old envelopes new
+TellsIf false standings old envelopes new = (envelopes ≡ []) × (new ≡ old)
 
 -- ---- which names it looks at
 
@@ -53,19 +53,19 @@ pub record IsAllNew (table : Table) (watched : Option ReceivedWatch) (w : Waitin
 -- a watch is kept or somebody waits: the queue looks at the whole table, or only at the names that commands may have
 -- changed and that of the watch, where no period has ended since its last turn, no snapshot was installed, and the
 -- server has neither begun nor ceased to speak for the cluster. It begins its turn; then the watch that is kept is
--- heard and answered; then those are told who are to be told. Each letter goes to the address that it names, in order,
--- and nothing else is sent. Nothing of the replica changes, nor any address, nor what is to come, if the socket tells
--- that
+-- heard and answered; then those are told who are to be told. Each envelope goes to the address that it names, in
+-- order, and nothing else is sent. Nothing of the replica changes, nor any address, nor what is to come, if the socket
+-- tells that
 pub record ServesWaiters {R : Type 0} (table : Table) (Shows : R → ProbedState → Type 0) (observable : Type 0)
     (watched : Option ReceivedWatch) (old new : ServerValue R) : Type 0 where
   pub moment : Moment
   pub is_now : IsMoment Shows old moment
   pub seen : Option (List SeenName)
   pub looks : IfSome seen (IsAllNew table watched old.waiting moment)
-  pub answers : List Letter
+  pub answers : List Envelope
   pub heard : QueueValue
   pub hears : HearsKept table moment.speaks watched (begun_at table seen moment old.waiting).queue answers heard
-  pub told : List Letter
+  pub told : List Envelope
   pub tells : TellsIf moment.speaks (standing_by table seen) heard told new.waiting.queue
   pub sends : SendsNotices observable old.addresses.seals old.node (answers ++ told)
       (send_state_at old.loopback old) (send_state_at new.loopback new)
@@ -108,22 +108,22 @@ ChangesByNotices old new = new ≡ record old {
 -- the watch is heard and answered
 pub record AnswersWatch {R : Type 0} (table : Table) (observable : Type 0) (speaks : Bool)
     (watched : Option ReceivedWatch) (old new : ServerValue R) : Type 0 where
-  pub letters : List Letter
-  pub hears : HearsKept table speaks watched old.waiting.queue letters new.waiting.queue
-  pub sends : SendsNotices observable old.addresses.seals old.node letters (send_state_at old.loopback old)
+  pub envelopes : List Envelope
+  pub hears : HearsKept table speaks watched old.waiting.queue envelopes new.waiting.queue
+  pub sends : SendsNotices observable old.addresses.seals old.node envelopes (send_state_at old.loopback old)
       (send_state_at new.loopback new)
 
 -- the next who is to be told is, by what is said of the names
 pub record TellsNext {R : Type 0} (standings : Standings) (observable : Type 0) (old new : ServerValue R) : Type 0 where
-  pub letter : Letter
-  pub tells : TellsFirst standings old.waiting.queue letter new.waiting.queue
-  pub sends : SendsNotice observable old.addresses.seals old.node letter (send_state_at old.loopback old)
+  pub envelope : Envelope
+  pub tells : TellsFirst standings old.waiting.queue envelope new.waiting.queue
+  pub sends : SendsNotice observable old.addresses.seals old.node envelope (send_state_at old.loopback old)
       (send_state_at new.loopback new)
 
 -- those who are to be told are
 pub record TellsWaiters {R : Type 0} (standings : Standings) (observable : Type 0) (speaks : Bool)
     (old new : ServerValue R) : Type 0 where
-  pub letters : List Letter
-  pub tells : TellsIf speaks standings old.waiting.queue letters new.waiting.queue
-  pub sends : SendsNotices observable old.addresses.seals old.node letters (send_state_at old.loopback old)
+  pub envelopes : List Envelope
+  pub tells : TellsIf speaks standings old.waiting.queue envelopes new.waiting.queue
+  pub sends : SendsNotices observable old.addresses.seals old.node envelopes (send_state_at old.loopback old)
       (send_state_at new.loopback new)

@@ -1,13 +1,13 @@
 //! How a server collects one group. It sends nothing until the group ends.
 //!
-//! `fill_group` takes what a turn brings: by `add_pending` the letters of the node to itself (`add_loopback`) or else
+//! `fill_group` takes what a turn brings: by `add_pending` the envelopes of the node to itself (`add_loopback`) or else
 //! what comes to the socket (`add_from_socket`), and by `add_tick` a tick where one is due, or a nudge in its place.
 //! `add_datagram` counts a datagram, and `add_input` gives it to the replica.
 
 ghost use Rattle.std.specs.Prelude.{◌≡◌, ℕ, List, ◌∷◌, [], Some, None, true, false, OnOk, OnErr, IfOk, IfSome, IsNone};
 ghost use Rattle.std.specs.Prelude.{◌↔◌, IsTrue};
 ghost use Rattle.std.specs.declared.net.socket_addr.SocketAddr.{SocketAddr as Address};
-ghost use Rattle.lk_node_interface.specs.Letters.{LetterValue};
+ghost use Rattle.lk_node_interface.specs.Envelopes.{EnvelopeValue};
 ghost use Rattle.lk_node.specs.Calls.{heard_by};
 ghost use Rattle.lk_server_replica.specs.Groups.{GathersMore, SaysNoMore};
 ghost use Rattle.lk_server.specs.Gatherings.{Finds, AddsAll, EndsWithin, AddsLoopback, EndsLoopback, AddsWaiting};
@@ -16,7 +16,7 @@ ghost use Rattle.lk_address_book.specs.Senders.{IsSentBy};
 ghost use Rattle.lk_server.specs.Gatherings.{AddsGroup, ChangesAtInput, ChangesInTurn, GathersNudge};
 ghost use Rattle.lk_server.specs.Gatherings.{WithholdsQuiet};
 ghost use Rattle.lk_server.specs.StepNotes.{NotesAll, NotesInput, NotesNone, NudgesIfFed, noted, one_period_more};
-ghost use Rattle.lk_server.specs.Gatherings.{EndsGroup, ChangesAtDatagram, ChangesAtLetter, ChangesInGroup};
+ghost use Rattle.lk_server.specs.Gatherings.{EndsGroup, ChangesAtDatagram, ChangesAtEnvelope, ChangesInGroup};
 ghost use Rattle.lk_transport.specs.Kept.{KeepsOf};
 ghost use Rattle.lk_server.specs.Servers.{EndsPeriod, HasReceived, IsIdle, MayWithhold, TakesPeriodEnd};
 ghost use Rattle.lk_server.specs.Servers.{WithholdsTicks, one_more_tick};
@@ -24,7 +24,7 @@ ghost use Rattle.lk_server.specs.Servers.{WithholdsTicks, one_more_tick};
 use crate::group_fault::GroupFault;
 use crate::server::Server;
 use lk_address_book::arrival::Arrival;
-use lk_node_interface::{Input, Letter, NudgeReason};
+use lk_node_interface::{Envelope, Input, NudgeReason};
 use lk_pacing::tick_timer::TickTimer;
 use lk_pacing::turn_input::TurnInput;
 use lk_replica::Group;
@@ -45,8 +45,8 @@ pub(crate) const FURTHER: u64 = 63;
 const TICKS_A_NUDGE: u64 = 31;
 
 impl<R: ServerReplica, S: DatagramSocket + Drop> Server<R, S> {
-    // Removes the first letter of the node to itself.
-    fn next_letter(&mut self) -> Option<Letter>
+    // Removes the first envelope of the node to itself.
+    fn next_envelope(&mut self) -> Option<Envelope>
         ensures some { IfSome result (λ l. self.old.loopback ≡ l ∷ self.new.loopback) }
         ensures none { IsNone result → (self.old.loopback ≡ []) × (self.new ≡ self.old) }
         ensures others { self.new ≡ record self.old { loopback = self.new.loopback } }
@@ -68,7 +68,7 @@ impl<R: ServerReplica, S: DatagramSocket + Drop> Server<R, S> {
     fn add_input<L: Log>(
         &mut self,
         input: Input,
-        came: &Arrival,
+        arrival: &Arrival,
         group: &mut Group,
         log: &L,
     ) -> Result<(), GroupFault>
@@ -80,22 +80,22 @@ impl<R: ServerReplica, S: DatagramSocket + Drop> Server<R, S> {
             (SaysNoMore R.Says R.Gathers (heard_by input.entry ∷ []) group.old self.old.replica self.new.replica) }
         // However it ends, the digest of the state is taken then, if one is due, it is noted whether the input has fed
         // the replica, and the count of silence goes on or begins anew.
-        ensures notes { NotesInput R.KeepsDigest R.HasStatus (sender came.now) self.old.replica self.new.replica
+        ensures notes { NotesInput R.KeepsDigest R.HasStatus (sender arrival.now) self.old.replica self.new.replica
             (noted self.old) (noted self.new) }
         ensures others { ChangesAtInput self.old self.new }
         ensures broken { OnErr result (self.new.failed ≡ true) }
     {
         let before = self.replica.status();
-        let said = group.letters().len();
-        let gathered = self.replica.gather(input, group);
+        let said = group.envelopes().len();
+        let gathered = self.replica.add_step(input, group);
         self.note_digest();
         let after = self.replica.status();
-        self.events.note_installed(came, &before, &after);
+        self.events.note_installed(arrival, &before, &after);
         self.table = self.table.after_step(&before, &after);
-        self.silence.note_input(came.node(), &before, &after);
+        self.silence.note_input(arrival.node(), &before, &after);
         self.fed.note_step(&before, &after);
-        log_changes(log, came, &before, &after);
-        log_catch_up(log, came, group.letters().len().saturating_sub(said));
+        log_changes(log, arrival, &before, &after);
+        log_catch_up(log, arrival, group.envelopes().len().saturating_sub(said));
         match gathered {
             Ok(()) => Ok(()),
             Err(fault) => Err(GroupFault::of(&fault)),
@@ -176,16 +176,16 @@ impl<R: ServerReplica, S: DatagramSocket + Drop> Server<R, S> {
         nudged
     }
 
-    // Counts a datagram and adds it to the group, with a tick after it if one is due by that count. `came` names its
+    // Counts a datagram and adds it to the group, with a tick after it if one is due by that count. `arrival` names its
     // sender.
     pub(crate) fn add_datagram<L: Log>(
         &mut self,
         datagram: Datagram<'_>,
-        came: &Arrival,
+        arrival: &Arrival,
         group: &mut Group,
         log: &L,
     ) -> Result<(), GroupFault>
-        requires { IsSentBy self.old.cluster datagram (sender came.now) }
+        requires { IsSentBy self.old.cluster datagram (sender arrival.now) }
         ensures adds { OnOk result (AddsAll R.Gathers (datagram.entry ∷ []) group.old group.new self.old self.new) }
         ensures ends { OnErr result (EndsWithin R.Says R.Gathers (datagram.entry ∷ []) group.old self.old self.new) }
         ensures notes { OnOk result (NotesAll R.Takes R.KeepsDigest R.HasStatus group.old group.new self.old self.new) }
@@ -193,45 +193,45 @@ impl<R: ServerReplica, S: DatagramSocket + Drop> Server<R, S> {
         ensures broken { OnErr result (self.new.failed ≡ true) }
     {
         self.received = self.received.wrapping_add(1);
-        self.add_input(Input::Datagram(datagram), came, group, log)?;
+        self.add_input(Input::Datagram(datagram), arrival, group, log)?;
         if self.pace.ticks_after(self.received) {
             self.add_tick(group, log)?;
         }
         Ok(())
     }
 
-    // Adds the first letter of the node to itself to the group. Returns whether one was waiting.
+    // Adds the first envelope of the node to itself to the group. Returns whether one was waiting.
     fn add_loopback<L: Log>(&mut self, group: &mut Group, log: &L) -> Result<bool, GroupFault>
         ensures adds { IfOk result
-            (λ some. some ≡ true → (l : LetterValue) × (self.old.loopback ≡ l ∷ self.new.loopback)
+            (λ some. some ≡ true → (l : EnvelopeValue) × (self.old.loopback ≡ l ∷ self.new.loopback)
             × AddsAll R.Gathers (l.bytes ∷ []) group.old group.new self.old self.new) }
         ensures none { IfOk result
             (λ some. some ≡ false → (self.old.loopback ≡ []) × (self.new ≡ self.old) × (group.new ≡ group.old)) }
         ensures notes { OnOk result (NotesAll R.Takes R.KeepsDigest R.HasStatus group.old group.new self.old self.new) }
         ensures ends { OnErr result
-            ((l : LetterValue) × (self.old.loopback ≡ l ∷ self.new.loopback)
+            ((l : EnvelopeValue) × (self.old.loopback ≡ l ∷ self.new.loopback)
             × EndsWithin R.Says R.Gathers (l.bytes ∷ []) group.old self.old self.new) }
-        ensures others { ChangesAtLetter self.old self.new }
+        ensures others { ChangesAtEnvelope self.old self.new }
         ensures broken { OnErr result (self.new.failed ≡ true) }
     {
-        let Some(letter) = self.next_letter() else {
+        let Some(envelope) = self.next_envelope() else {
             return Ok(false);
         };
-        let datagram = Datagram::of(&letter.bytes);
-        let came = Arrival::of_letter(self.cluster, &datagram);
-        self.add_datagram(datagram, &came, group, log)?;
+        let datagram = Datagram::of(&envelope.bytes);
+        let arrival = Arrival::of_envelope(self.cluster, &datagram);
+        self.add_datagram(datagram, &arrival, group, log)?;
         Ok(true)
     }
 
-    // Adds further letters of the node to itself to the group, in order, at most 63.
+    // Adds further envelopes of the node to itself to the group, in order, at most 63.
     fn add_loopbacks<L: Log>(&mut self, group: &mut Group, log: &L) -> Result<(), GroupFault>
         ensures adds { OnOk result (AddsLoopback R.Gathers 63 group.old group.new self.old self.new) }
         ensures notes { OnOk result (NotesAll R.Takes R.KeepsDigest R.HasStatus group.old group.new self.old self.new) }
         ensures ends { OnErr result (EndsLoopback R.Says R.Gathers 63 group.old self.old self.new) }
-        ensures others { ChangesAtLetter self.old self.new }
+        ensures others { ChangesAtEnvelope self.old self.new }
         ensures broken { OnErr result (self.new.failed ≡ true) }
     {
-        'letters: for _ in 0..FURTHER {
+        'envelopes: for _ in 0..FURTHER {
             if !self.add_loopback(group, log)? {
                 return Ok(());
             }
@@ -239,8 +239,8 @@ impl<R: ServerReplica, S: DatagramSocket + Drop> Server<R, S> {
         Ok(())
     }
 
-    // Adds what waits to the group: the first 64 letters of the node to itself, or if there is none what comes to the
-    // socket. Returns what was found. A letter that this group produces is sent only at its end, so it waits for a
+    // Adds what waits to the group: the first 64 envelopes of the node to itself, or if there is none what comes to the
+    // socket. Returns what was found. An envelope that this group produces is sent only at its end, so it waits for a
     // later one.
     pub(crate) fn add_pending<C: Clock, L: Log>(
         &mut self,

@@ -68,17 +68,17 @@ impl IgnoredCounts {
 
     /// Counts a datagram if it does not parse or is of another cluster, and logs each count that is a power of two at
     /// level debug. Returns the count of datagrams of another cluster if this one brought it to a power of two.
-    pub fn count<L: Log>(&mut self, came: &Arrival, log: &L) -> Option<u64>
-        ensures bad { came.now ≡ Arrival.Bad → self.new ≡ record self.old { bad = one_more self.old.bad } }
-        ensures foreign { came.now ≡ Arrival.Foreign
+    pub fn count<L: Log>(&mut self, arrival: &Arrival, log: &L) -> Option<u64>
+        ensures bad { arrival.now ≡ Arrival.Bad → self.new ≡ record self.old { bad = one_more self.old.bad } }
+        ensures foreign { arrival.now ≡ Arrival.Foreign
             → self.new ≡ record self.old { foreign = one_more self.old.foreign } }
-        ensures others { came.now ≢ Arrival.Bad → came.now ≢ Arrival.Foreign → self.new ≡ self.old }
+        ensures others { arrival.now ≢ Arrival.Bad → arrival.now ≢ Arrival.Foreign → self.new ≡ self.old }
         // A count of datagrams of another cluster is returned exactly if it is a power of two.
-        ensures told { came.now ≡ Arrival.Foreign
+        ensures told { arrival.now ≡ Arrival.Foreign
             → result ≡ (if is_power_of_two self.new.foreign then Some self.new.foreign else None) }
-        ensures untold { came.now ≢ Arrival.Foreign → result ≡ None }
+        ensures untold { arrival.now ≢ Arrival.Foreign → result ≡ None }
     {
-        match came {
+        match arrival {
             Arrival::Bad => {
                 self.bad = self.bad.saturating_add(1);
                 let _ = log_count(log, "that do not read", self.bad);

@@ -250,11 +250,11 @@ impl<R: ServerReplica, S: DatagramSocket + Drop> Server<R, S> {
         self.post.followed_stranger()
     }
 
-    /// Handles probes after the letters of a turn. It replies to the probe that the buffer keeps; if the node that sent
-    /// it has this genesis, that node's datagrams are taken again. It learns from the report that the buffer keeps, and
-    /// asks one node for its genesis if that is due. Where ticks go by the clock it probes the members if that is due,
-    /// and finds out whether it hears a majority of them. Returns the first node of another genesis that this one has
-    /// followed, if there is one; the caller then ends the node.
+    /// Handles probes after the envelopes of a turn. It replies to the probe that the buffer keeps; if the node that
+    /// sent it has this genesis, that node's datagrams are taken again. It learns from the report that the buffer
+    /// keeps, and asks one node for its genesis if that is due. Where ticks go by the clock it probes the members if
+    /// that is due, and finds out whether it hears a majority of them. Returns the first node of another genesis that
+    /// this one has followed, if there is one; the caller then ends the node.
     pub fn handle_probes<L: Log>(&mut self, buffer: &mut ReceiveBuffer, log: &L) -> Option<Origin>
         ensures acts { HandlesProbes R.Shows R.members S.is_observable buffer.old.asked buffer.old.reported
             self.old self.new }

@@ -24,7 +24,7 @@ fn pauses<C: Clock>(pause: &mut SyncPause, tick_timer: &TickTimer<C>, group: &Gr
     if !group.needs_sync() {
         return false;
     }
-    let Some(time) = pause.next_pause(group.letters().len()) else {
+    let Some(time) = pause.next_pause(group.envelopes().len()) else {
         return false;
     };
     tick_timer.sleep(time);
@@ -84,7 +84,7 @@ pub(crate) fn receive_or_pause<S: DatagramSocket + Drop, C: Clock>(
 }
 
 impl<R: ServerReplica, S: DatagramSocket + Drop> Server<R, S> {
-    // Records how long the end of this group took since `began`, and how many letters it had, if it needed a sync.
+    // Records how long the end of this group took since `began`, and how many envelopes it had, if it needed a sync.
     // Later pauses depend on both. Contracts do not see pauses, so none sees a change here.
     pub(crate) fn note_sync<C: Clock>(
         &mut self,
@@ -95,8 +95,8 @@ impl<R: ServerReplica, S: DatagramSocket + Drop> Server<R, S> {
         ensures { self.new ≡ self.old }
     {
         if group.needs_sync() {
-            let letters = group.letters().len();
-            self.sync_pause.note(tick_timer.since(began), letters);
+            let envelopes = group.envelopes().len();
+            self.sync_pause.note(tick_timer.since(began), envelopes);
         }
     }
 }

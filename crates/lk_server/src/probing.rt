@@ -137,8 +137,8 @@ impl<R: ServerReplica, S: DatagramSocket + Drop> Server<R, S> {
         report.datagram()
     }
 
-    // Returns where the report that replies to a probe goes: to a member where its letters go, else to where the probe
-    // came from.
+    // Returns where the report that replies to a probe goes: to a member where its envelopes go, else to where the
+    // probe came from.
     fn address_for(&self, asked: &ReceivedProbe) -> SocketAddr
         ensures { (shown : ProbedStateValue) × R.Shows self.now.replica shown
             × IsReplyAddress self.now.addresses shown.members asked.now result }
@@ -147,7 +147,7 @@ impl<R: ServerReplica, S: DatagramSocket + Drop> Server<R, S> {
         self.post.reply_address(shown.members.as_slice(), asked)
     }
 
-    /// Sends the report that replies to a probe, if there is one: to a member where its letters go, else to where the
+    /// Sends the report that replies to a probe, if there is one: to a member where its envelopes go, else to where the
     /// probe came from. Reads the lock table's version first if that is unknown. A failed send is counted.
     pub fn report_to(&mut self, asked: &Option<ReceivedProbe>)
         ensures replies { RepliesToKept R.Shows S.is_observable asked.now self.old self.new }

@@ -35,8 +35,8 @@ impl<R: ServerReplica, S: DatagramSocket + Drop> Server<R, S> {
         }
     }
 
-    /// Takes over what the file of the hosts was found to say: from now on letters go there. A file that cannot be used
-    /// changes nothing. Logs what was found, if it is anything new, and records an event.
+    /// Takes over what the file of the hosts was found to say: from now on envelopes go there. A file that cannot be
+    /// used changes nothing. Logs what was found, if it is anything new, and records an event.
     pub fn take_hosts<L: Log>(&mut self, news: HostNews, log: &L)
         ensures { self.new ≡ record self.old {
           addresses = record self.old.addresses { hosts = hosts_after news self.old.addresses.hosts };

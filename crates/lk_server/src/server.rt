@@ -3,12 +3,13 @@
 ghost use Rattle.std.specs.Prelude.{◌≡◌, ℕ, List, ◌∷◌, [], None, true, false, OnOk, OnErr, IfOk, IfErr};
 ghost use Rattle.std.specs.declared.net.socket_addr.SocketAddr.{SocketAddr as Address};
 ghost use Rattle.lk_address_book.specs.Addresses.{filter_of, IsSameNetwork};
-ghost use Rattle.lk_server.specs.Gatherings.{Finds, DeliversAllLetters, SaysNothing};
+ghost use Rattle.lk_server.specs.Gatherings.{Finds, DeliversAllEnvelopes, SaysNothing};
 ghost use Rattle.lk_address_book.specs.Filters.{all_filtered};
 ghost use Rattle.lk_waiting.specs.Waits.{NotesChanges};
 ghost use Rattle.lk_transport.specs.Kept.{KeepsOf};
 ghost use Rattle.lk_server_replica.specs.Refusals.{IsOfGroups};
-ghost use Rattle.lk_server.specs.Servers.{DeliversLetters, DeliversNothing, HasHeardNobody, HasReceived, IsSameServer};
+ghost use Rattle.lk_server.specs.Servers.{DeliversEnvelopes, DeliversNothing, HasHeardNobody, HasReceived};
+ghost use Rattle.lk_server.specs.Servers.{IsSameServer};
 ghost use Rattle.lk_server.specs.Servers.{KeepsCounts, LastTurn};
 ghost use Rattle.lk_server.specs.StepNotes.{TurnsNotesOrKeeps};
 ghost use Rattle.lk_server.specs.Servers.{Runs, IsConfiguredAs, HasSocket, TurnOrIdle, Turn, one_more_tick};
@@ -46,7 +47,7 @@ pub struct Server<R: ServerReplica, S: DatagramSocket + Drop> {
     pub(crate) cluster: u64,
     pub(crate) pace: Pace,
     pub(crate) replica: R,
-    // it holds the letters of the node to itself that wait for a group
+    // it holds the envelopes of the node to itself that wait for a group
     pub(crate) post: SocketPost<S>,
     // datagrams taken so far, modulo 2^64
     pub(crate) received: u64,
@@ -187,10 +188,11 @@ impl<R: ServerReplica, S: DatagramSocket + Drop> Server<R, S> {
         self.replica.new_group(self.alloc)
     }
 
-    // Releases a group: after its sync each letter is sent, or kept if it is to the node itself. Logs their fate, and
+    // Ends a group: after its sync each envelope is sent, or kept if it is to the node itself. Logs their fate, and
     // counts failed sends. Returns whether none failed.
     fn sync_and_send<L: Log>(&mut self, group: &Group, log: &L) -> Result<bool, ReplicaFault>
-        ensures gives { OnOk result (DeliversAllLetters R.Says R.Gathers S.is_observable group.now self.old self.new) }
+        ensures gives { OnOk result (DeliversAllEnvelopes R.Says R.Gathers S.is_observable group.now
+            self.old self.new) }
         ensures silent { OnErr result (SaysNothing R.Says R.Gathers group.now self.old self.new) }
         ensures addresses { self.new.addresses ≡ self.old.addresses }
         ensures same { IsSameServer self.old self.new }
@@ -202,19 +204,21 @@ impl<R: ServerReplica, S: DatagramSocket + Drop> Server<R, S> {
         ensures unchanged { self.new.waiting ≡ self.old.waiting }
     {
         self.post.start_group();
-        let released = self.replica.release(group, &mut self.post);
+        let delivered = self.replica.sync_and_send(group, &mut self.post);
         self.post.end_group();
         self.events.sends = self.post.send_summary();
         self.unsent = self.unsent.saturating_add(self.events.sends.lost);
         log_sends(log, &self.events.sends, self.post.cause());
-        released
+        delivered
     }
 
-    // Ends a group: syncs, sends its letters, and logs its notes. A letter whose send fails is lost; that is no error.
+    // Ends a group: syncs, sends its envelopes, and logs its notes. An envelope whose send fails is lost; that is no
+    // error.
     fn end_group<L: Log>(&mut self, group: &Group, log: &L) -> Result<(), GroupFault>
-        // Each letter of the group was sent to its destination, kept for the node itself, or lost by a failed send, in
-        // order.
-        ensures gives { OnOk result (DeliversAllLetters R.Says R.Gathers S.is_observable group.now self.old self.new) }
+        // Each envelope of the group was sent to its destination, kept for the node itself, or lost by a failed send,
+        // in order.
+        ensures gives { OnOk result (DeliversAllEnvelopes R.Says R.Gathers S.is_observable group.now
+            self.old self.new) }
         // After an error nothing of the group is sent.
         ensures silent { OnErr result (SaysNothing R.Says R.Gathers group.now self.old self.new) }
         ensures addresses { self.new.addresses ≡ self.old.addresses }
@@ -239,9 +243,9 @@ impl<R: ServerReplica, S: DatagramSocket + Drop> Server<R, S> {
 
     /// Gives the replica a tick, as a group of its own.
     pub fn tick<L: Log>(&mut self, log: &L) -> Result<(), GroupFault>
-        // The replica took a tick and nothing else. Each of its letters was sent, kept, lost by a failed send, or
+        // The replica took a tick and nothing else. Each of its envelopes was sent, kept, lost by a failed send, or
         // dropped since no address is known for it, and nothing else was sent.
-        ensures hands_on { OnOk result (DeliversLetters R.Says S.is_observable
+        ensures hands_on { OnOk result (DeliversEnvelopes R.Says S.is_observable
             (None ∷ []) self.old.loopback self.old self.new) }
         ensures ends { OnErr result (DeliversNothing R.Says (None ∷ []) self.old.loopback self.old self.new) }
         ensures addresses { self.new.addresses ≡ self.old.addresses }
@@ -256,9 +260,9 @@ impl<R: ServerReplica, S: DatagramSocket + Drop> Server<R, S> {
         self.end_group(&group, log)
     }
 
-    /// Takes what is waiting as one group: the first letters of the node to itself, or else what arrives at the socket.
-    /// Returns whether its replica was given anything. Unlike `node_turn` it reads no clock, and adds no tick for time
-    /// that has passed.
+    /// Takes what is waiting as one group: the first envelopes of the node to itself, or else what arrives at the
+    /// socket. Returns whether its replica was given anything. Unlike `node_turn` it reads no clock, and adds no tick
+    /// for time that has passed.
     pub fn untimed_turn<L: Log>(
         &mut self,
         buffer: &mut ReceiveBuffer,
@@ -300,11 +304,11 @@ pub fn node_turn<R: ServerReplica, S: DatagramSocket + Drop, C: Clock, L: Log>(
     tick_timer: &mut TickTimer<C>,
     log: &L,
 ) -> Result<(), GroupFault>
-    // If letters of the node to itself wait, it takes the first 64 of them, once and in order, and nothing of the
+    // If envelopes of the node to itself wait, it takes the first 64 of them, once and in order, and nothing of the
     // socket. Otherwise it takes the frames that its receives find, at most 64, and at least one if the first receive
     // finds one: of each what it opens to, from where it came. No other frame is lost. The replica was given exactly
-    // that, as one group, and a tick if one was due. Each of its letters was sent, kept for the node itself, lost by a
-    // failed send, or dropped since no address is known, in order, and nothing else was sent. A turn that gives the
+    // that, as one group, and a tick if one was due. Each of its envelopes was sent, kept for the node itself, lost by
+    // a failed send, or dropped since no address is known, in order, and nothing else was sent. A turn that gives the
     // replica nothing is idle. Of the probes in these frames the first is kept, unless one was kept before.
     ensures turn { OnOk result
         ((frames : List (Address × List ℕ)) × HasReceived S.is_observable frames server.old server.new

@@ -86,16 +86,16 @@ impl<R: ServerReplica, S: DatagramSocket + Drop> Server<R, S> {
         ensures network { IsSameFilter self.old.addresses self.new.addresses }
         ensures others { self.new ≡ record self.old { addresses = self.new.addresses } }
     {
-        let came = self.post.record_sender(self.cluster, datagram, from);
-        if let Some(count) = self.ignored.count(&came, log) {
+        let arrival = self.post.record_sender(self.cluster, datagram, from);
+        if let Some(count) = self.ignored.count(&arrival, log) {
             self.events.foreign = Some(count);
         }
-        if let Some(unopened) = self.unopened_news(&came, from, frame) {
+        if let Some(unopened) = self.unopened_news(&arrival, from, frame) {
             self.unopened_warned = Some(self.now());
             self.events.unopened = Some(unopened);
             log_unopened(log, &unopened);
         }
-        came
+        arrival
     }
 
     // Opens the frame in the buffer, if there is one, and adds its datagram to the group. The buffer keeps the first
@@ -156,8 +156,8 @@ impl<R: ServerReplica, S: DatagramSocket + Drop> Server<R, S> {
             return Ok(TurnInput::Filtered);
         }
         let viewed = Datagram::of(datagram);
-        let came = self.record_sender(&viewed, from, frame, log);
-        self.add_datagram(viewed, &came, group, log)?;
+        let arrival = self.record_sender(&viewed, from, frame, log);
+        self.add_datagram(viewed, &arrival, group, log)?;
         Ok(TurnInput::Something)
     }
 
@@ -216,7 +216,7 @@ impl<R: ServerReplica, S: DatagramSocket + Drop> Server<R, S> {
         ensures others { ChangesAtSocket self.old self.new }
         ensures broken { OnErr result (self.new.failed ≡ true) }
     {
-        if group.letters().is_empty() {
+        if group.envelopes().is_empty() {
             return Ok(false);
         }
         self.receive_or_pause(buffer, tick_timer, group);

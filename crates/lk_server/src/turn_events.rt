@@ -10,7 +10,7 @@ use lk_server_replica::replica_status::ReplicaStatus;
 use lk_transport::post::SendSummary;
 use lk_transport::unopened::UnopenedFrame;
 use lk_types::{Executed, NodeNo};
-use lk_watch::{Letter, News, Watch};
+use lk_watch::{Envelope, News, Watch};
 
 /// What happened to a node in a turn that its state after the turn does not show.
 #[derive(Clone, Copy)]
@@ -50,15 +50,20 @@ impl TurnEvents {
     };
 
     /// Records the snapshot that the replica installed at this input, if it did and a node sent the input.
-    pub fn note_installed(&mut self, came: &Arrival, before: &ReplicaStatus, after: &ReplicaStatus)
+    pub fn note_installed(
+        &mut self,
+        arrival: &Arrival,
+        before: &ReplicaStatus,
+        after: &ReplicaStatus,
+    )
         // A snapshot of more positions than were executed before was installed, and the node that sent what came sent
         // the last part of it.
-        ensures installed { (n : ℕ) → sender came.now ≡ Some n → before.now.executed < after.now.snapshot
+        ensures installed { (n : ℕ) → sender arrival.now ≡ Some n → before.now.executed < after.now.snapshot
             → self.new ≡ record self.old { installed = Some (after.now.snapshot, n) } }
         ensures no_more { after.now.snapshot ≤ before.now.executed → self.new ≡ self.old }
-        ensures no_node { sender came.now ≡ None → self.new ≡ self.old }
+        ensures no_node { sender arrival.now ≡ None → self.new ≡ self.old }
     {
-        match came.node() {
+        match arrival.node() {
             Some(node) if after.snapshot.get() > before.executed.get() => {
                 self.installed = Some((after.snapshot, node));
             }
@@ -67,7 +72,7 @@ impl TurnEvents {
     }
 
     /// Records that the queue of those who wait is full, if the answer to a watch says that.
-    pub fn note_answer(&mut self, watch: &Watch, answer: &Letter)
+    pub fn note_answer(&mut self, watch: &Watch, answer: &Envelope)
         ensures { self.new ≡ record self.old {
           is_queue_full = self.old.is_queue_full || says_full watch.now answer.now;
         } }

@@ -16,14 +16,14 @@ impl<R: ServerReplica, S: DatagramSocket + Drop> Server<R, S> {
     // at most, whatever comes.
     pub(crate) fn unopened_news(
         &self,
-        came: &Arrival,
+        arrival: &Arrival,
         from: SocketAddr,
         frame: &[u8],
     ) -> Option<UnopenedFrame>
-        ensures read { came.now ≢ Bad → result ≡ None }
+        ensures read { arrival.now ≢ Bad → result ≡ None }
         ensures told { IfSome result (λ u. unopened self.now.addresses.seals from frame.now ≡ Some u) }
     {
-        match came {
+        match arrival {
             Arrival::Bad if self.is_minute_past(self.unopened_warned) => {
                 self.post.unopened(from, frame)
             }

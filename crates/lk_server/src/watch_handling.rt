@@ -2,7 +2,7 @@
 
 ghost use Rattle.std.specs.Prelude.{◌≡◌, ◌⊎◌, ◌≤◌, ◌++◌, [], length, None, true, false, IfSome, IsNone};
 ghost use Rattle.lk_waiting.specs.Waits.{HasNothingNew, NotesChanges, begun_at};
-ghost use Rattle.lk_watch.specs.Queues.{HearsOrNot, NoneDueBefore, TellsFirst, listed_letter, max_letters};
+ghost use Rattle.lk_watch.specs.Queues.{HearsOrNot, NoneDueBefore, TellsFirst, listed_envelope, max_envelopes};
 ghost use Rattle.lk_watch.specs.Seen.{seen_in, standing_by};
 ghost use Rattle.lk_watch.specs.Tables.{standing_in};
 ghost use Rattle.lk_transport.specs.Watches.{SendsNotice};
@@ -18,7 +18,7 @@ use lk_transport::received_watch::ReceivedWatch;
 use lk_transport::socket::DatagramSocket;
 use lk_waiting::Moment;
 use lk_watch::queue::MAX_LETTERS;
-use lk_watch::{Letter, SeenNames};
+use lk_watch::{Envelope, SeenNames};
 
 impl<R: ServerReplica, S: DatagramSocket + Drop> Server<R, S> {
     // Whether there is nothing to do: no watch is kept, and nobody waits.
@@ -96,8 +96,8 @@ impl<R: ServerReplica, S: DatagramSocket + Drop> Server<R, S> {
     }
 
     // Sends a notice. A failed send is counted.
-    fn send_notice(&mut self, letter: Letter)
-        ensures sends { SendsNotice S.is_observable self.old.addresses.seals self.old.node letter
+    fn send_notice(&mut self, envelope: Envelope)
+        ensures sends { SendsNotice S.is_observable self.old.addresses.seals self.old.node envelope
             (send_state_at self.old.loopback self.old) (send_state_at self.new.loopback self.new) }
         ensures still { S.is_observable → self.new.incoming ≡ self.old.incoming }
         ensures others { self.new
@@ -107,16 +107,16 @@ impl<R: ServerReplica, S: DatagramSocket + Drop> Server<R, S> {
               incoming = self.new.incoming;
             } }
     {
-        if self.post.send_notice(&letter).is_err() {
+        if self.post.send_notice(&envelope).is_err() {
             self.unsent = self.unsent.saturating_add(1);
         }
     }
 
-    // Hears a watch, by what the table says of its name. Returns the letter that answers it: none if it is ignored, or
-    // out of memory, when nothing changes.
-    fn hear_watch(&mut self, received: &ReceivedWatch, speaks: bool) -> Option<Letter>
+    // Hears a watch, by what the table says of its name. Returns the envelope that answers it: none if it is ignored,
+    // or out of memory, when nothing changes.
+    fn hear_watch(&mut self, received: &ReceivedWatch, speaks: bool) -> Option<Envelope>
         ensures hears { HearsOrNot (standing_in (R.table self.old.replica)) speaks received.now.watch received.now.from
-            self.old.waiting.queue (listed_letter result) self.new.waiting.queue }
+            self.old.waiting.queue (listed_envelope result) self.new.waiting.queue }
         ensures others { ChangesQueue self.old self.new }
     {
         let table = self.replica.table();
@@ -134,23 +134,23 @@ impl<R: ServerReplica, S: DatagramSocket + Drop> Server<R, S> {
         let Some(received) = watched else {
             return;
         };
-        if let Some(letter) = self.hear_watch(received, speaks) {
-            self.events.note_answer(&received.watch, &letter);
-            self.send_notice(letter);
+        if let Some(envelope) = self.hear_watch(received, speaks) {
+            self.events.note_answer(&received.watch, &envelope);
+            self.send_notice(envelope);
         }
     }
 
-    // Returns the letter to the next who is to be told, if there is one.
-    fn next_notice(&mut self, seen: &Option<SeenNames>) -> Option<Letter>
-        ensures some { IfSome result (λ letter. TellsFirst (standing_by (R.table self.old.replica) seen.now)
-            self.old.waiting.queue letter self.new.waiting.queue) }
+    // Returns the envelope to the next who is to be told, if there is one.
+    fn next_notice(&mut self, seen: &Option<SeenNames>) -> Option<Envelope>
+        ensures some { IfSome result (λ envelope. TellsFirst (standing_by (R.table self.old.replica) seen.now)
+            self.old.waiting.queue envelope self.new.waiting.queue) }
         ensures none { IsNone result → (self.old.waiting.queue.left ≡ 0)
             ⊎ NoneDueBefore (standing_by (R.table self.old.replica) seen.now) self.old.waiting.queue.waiters
             (length self.old.waiting.queue.waiters) }
         ensures unchanged { IsNone result → self.new ≡ self.old }
         ensures others { ChangesQueue self.old self.new }
     {
-        self.watches.next_letter(self.replica.table(), seen)
+        self.watches.next_envelope(self.replica.table(), seen)
     }
 
     // Tells the next who is to be told. Returns whether one was.
@@ -163,16 +163,16 @@ impl<R: ServerReplica, S: DatagramSocket + Drop> Server<R, S> {
         ensures still { S.is_observable → self.new.incoming ≡ self.old.incoming }
         ensures others { ChangesByNotices self.old self.new }
     {
-        let Some(letter) = self.next_notice(seen) else {
+        let Some(envelope) = self.next_notice(seen) else {
             return false;
         };
-        self.send_notice(letter);
+        self.send_notice(envelope);
         true
     }
 
-    // Shows the prover that the queue has 64 letters at most. Does nothing at run time.
+    // Shows the prover that the queue has 64 envelopes at most. Does nothing at run time.
     fn queue_facts(&self)
-        ensures { self.now.waiting.queue.left ≤ max_letters }
+        ensures { self.now.waiting.queue.left ≤ max_envelopes }
     {
         self.watches.facts();
     }
@@ -185,14 +185,14 @@ impl<R: ServerReplica, S: DatagramSocket + Drop> Server<R, S> {
         ensures others { ChangesByNotices self.old self.new }
     {
         self.queue_facts();
-        'letters: for _ in 0..MAX_LETTERS {
+        'envelopes: for _ in 0..MAX_LETTERS {
             if !self.tell_next(seen) {
                 return;
             }
         }
     }
 
-    /// Handles watches after the letters of a turn. It hears and answers the watch that the buffer keeps, and tells
+    /// Handles watches after the envelopes of a turn. It hears and answers the watch that the buffer keeps, and tells
     /// those who wait for a name that is free, in order of arrival, if it speaks for the cluster: it leads, and hears a
     /// majority of the members. Without a watch, and if nobody waits or nothing is new, it does nothing. Where no
     /// period has passed it looks only at the names of executed commands and of the watch. A failed send is counted.

@@ -69,15 +69,15 @@ fn log_begun<L: Log>(log: &L, term: RealBallot) {
 }
 
 // Logs that a term has ended, and at which input.
-fn log_ended<L: Log>(log: &L, came: &Arrival, term: RealBallot) {
+fn log_ended<L: Log>(log: &L, arrival: &Arrival, term: RealBallot) {
     let ballot = term.get();
-    debug!(log; "term {}.{} ended by {came}", ballot.round(), ballot.node());
+    debug!(log; "term {}.{} ended by {arrival}", ballot.round(), ballot.node());
 }
 
 // Logs which term has ended and which has begun, if the term is another one.
 fn log_term<L: Log>(
     log: &L,
-    came: &Arrival,
+    arrival: &Arrival,
     before: Option<RealBallot>,
     after: Option<RealBallot>,
 ) {
@@ -85,7 +85,7 @@ fn log_term<L: Log>(
         return;
     }
     if let Some(term) = before {
-        log_ended(log, came, term);
+        log_ended(log, arrival, term);
     }
     if let Some(term) = after {
         log_begun(log, term);
@@ -115,15 +115,20 @@ fn log_store<L: Log>(log: &L, before: &ReplicaStatus, after: &ReplicaStatus) {
 }
 
 /// Logs what an input has changed.
-pub fn log_changes<L: Log>(log: &L, came: &Arrival, before: &ReplicaStatus, after: &ReplicaStatus) {
-    log_term(log, came, before.term, after.term);
+pub fn log_changes<L: Log>(
+    log: &L,
+    arrival: &Arrival,
+    before: &ReplicaStatus,
+    after: &ReplicaStatus,
+) {
+    log_term(log, arrival, before.term, after.term);
     log_known(log, before.known, after.known);
     log_store(log, before, after);
 }
 
 /// Logs how many datagrams the replica produced at another node's Want, if that is what came.
-pub fn log_catch_up<L: Log>(log: &L, came: &Arrival, said: usize) {
-    if let Arrival::Want(node) = came {
+pub fn log_catch_up<L: Log>(log: &L, arrival: &Arrival, said: usize) {
+    if let Arrival::Want(node) = arrival {
         debug!(log; "datagrams for the Want of node {}: {said}", node.get());
     }
 }
@@ -144,7 +149,7 @@ fn log_lost<L: Log>(log: &L, lost: u64, cause: Option<io::Error>) {
     }
 }
 
-/// Logs the Want among a turn's letters, and the sends that failed.
+/// Logs the Want among a turn's envelopes, and the sends that failed.
 pub fn log_sends<L: Log>(log: &L, sends: &SendSummary, cause: Option<io::Error>) {
     log_wants(log, sends);
     log_lost(log, sends.lost, cause);

@@ -13,7 +13,7 @@ use Rattle.lk_log.specs.StoreValue.{StoreValue, disks}
 use Rattle.lk_log.proofs.Room.{within_same, within_more, within_still, within_first}
 use Rattle.lk_state.specs.Meanings.{Meaning}
 use Rattle.lk_agreement_laws.specs.Datagrams.{NodeMessage, said_by}
-use Rattle.lk_node_interface.specs.Letters.{LetterValue, batch_of}
+use Rattle.lk_node_interface.specs.Envelopes.{EnvelopeValue, batch_of}
 use Rattle.lk_node_interface.specs.declared.input.Input.{Input}
 use Rattle.lk_node_interface.specs.declared.note.Note.{Note}
 use Rattle.lk_node.specs.Calls.{heard_by, InputFits, NodeFits, LeavesFit}
@@ -22,12 +22,12 @@ use Rattle.lk_node.specs.Keeping.{ReplicaHolds}
 use Rattle.lk_node.specs.Leavings.{AllCover}
 use Rattle.lk_node.specs.NodeValue.{NodeValue}
 use Rattle.lk_node_interface.specs.Faults.{fault_number, IsNumberOfCalls}
-use Rattle.lk_replica.specs.Groups.{Adds, GroupValue, StepSaid, letters_of, KeepsGroup, LeavesInGroup, MakesRoom}
+use Rattle.lk_replica.specs.Groups.{Adds, GroupValue, StepSaid, envelopes_of, KeepsGroup, LeavesInGroup, MakesRoom}
 use Rattle.lk_replica.specs.Groups.{IsGathered, IsGroupSynced, IsRefusedInGroup, GoesThrough}
 use Rattle.lk_replica.specs.Groups.{IsGroupCovered, RemembersInGroup}
-use Rattle.lk_replica.specs.Groups.{as_released, empty_group}
+use Rattle.lk_replica.specs.Groups.{synced_if, empty_group}
 use Rattle.lk_replica.specs.Groups.{with_step}
-use Rattle.lk_replica.specs.Posts.{AreOf, GivesLetters, IsDelivered, TellsSends}
+use Rattle.lk_replica.specs.Posts.{AreOf, GivesEnvelopes, IsDelivered, TellsSends}
 use Rattle.lk_replica.specs.ReplicaValue.{ReplicaValue}
 use Rattle.lk_recovery.specs.Rooms.{GrowsFromBase, GrowsBySteps}
 use Rattle.lk_node_interface.specs.declared.fault.ReplicaFault.{ReplicaFault}
@@ -42,13 +42,13 @@ all_parts : {X : Type 0} (P : X → Type 0) (xs ys : List X) → AllByRecursion 
 all_parts P [] ys all = (tt, all)
 all_parts P (x ∷ xs) ys all = let rest = all_parts P xs ys all.1 in ((all.0, rest.0), rest.1)
 
--- the letters of one more step
-said_more : (said : List StepSaid) (notes : List Note) (letters : List LetterValue)
-    → letters_of (said ++ (notes, letters) ∷ []) ≡ letters_of said ++ letters
-said_more [] notes letters = append-nil letters
-said_more (x ∷ said) notes letters =
-    ap (λ (l : List LetterValue). x.1 ++ l) (said_more said notes letters)
-    ∙ sym (append_assoc x.1 (letters_of said) letters)
+-- the envelopes of one more step
+said_more : (said : List StepSaid) (notes : List Note) (envelopes : List EnvelopeValue)
+    → envelopes_of (said ++ (notes, envelopes) ∷ []) ≡ envelopes_of said ++ envelopes
+said_more [] notes envelopes = append-nil envelopes
+said_more (x ∷ said) notes envelopes =
+    ap (λ (l : List EnvelopeValue). x.1 ++ l) (said_more said notes envelopes)
+    ∙ sym (append_assoc x.1 (envelopes_of said) envelopes)
 
 -- one more input of a group
 gathered_more : (m : Meaning) (IsText : List ℕ → Type 0) (Metered : Type 0) (node : NodeValue) (store : StoreValue)
@@ -58,7 +58,7 @@ gathered_more : (m : Meaning) (IsText : List ℕ → Type 0) (Metered : Type 0) 
     → AreGathered m IsText Metered node store group inputs said mid between gathered
     → (e : IsGathered m IsText Metered mid between gathered i new after now)
     → AreGathered m IsText Metered node store group (inputs ++ i ∷ [])
-    (said ++ (e.out.notes, e.out.letters) ∷ []) new after now
+    (said ++ (e.out.notes, e.out.envelopes) ∷ []) new after now
 gathered_more m IsText Metered node store group [] said mid between gathered i new after now all e =
     let room : MakesRoom Metered node store group.needs_sync e.mid e.between e.needs_sync =
     subst (λ (x : GroupValue). MakesRoom Metered node store x.needs_sync e.mid e.between e.needs_sync) all.3
@@ -79,7 +79,7 @@ gathered_more m IsText Metered node store group [] said mid between gathered i n
       now,
       first,
       [],
-      ap (λ (l : List StepSaid). l ++ (e.out.notes, e.out.letters) ∷ []) all.0,
+      ap (λ (l : List StepSaid). l ++ (e.out.notes, e.out.envelopes) ∷ []) all.0,
       (refl, refl, refl, refl),
     )
 gathered_more m IsText Metered node store group (j ∷ inputs) said mid between gathered i new after now all e = (
@@ -87,8 +87,8 @@ gathered_more m IsText Metered node store group (j ∷ inputs) said mid between 
   all.1,
   all.2,
   all.3,
-  all.4 ++ (e.out.notes, e.out.letters) ∷ [],
-  ap (λ (l : List StepSaid). l ++ (e.out.notes, e.out.letters) ∷ []) all.5,
+  all.4 ++ (e.out.notes, e.out.envelopes) ∷ [],
+  ap (λ (l : List StepSaid). l ++ (e.out.notes, e.out.envelopes) ∷ []) all.5,
   gathered_more m IsText Metered all.0 all.1 all.2 inputs all.4 mid between gathered i new after now all.6 e,
 )
 
@@ -125,8 +125,8 @@ no_ok x e = cc e
 
 module _ (m : Meaning) (IsText : List ℕ → Type 0) (Honest Metered : Type 0) where
   -- what a group says, and what it gathers, on a device
-  abbrev Said : ReplicaValue → List (Option (List ℕ)) → List LetterValue → ReplicaValue → Type 0
-  Said old given letters new = Honest → SaysOf m IsText Metered old given letters new
+  abbrev Said : ReplicaValue → List (Option (List ℕ)) → List EnvelopeValue → ReplicaValue → Type 0
+  Said old given envelopes new = Honest → SaysOf m IsText Metered old given envelopes new
 
   abbrev Gathered : ReplicaValue → List (Option (List ℕ)) → GroupValue → ReplicaValue → Type 0
   Gathered first given group now = Honest → GathersOf m IsText Metered first given group now
@@ -177,25 +177,25 @@ module _ (m : Meaning) (IsText : List ℕ → Type 0) (Honest Metered : Type 0) 
     given_more =
         map-append heard_by g.inputs (i ∷ []) ∙ ap (λ (l : List (Option (List ℕ))). l ++ heard_by i ∷ []) g.are_given
 
-    -- what the step says of its notes and letters
-    abbrev Links : List Note → List LetterValue → Type 0
-    Links notes letters = (genesis : Genesis) (k : ℕ) → RemembersInGroup old.node old.store group.needs_sync genesis k
+    -- what the step says of its notes and envelopes
+    abbrev Links : List Note → List EnvelopeValue → Type 0
+    Links notes envelopes = (genesis : Genesis) (k : ℕ) → RemembersInGroup old.node old.store group.needs_sync genesis k
         → (h : History) (n : ℕ) → NodeFits m h n (ReplicaHolds m old.node
-        (as_released group.needs_sync old.store) h.genesis n)
-        (disks (as_released group.needs_sync old.store)) → InputFits h i
-        → (sent : List LetterValue) → AreOf sent letters
-        → LeavesFit m h n (ReplicaHolds m new.node (as_released now.needs_sync new.store) h.genesis n)
-        (disks (as_released now.needs_sync new.store)) notes (batch_of n sent)
+        (synced_if group.needs_sync old.store) h.genesis n)
+        (disks (synced_if group.needs_sync old.store)) → InputFits h i
+        → (sent : List EnvelopeValue) → AreOf sent envelopes
+        → LeavesFit m h n (ReplicaHolds m new.node (synced_if now.needs_sync new.store) h.genesis n)
+        (disks (synced_if now.needs_sync new.store)) notes (batch_of n sent)
 
     -- they are those of its outbox
     links_of : Adds group now Links
         → (e : IsGathered m IsText Metered old.node old.store group i new.node new.store now)
-        → Links e.out.notes e.out.letters
+        → Links e.out.notes e.out.envelopes
     links_of a e =
         subst₂ Links (append_cancel_left group.notes a.notes e.out.notes
         (sym a.noted ∙ ap (λ (x : GroupValue). x.notes) e.adds))
-        (append_cancel_left group.letters a.letters e.out.letters
-        (sym a.said ∙ ap (λ (x : GroupValue). x.letters) e.adds)) a.are
+        (append_cancel_left group.envelopes a.envelopes e.out.envelopes
+        (sym a.said ∙ ap (λ (x : GroupValue). x.envelopes) e.adds)) a.are
 
     gathers_one : Adds group now Links
         → KeepsGroup m (λ h. InputFits h i) old.node old.store group new.node new.store now
@@ -207,20 +207,20 @@ module _ (m : Meaning) (IsText : List ℕ → Type 0) (Honest Metered : Type 0) 
     gathers_one a keeps leaves grows e up lives = record {
       inputs = g.inputs ++ i ∷ [];
       are_given = given_more;
-      said = g.said ++ (e.out.notes, e.out.letters) ∷ [];
-      are_said = ap (λ (x : GroupValue). x.letters) e.adds
-          ∙ ap (λ (l : List LetterValue). l ++ e.out.letters) g.are_said
-          ∙ sym (said_more g.said e.out.notes e.out.letters);
+      said = g.said ++ (e.out.notes, e.out.envelopes) ∷ [];
+      are_said = ap (λ (x : GroupValue). x.envelopes) e.adds
+          ∙ ap (λ (l : List EnvelopeValue). l ++ e.out.envelopes) g.are_said
+          ∙ sym (said_more g.said e.out.notes e.out.envelopes);
       steps = gathered_more m IsText Metered first.node first.store empty_group g.inputs g.said old.node old.store
           group i new.node new.store now g.steps e;
       goes = λ genesis k remembers n more q rest goes.
           subst₂ (λ (is : List Input) (l : List StepSaid). GoesThrough m n first is q l)
           (sym (append_assoc g.inputs (i ∷ []) more))
-          (sym (append_assoc g.said ((e.out.notes, e.out.letters) ∷ []) rest))
-          (g.goes genesis k remembers n (i ∷ more) q ((e.out.notes, e.out.letters) ∷ rest) (
-            record { node = new.node; store = as_released now.needs_sync new.store; failed = false },
+          (sym (append_assoc g.said ((e.out.notes, e.out.envelopes) ∷ []) rest))
+          (g.goes genesis k remembers n (i ∷ more) q ((e.out.notes, e.out.envelopes) ∷ rest) (
+            record { node = new.node; store = synced_if now.needs_sync new.store; failed = false },
             e.out.notes,
-            e.out.letters,
+            e.out.envelopes,
             rest,
             refl,
             λ h f heard sent among. links_of a e genesis k (g.recalls genesis k remembers).0 h n f heard sent among,
@@ -259,16 +259,16 @@ module _ (m : Meaning) (IsText : List ℕ → Type 0) (Honest Metered : Type 0) 
     }
 
   module _ (old new : ReplicaValue) (group now : GroupValue) (i : Input) where
-    -- what a call of `gather` tells
+    -- what a call of `add_step` tells
     pub gathers_of : {T : Type 0} (r : Result T ReplicaFault)
         → (Honest → OnOk r (Adds group now
-        (λ notes letters. (genesis : Genesis) (k : ℕ) → RemembersInGroup old.node old.store group.needs_sync genesis k
+        (λ notes envelopes. (genesis : Genesis) (k : ℕ) → RemembersInGroup old.node old.store group.needs_sync genesis k
         → (h : History) (n : ℕ) → NodeFits m h n (ReplicaHolds m old.node
-        (as_released group.needs_sync old.store) h.genesis n)
-        (disks (as_released group.needs_sync old.store)) → InputFits h i
-        → (sent : List LetterValue) → AreOf sent letters
-        → LeavesFit m h n (ReplicaHolds m new.node (as_released now.needs_sync new.store) h.genesis n)
-        (disks (as_released now.needs_sync new.store)) notes (batch_of n sent))))
+        (synced_if group.needs_sync old.store) h.genesis n)
+        (disks (synced_if group.needs_sync old.store)) → InputFits h i
+        → (sent : List EnvelopeValue) → AreOf sent envelopes
+        → LeavesFit m h n (ReplicaHolds m new.node (synced_if now.needs_sync new.store) h.genesis n)
+        (disks (synced_if now.needs_sync new.store)) notes (batch_of n sent))))
         → (Honest → OnOk r (KeepsGroup m (λ h. InputFits h i) old.node old.store group new.node new.store now))
         → (Honest → LeavesInGroup m (λ h. InputFits h i) 132704 old.node old.store group.needs_sync (disks new.store))
         → (Honest → GrowsFromBase (disks old.store) (disks new.store))
@@ -295,7 +295,7 @@ module _ (m : Meaning) (IsText : List ℕ → Type 0) (Honest Metered : Type 0) 
 
   -- ---- the end of a group
 
-  module _ {P : Type 0} (Carries : P → LetterValue → Bool → P → Type 0) (old new : ReplicaValue)
+  module _ {P : Type 0} (Carries : P → EnvelopeValue → Bool → P → Type 0) (old new : ReplicaValue)
       (group : GroupValue) (before after : P) where
     so_leaves : (first : ReplicaValue) (given : List (Option (List ℕ)))
         (g : GathersOf m IsText Metered first given group old)
@@ -314,17 +314,17 @@ module _ (m : Meaning) (IsText : List ℕ → Type 0) (Honest Metered : Type 0) 
         → GathersOf m IsText Metered first given group old
         → ((genesis : Genesis) (k : ℕ) → RemembersInGroup old.node old.store group.needs_sync genesis k
         → (h : History) (n : ℕ)
-        → NodeFits m h n (ReplicaHolds m old.node (as_released group.needs_sync old.store) h.genesis n)
-        (disks (as_released group.needs_sync old.store))
+        → NodeFits m h n (ReplicaHolds m old.node (synced_if group.needs_sync old.store) h.genesis n)
+        (disks (synced_if group.needs_sync old.store))
         → NodeFits m h n (ReplicaHolds m new.node new.store h.genesis n) (disks new.store))
         → LeavesInGroup m (λ h. ⊤) 0 old.node old.store group.needs_sync (disks new.store)
         → ((genesis : Genesis) (n : ℕ) (x : NodeMessage)
         → RemembersInGroup old.node old.store group.needs_sync genesis n
         → IsGroupCovered m genesis n group old.store
-        → (d : Datagram) → Contains (batch_of n group.letters) d → Spells (said_by genesis n x) d.bytes
+        → (d : Datagram) → Contains (batch_of n group.envelopes) d → Spells (said_by genesis n x) d.bytes
         → AllCover m genesis n (disks new.store) x)
         → IsGroupSynced Metered old group.needs_sync new → new.failed ≡ false
-        → SaysOf m IsText Metered first given group.letters new
+        → SaysOf m IsText Metered first given group.envelopes new
     says_all first given g fits leaves syncs is_synced alive = record {
       inputs = g.inputs;
       are_given = g.are_given;
@@ -375,44 +375,44 @@ module _ (m : Meaning) (IsText : List ℕ → Type 0) (Honest Metered : Type 0) 
       once = λ was. (refused.once (ap (λ (r : ReplicaValue). r.failed) (g.once was) ∙ was)).1 ∙ g.once was;
     }
 
-    -- what a call of `release` tells
-    pub released_of : (sent : P → List LetterValue) (failures : P → ℕ) (Observable : Type 0)
+    -- what a call of `sync_and_send` tells
+    pub synced_of : (sent : P → List EnvelopeValue) (failures : P → ℕ) (Observable : Type 0)
         (r : Result Bool ReplicaFault)
         → (Honest → (genesis : Genesis) (k : ℕ) → RemembersInGroup old.node old.store group.needs_sync genesis k
         → (h : History) (n : ℕ) → NodeFits m h n (ReplicaHolds m old.node
-        (as_released group.needs_sync old.store) h.genesis n)
-        (disks (as_released group.needs_sync old.store))
+        (synced_if group.needs_sync old.store) h.genesis n)
+        (disks (synced_if group.needs_sync old.store))
         → IfOk r (λ all. NodeFits m h n (ReplicaHolds m new.node new.store h.genesis n) (disks new.store)))
         → (Honest → LeavesInGroup m (λ h. ⊤) 0 old.node old.store group.needs_sync (disks new.store))
         → (Honest → (genesis : Genesis) (n : ℕ) (x : NodeMessage)
         → RemembersInGroup old.node old.store group.needs_sync genesis n → IsGroupCovered m genesis n group old.store
-        → IfOk r (λ all. (d : Datagram) → Contains (batch_of n group.letters) d → Spells (said_by genesis n x) d.bytes
+        → IfOk r (λ all. (d : Datagram) → Contains (batch_of n group.envelopes) d → Spells (said_by genesis n x) d.bytes
         → AllCover m genesis n (disks new.store) x))
-        → IfOk r (λ all. IsDelivered Carries sent failures Observable group.letters all before after)
+        → IfOk r (λ all. IsDelivered Carries sent failures Observable group.envelopes all before after)
         → (Honest → OnOk r (IsGroupSynced Metered old group.needs_sync new)) → OnOk r (new.failed ≡ false)
-        → OnOk r (GivesLetters Carries before after
-        (λ letters. (first : ReplicaValue) (given : List (Option (List ℕ))) → Gathered first given group old
-        → Said first given letters new))
-    released_of sent failures Observable (Ok all) fits leaves syncs delivers exact alive = record {
-      letters = group.letters;
+        → OnOk r (GivesEnvelopes Carries before after
+        (λ envelopes. (first : ReplicaValue) (given : List (Option (List ℕ))) → Gathered first given group old
+        → Said first given envelopes new))
+    synced_of sent failures Observable (Ok all) fits leaves syncs delivers exact alive = record {
+      envelopes = group.envelopes;
       carried = delivers.carried;
       holds = λ first given was honest. says_all first given (was honest) (fits honest) (leaves honest)
           (syncs honest) (exact honest) alive;
     }
-    released_of sent failures Observable (Err e) fits leaves syncs delivers exact alive = tt
+    synced_of sent failures Observable (Err e) fits leaves syncs delivers exact alive = tt
 
-    pub tells_of : (sent : P → List LetterValue) (failures : P → ℕ) (Observable : Type 0)
+    pub tells_of : (sent : P → List EnvelopeValue) (failures : P → ℕ) (Observable : Type 0)
         (r : Result Bool ReplicaFault)
-        → IfOk r (λ all. IsDelivered Carries sent failures Observable group.letters all before after)
+        → IfOk r (λ all. IsDelivered Carries sent failures Observable group.envelopes all before after)
         → IfOk r (λ all. TellsSends all (failures before) (failures after))
     tells_of sent failures Observable (Ok all) delivers = delivers.tells
     tells_of sent failures Observable (Err e) delivers = tt
 
-    pub unreleased_of : (r : Result Bool ReplicaFault)
+    pub unsynced_of : (r : Result Bool ReplicaFault)
         → IfErr r (λ e. IsRefusedInGroup Honest Metered old new (fault_number e))
         → (Honest → LeavesInGroup m (λ h. ⊤) 0 old.node old.store group.needs_sync (disks new.store))
         → OnErr r ((first : ReplicaValue) (given : List (Option (List ℕ))) → Gathered first given group old
         → Said first given [] new)
-    unreleased_of (Ok all) refused leaves = tt
-    unreleased_of (Err e) refused leaves =
+    unsynced_of (Ok all) refused leaves = tt
+    unsynced_of (Err e) refused leaves =
         λ first given was honest. says_none first given (was honest) (fault_number e) refused (leaves honest)

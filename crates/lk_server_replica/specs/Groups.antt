@@ -1,11 +1,11 @@
 -- How a replica takes a group: what it has taken of it so far, and what it says at its end.
 use Rattle.std.specs.Prelude.{ℕ, List, [], ◌++◌, Option}
-use Rattle.lk_node_interface.specs.Letters.{LetterValue}
+use Rattle.lk_node_interface.specs.Envelopes.{EnvelopeValue}
 use Rattle.lk_replica.specs.Groups.{GroupValue}
 
--- the type of `Says`: the replica before a group, its input, the letters that it produces, and the replica after
+-- the type of `Says`: the replica before a group, its input, the envelopes that it produces, and the replica after
 abbrev pub Sayings : Type 0 → Type 1
-Sayings R = R → List (Option (List ℕ)) → List LetterValue → R → Type 0
+Sayings R = R → List (Option (List ℕ)) → List EnvelopeValue → R → Type 0
 
 -- the type of `Gathers`: the replica when the group began, its input since, the group so far, and the replica now
 abbrev pub Gatherings : Type 0 → Type 1

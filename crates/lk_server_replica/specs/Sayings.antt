@@ -1,4 +1,4 @@
--- The letters of a replica for the input of a group: it takes all of it, one after another, and syncs once, before it
+-- The envelopes of a replica for the input of a group: it takes all of it, one after another, and syncs once, before it
 -- sends anything.
 use Rattle.std.specs.Prelude.{◌≡◌, ◌≢◌, ◌⊎◌, ℕ, true, false, List, [], ◌∷◌, ◌++◌, length, map, Option, Contains}
 use Rattle.std.specs.List.{AllByRecursion}
@@ -10,16 +10,16 @@ use Rattle.lk_state.specs.Meanings.{Meaning}
 use Rattle.lk_agreement_laws.specs.Datagrams.{NodeMessage, said_by}
 use Rattle.lk_log.specs.Rooms.{StaysWithin}
 use Rattle.lk_log.specs.StoreValue.{StoreValue, disks}
-use Rattle.lk_node_interface.specs.Letters.{LetterValue, batch_of}
+use Rattle.lk_node_interface.specs.Envelopes.{EnvelopeValue, batch_of}
 use Rattle.lk_node_interface.specs.declared.input.Input.{Input}
 use Rattle.lk_node.specs.Calls.{heard_by, InputFits, NodeFits}
 use Rattle.lk_node.specs.Histories.{History, Genesis, Datagram}
 use Rattle.lk_node.specs.Keeping.{ReplicaHolds}
 use Rattle.lk_node.specs.Leavings.{DisksFit, AllCover}
 use Rattle.lk_node.specs.NodeValue.{NodeValue}
-use Rattle.lk_replica.specs.Groups.{GroupValue, StepSaid, letters_of, IsGathered, GoesThrough, empty_group}
+use Rattle.lk_replica.specs.Groups.{GroupValue, StepSaid, envelopes_of, IsGathered, GoesThrough, empty_group}
 use Rattle.lk_replica.specs.Groups.{GroupStays, IsGroupCovered}
-use Rattle.lk_replica.specs.Groups.{RemembersInGroup, SyncsIfNeeded, as_released, sync_calls}
+use Rattle.lk_replica.specs.Groups.{RemembersInGroup, SyncsIfNeeded, synced_if, sync_calls}
 use Rattle.lk_recovery.specs.Remembering.{ReplicaRemembers}
 use Rattle.lk_replica.specs.ReplicaValue.{ReplicaValue}
 use Rattle.lk_recovery.specs.Rooms.{GrowsBySteps, max_after}
@@ -33,10 +33,10 @@ AreGathered m IsText Metered node store group [] said new after now =
 AreGathered m IsText Metered node store group (i ∷ inputs) said new after now =
     (mid : NodeValue) × (between : StoreValue) × (gathered : GroupValue)
     × (taken : IsGathered m IsText Metered node store group i mid between gathered)
-    × (rest : List StepSaid) × (said ≡ (taken.out.notes, taken.out.letters) ∷ rest)
+    × (rest : List StepSaid) × (said ≡ (taken.out.notes, taken.out.envelopes) ∷ rest)
     × AreGathered m IsText Metered mid between gathered inputs rest new after now
 
--- a replica has taken these inputs as one group, one after another, each with these notes and letters; then it has
+-- a replica has taken these inputs as one group, one after another, each with these notes and envelopes; then it has
 -- synced once what waited for that, and has done nothing else. It goes on
 pub record IsGroupTaken (m : Meaning) (IsText : List ℕ → Type 0) (Metered : Type 0) (old : ReplicaValue)
     (inputs : List Input) (said : List StepSaid) (new : ReplicaValue) : Type 0 where
@@ -51,25 +51,25 @@ pub record IsGroupTaken (m : Meaning) (IsText : List ℕ → Type 0) (Metered : 
   pub store_alive : inputs ≢ [] → new.store.failed ≡ false
   pub awake : inputs ≢ [] → new.node.halted ≡ false
 
--- a replica has taken its input as a group, and these are the letters of the steps. Each step is permitted its notes
--- and letters by what the replica then holds, once the letters of the earlier steps are sent; and every image that a
--- stop may leave covers all of them: they were synced before they were sent
+-- a replica has taken its input as a group, and these are the envelopes of the steps. Each step is permitted its notes
+-- and envelopes by what the replica then holds, once the envelopes of the earlier steps are sent; and every image that
+-- a stop may leave covers all of them: they were synced before they were sent
 pub record SaysByGroup (m : Meaning) (IsText : List ℕ → Type 0) (Metered : Type 0) (old : ReplicaValue)
-    (given : List (Option (List ℕ))) (letters : List LetterValue) (new : ReplicaValue) : Type 0 where
+    (given : List (Option (List ℕ))) (envelopes : List EnvelopeValue) (new : ReplicaValue) : Type 0 where
   pub inputs : List Input
   pub are_given : map heard_by inputs ≡ given
   pub said : List StepSaid
-  pub are_said : letters ≡ letters_of said
+  pub are_said : envelopes ≡ envelopes_of said
   pub taken : IsGroupTaken m IsText Metered old inputs said new
   pub goes : (genesis : Genesis) (k : ℕ) → ReplicaRemembers old.node old.store genesis k → (n : ℕ)
       → GoesThrough m n old inputs new said
   pub syncs : (genesis : Genesis) (n : ℕ) (x : NodeMessage) → ReplicaRemembers old.node old.store genesis n
-      → (d : Datagram) → Contains (batch_of n letters) d → Spells (said_by genesis n x) d.bytes
+      → (d : Datagram) → Contains (batch_of n envelopes) d → Spells (said_by genesis n x) d.bytes
       → AllCover m genesis n (disks new.store) x
 
 -- the group was rejected: it sends nothing, and the replica has ended
-pub record IsSilenced (letters : List LetterValue) (new : ReplicaValue) : Type 0 where
-  pub none : letters ≡ []
+pub record IsSilenced (envelopes : List EnvelopeValue) (new : ReplicaValue) : Type 0 where
+  pub none : envelopes ≡ []
   pub ended : new.failed ≡ true
 
 -- what a group leaves on the disks, however it ends: where the history has all that it was given, each image that a
@@ -88,10 +88,10 @@ pub record GroupLeaves (m : Meaning) (Heard : History → Type 0) (most steps : 
 -- of the disks fits, covers what every image covered before, and is not long. A replica that a call has ended does not
 -- change
 pub record SaysOf (m : Meaning) (IsText : List ℕ → Type 0) (Metered : Type 0) (old : ReplicaValue)
-    (given : List (Option (List ℕ))) (letters : List LetterValue) (new : ReplicaValue) : Type 0 where
+    (given : List (Option (List ℕ))) (envelopes : List EnvelopeValue) (new : ReplicaValue) : Type 0 where
   pub inputs : List Input
   pub are_given : map heard_by inputs ≡ given
-  pub comes : SaysByGroup m IsText Metered old given letters new ⊎ IsSilenced letters new
+  pub comes : SaysByGroup m IsText Metered old given envelopes new ⊎ IsSilenced envelopes new
   pub leaves : GroupLeaves m (λ h. AllByRecursion (InputFits h) inputs) max_after
       (length inputs) old.node old.store (disks new.store)
   pub once : old.failed ≡ true → new ≡ old
@@ -106,11 +106,11 @@ pub record GathersOf (m : Meaning) (IsText : List ℕ → Type 0) (Metered : Typ
   pub inputs : List Input
   pub are_given : map heard_by inputs ≡ given
   pub said : List StepSaid
-  pub are_said : group.letters ≡ letters_of said
+  pub are_said : group.envelopes ≡ envelopes_of said
   pub steps : AreGathered m IsText Metered start.node start.store empty_group inputs said now.node now.store group
   pub goes : (genesis : Genesis) (k : ℕ) → ReplicaRemembers start.node start.store genesis k
       → (n : ℕ) (more : List Input) (q : ReplicaValue) (rest : List StepSaid)
-      → GoesThrough m n (record { node = now.node; store = as_released group.needs_sync now.store; failed = false })
+      → GoesThrough m n (record { node = now.node; store = synced_if group.needs_sync now.store; failed = false })
       more q
       rest → GoesThrough m n start (inputs ++ more) q (said ++ rest)
   pub recalls : (genesis : Genesis) (n : ℕ) → ReplicaRemembers start.node start.store genesis n

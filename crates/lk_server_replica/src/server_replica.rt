@@ -1,13 +1,13 @@
 //! The interface by which a server runs a replica.
 
 ghost use Rattle.std.specs.Prelude.{◌≡◌, ℕ, List, [], ◌∷◌, Option, Bool, true, false, IfOk, OnOk, OnErr, IfErr, IfSome};
-ghost use Rattle.lk_node_interface.specs.Letters.{LetterValue};
+ghost use Rattle.lk_node_interface.specs.Envelopes.{EnvelopeValue};
 ghost use Rattle.lk_node.specs.Calls.{heard_by};
 ghost use Rattle.lk_node_interface.specs.declared.input.Input.{Input as InputValue};
 ghost use Rattle.lk_locks.specs.Plain.{Table};
 ghost use Rattle.lk_types.specs.declared.member.Member.{Member};
 ghost use Rattle.lk_replica.specs.Groups.{GroupValue, IsGathered};
-ghost use Rattle.lk_replica.specs.Posts.{GivesLetters, TellsSends};
+ghost use Rattle.lk_replica.specs.Posts.{GivesEnvelopes, TellsSends};
 ghost use Rattle.lk_state.specs.Packed.{packed};
 ghost use Rattle.lk_probe.specs.declared.state_digest.StateDigest.{StateDigest as StateDigestValue};
 ghost use Rattle.lk_server_replica.specs.Sayings.{GathersOf, SaysOf};
@@ -40,14 +40,14 @@ pub trait ServerReplica: Sized + Drop {
     ghost failed: { Self → Bool };
 
     /// The effect of a group: the replica before, its inputs (the bytes of a datagram, or nothing for a tick or a
-    /// nudge), the letters that they produce, and the replica after.
-    ghost Says: { Self → List (Option (List ℕ)) → List LetterValue → Self → Type 0 };
+    /// nudge), the envelopes that they produce, and the replica after.
+    ghost Says: { Self → List (Option (List ℕ)) → List EnvelopeValue → Self → Type 0 };
 
     /// The middle of a group: the replica when the group began, its input since, the group so far, and the replica
     /// now.
     ghost Gathers: { Self → List (Option (List ℕ)) → GroupValue → Self → Type 0 };
 
-    /// A call of `gather` that succeeded: the replica and the group before it, its input, and both after it.
+    /// A call of `add_step` that succeeded: the replica and the group before it, its input, and both after it.
     ghost Takes: { Self → GroupValue → InputValue → Self → GroupValue → Type 0 };
 
     /// Whether this is a summary of its state.
@@ -71,13 +71,13 @@ pub trait ServerReplica: Sized + Drop {
     /// The members of the next position, by what it has executed.
     ghost members: { Self → List Member };
 
-    /// Returns an empty group, for `gather` and `release`.
+    /// Returns an empty group, for `add_step` and `sync_and_send`.
     fn new_group(&self, alloc: Global) -> Group
         ensures empty { Gathers self.now [] result self.now };
 
-    /// Takes a tick, a nudge or a datagram into a group, as `Replica::gather` does. Nothing is sent before `release`,
-    /// and nothing of a rejected group ever is. Any error ends the replica.
-    fn gather(&mut self, input: Input, group: &mut Group) -> Result<(), ReplicaFault>
+    /// Takes a tick, a nudge or a datagram into a group, as `Replica::add_step` does. Nothing is sent before
+    /// `sync_and_send`, and nothing of a rejected group ever is. Any error ends the replica.
+    fn add_step(&mut self, input: Input, group: &mut Group) -> Result<(), ReplicaFault>
         // The group goes on with one input more.
         ensures gathers { OnOk result
             (GathersMore Gathers (heard_by input.entry ∷ []) group.old group.new self.old self.new) }
@@ -89,14 +89,14 @@ pub trait ServerReplica: Sized + Drop {
         ensures broken { OnErr result (failed self.new ≡ true) }
         ensures told { IfErr result IsOfGroups };
 
-    /// Ends a group, as `Replica::release` does: syncs if a promise or vote waits for that, then gives the letters to
-    /// the post. Returns whether all were sent. Any error ends the replica.
-    fn release<P: Post>(&mut self, group: &Group, post: &mut P) -> Result<bool, ReplicaFault>
-        // It gives its letters to the post in order, each once, and nothing else.
+    /// Ends a group, as `Replica::sync_and_send` does: syncs if a promise or vote waits for that, then gives the
+    /// envelopes to the post. Returns whether all were sent. Any error ends the replica.
+    fn sync_and_send<P: Post>(&mut self, group: &Group, post: &mut P) -> Result<bool, ReplicaFault>
+        // It gives its envelopes to the post in order, each once, and nothing else.
         ensures hands { OnOk result
-            (GivesLetters P.Carries post.old post.new
-            (λ letters. (start : Self) (given : List (Option (List ℕ))) → Gathers start given group.now self.old
-            → Says start given letters self.new)) }
+            (GivesEnvelopes P.Carries post.old post.new
+            (λ envelopes. (start : Self) (given : List (Option (List ℕ))) → Gathers start given group.now self.old
+            → Says start given envelopes self.new)) }
         // After an error it produces nothing, and gives the post nothing.
         ensures silent { OnErr result
             ((start : Self) (given : List (Option (List ℕ))) → Gathers start given group.now self.old
@@ -141,8 +141,8 @@ pub trait ServerReplica: Sized + Drop {
 impl<M: TableMachine, D: LogDisk + Drop> ServerReplica for Replica<M, D> {
     ghost failed = { λ r. r.failed };
 
-    ghost Says = { λ old given letters new. D.is_honest
-        → SaysOf M.meaning M.IsText D.is_metered old given letters new };
+    ghost Says = { λ old given envelopes new. D.is_honest
+        → SaysOf M.meaning M.IsText D.is_metered old given envelopes new };
 
     ghost Gathers = { λ start given group now. D.is_honest
         → GathersOf M.meaning M.IsText D.is_metered start given group now };
@@ -168,12 +168,16 @@ impl<M: TableMachine, D: LogDisk + Drop> ServerReplica for Replica<M, D> {
         Group::new(alloc)
     }
 
-    fn gather(&mut self, input: Input, group: &mut Group) -> Result<(), ReplicaFault> {
-        Replica::gather(self, input, group)
+    fn add_step(&mut self, input: Input, group: &mut Group) -> Result<(), ReplicaFault> {
+        Replica::add_step(self, input, group)
     }
 
-    fn release<P: Post>(&mut self, group: &Group, post: &mut P) -> Result<bool, ReplicaFault> {
-        Replica::release(self, group, post)
+    fn sync_and_send<P: Post>(
+        &mut self,
+        group: &Group,
+        post: &mut P,
+    ) -> Result<bool, ReplicaFault> {
+        Replica::sync_and_send(self, group, post)
     }
 
     fn status(&self) -> ReplicaStatus {

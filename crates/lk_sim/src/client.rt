@@ -19,7 +19,7 @@ use lk_wire::{Content, Message, write};
 use std::alloc::Global;
 
 // Serialises a request as a datagram of this cluster.
-fn spelled(alloc: Global, cluster: u64, request: &Request) -> Result<Vec<u8>, NoMemory>
+fn encode(alloc: Global, cluster: u64, request: &Request) -> Result<Vec<u8>, NoMemory>
     ensures { IfOk result (λ b. Spells (record { cluster = cluster; content = content.Request request.now }) b.items) }
 {
     request.facts();
@@ -60,7 +60,7 @@ fn add_request<R: MemoryReplica>(
     ensures ok { OnOk result (IsAsked (scene_of parts.old) (scene_of parts.new) number request.now) }
     ensures err { OnErr result (scene_of parts.new ≡ scene_of parts.old) }
 {
-    let bytes = spelled(parts.alloc, parts.genesis.cluster, request)?;
+    let bytes = encode(parts.alloc, parts.genesis.cluster, request)?;
     let datagram = Datagram {
         from: Party::Client(request.client),
         to: Party::Node(number),

@@ -17,7 +17,7 @@ told_fault fault.Damaged left no_want sound = absurd (sound.0 refl)
 told_fault fault.WrongStore left no_want sound = absurd (sound.1 refl)
 told_fault fault.Failed left no_want sound = inr refl
 told_fault fault.Halted left no_want sound = absurd (no_want.halted refl)
-told_fault (fault.Send notes) left no_want sound = absurd (no_want.letters refl)
+told_fault (fault.Send notes) left no_want sound = absurd (no_want.envelopes refl)
 
 pub told_by : (stop : Option ℕ) (n number : ℕ) → IsNumberOfEnd number → IsEndByCalls (Some (end_by stop n number))
 told_by None n number is = is

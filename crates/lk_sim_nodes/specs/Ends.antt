@@ -37,7 +37,7 @@ FailsToCompact {R = R} b r number left =
 pub record IsOtherFault (number : ℕ) (left : Memory) : Type 0 where
   pub memory : number ≡ 8 → ⊥
   pub halted : number ≡ 14 → ⊥
-  pub letters : number ≡ 15 → ⊥
+  pub envelopes : number ≡ 15 → ⊥
   pub starved : left.meter.starved ≡ false
 
 -- the fault "out of memory"

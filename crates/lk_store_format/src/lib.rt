@@ -23,4 +23,4 @@ pub use reading::first_entry;
 pub use standing::Standing;
 pub use stored::Stored;
 pub use votes::{count_below, keep_vote};
-pub use writing::{entries_facts, spelled, spelled_base, spelled_parts};
+pub use writing::{encode, encode_base, encode_parts, entries_facts};

@@ -141,7 +141,7 @@ fn put_length_prefixed(out: &mut BytesMut, text: &[u8]) -> Result<(), AllocError
 /// Returns the bytes of a Base with these parts. They are borrowed, so that a store need not build a `Base` to write
 /// one.
 #[tactic(auto, using(crate::proofs::EntryLaws::body_short), unfolding(crate::specs::Entries::spelling))]
-pub fn spelled_parts(
+pub fn encode_parts(
     alloc: Global,
     generation: u64,
     format: u8,
@@ -166,11 +166,11 @@ pub fn spelled_parts(
 }
 
 /// Returns the bytes of a Base as an entry of a file.
-pub fn spelled_base(alloc: Global, value: &Base) -> Result<BytesMut, AllocError>
+pub fn encode_base(alloc: Global, value: &Base) -> Result<BytesMut, AllocError>
     requires { IsStored (base_entry value.now) }
     ensures { IfOk result (λ out. out.items ≡ spelling (base_entry value.now)) }
 {
-    spelled_parts(
+    encode_parts(
         alloc,
         value.generation,
         value.format,
@@ -217,7 +217,7 @@ fn put_plain(alloc: Global, out: &mut BytesMut, entry: &Entry) -> Result<(), All
 }
 
 /// Returns the bytes of entries, one after the other, as a file has them after its Base.
-pub fn spelled(alloc: Global, entries: &[Entry]) -> Result<BytesMut, AllocError>
+pub fn encode(alloc: Global, entries: &[Entry]) -> Result<BytesMut, AllocError>
     ensures { IfOk result (λ out. out.items ≡ spelling_of_all (plain entries.now)) }
 {
     let mut out = BytesMut::new(alloc);

@@ -313,10 +313,10 @@ pub short_zero : (n : ℕ) (old new : Disk) → IsZeroFirst (contents old) → C
 short_zero n old new is short =
     subst IsZeroFirst (sym short.front) (zero_take (length (contents new)) (contents old) is)
 
-pub shorten_holds : (s : Side) (old new : Disk) (n : ℕ) (p : Place) → IsZeroFirst (contents old) → 1 ≤ n
+pub truncate_holds : (s : Side) (old new : Disk) (n : ℕ) (p : Place) → IsZeroFirst (contents old) → 1 ≤ n
     → n ≤ length (contents old) → new ≡ cut_to n old → p.form ≡ Plain → p.end ≡ n → p.size ≡ n
     → Holds s (contents new) (Some p)
-shorten_holds s old new n p is some within cut form end size =
+truncate_holds s old new n p is some within cut form end size =
     let left : contents new ≡ take n (contents old) = ap contents cut ∙ cut_contents n old in
     let first = zero_take n (contents old) is in
     let count : length (take n (contents old)) ≡ n = length-take-le n (contents old) within in
@@ -376,7 +376,7 @@ pub plain_holds : (s : Side) (old new : Disk) (n : ℕ) (p q : Place) → Holds 
     → p.form ≡ Plain → 1 ≤ n → n ≤ length (contents old) → new ≡ cut_to n old → q.form ≡ Plain → q.end ≡ n
     → q.size ≡ n → Holds s (contents new) (Some q)
 plain_holds s old new n p q holds form some within cut same ends sized =
-    shorten_holds s old new n q (place_zero s (contents old) p holds.known form) some within cut same ends sized
+    truncate_holds s old new n q (place_zero s (contents old) p holds.known form) some within cut same ends sized
 
 -- ---- what the device says of its disks
 

@@ -90,7 +90,7 @@ pub fn clear<D: LogDisk>(device: &mut D, side: Side) -> Result<Place, DeviceFaul
 
 /// Cuts a file without sums to some of its bytes. Fails, and changes nothing, if it has sums.
 #[tactic(auto, using(crate::proofs::DiskLaws::cuts_none, crate::proofs::DiskLaws::holds_none))]
-pub fn shorten_plain<D: LogDisk>(
+pub fn truncate_plain<D: LogDisk>(
     device: &mut D,
     side: Side,
     place: Place,

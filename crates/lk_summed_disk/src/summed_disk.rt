@@ -14,7 +14,7 @@ ghost use Rattle.lk_summed_disk.specs.SummedValue.{below_at, disk_at};
 use crate::fault::{OpenFault, OpenRefused};
 use crate::parsing::{Parsed, read_side};
 use crate::place::{Place, Places};
-use crate::steps::{append_piece, clear, shorten_plain, sync_whole};
+use crate::steps::{append_piece, clear, sync_whole, truncate_plain};
 use lk_disk::{DeviceFault, LogDisk, Side};
 use std::alloc::Global;
 use std::marker::Model;
@@ -250,7 +250,7 @@ impl<D: LogDisk + Drop> LogDisk for SummedDisk<D> {
     fn cut(&mut self, side: Side, len: usize) -> Result<(), DeviceFault> {
         let cut = match (len, self.places.at(side)) {
             (0, _) => clear(&mut self.inner, side),
-            (_, Some(place)) => shorten_plain(&mut self.inner, side, place, len),
+            (_, Some(place)) => truncate_plain(&mut self.inner, side, place, len),
             (_, None) => Err(DeviceFault),
         };
         match cut {

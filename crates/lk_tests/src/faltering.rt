@@ -1,4 +1,4 @@
-//! A post whose first send fails: that is told, the other letters are sent, and the replica goes on.
+//! A post whose first send fails: that is told, the other envelopes are sent, and the replica goes on.
 
 use crate::replicas::{Locks, begun};
 use lk_node_interface::{Input, Post, SendFault, To};

@@ -79,9 +79,9 @@ impl AppendFile for Failing {
         self.bytes.sync()
     }
 
-    fn shorten(&mut self, len: usize) -> Result<(), FileFault> {
+    fn truncate(&mut self, len: usize) -> Result<(), FileFault> {
         self.count_call()?;
-        self.bytes.shorten(len)
+        self.bytes.truncate(len)
     }
 }
 

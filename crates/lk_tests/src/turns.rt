@@ -57,7 +57,7 @@ fn ran(alloc: Global) -> Option<Outbox> {
 impl ServerReplica for NotingReplica {
     ghost failed = { λ t. t.failed };
 
-    ghost Says = { λ _ _ letters _. letters ≡ [] };
+    ghost Says = { λ _ _ envelopes _. envelopes ≡ [] };
 
     ghost Gathers = { λ _ _ _ _. ⊤ };
 
@@ -81,7 +81,7 @@ impl ServerReplica for NotingReplica {
         Group::new(alloc)
     }
 
-    fn gather(&mut self, _input: Input, group: &mut Group) -> Result<(), ReplicaFault> {
+    fn add_step(&mut self, _input: Input, group: &mut Group) -> Result<(), ReplicaFault> {
         self.failed = true;
         self.status = self.after;
         let Some(outbox) = ran(self.alloc) else {
@@ -93,7 +93,11 @@ impl ServerReplica for NotingReplica {
         }
     }
 
-    fn release<P: Post>(&mut self, _group: &Group, _post: &mut P) -> Result<bool, ReplicaFault> {
+    fn sync_and_send<P: Post>(
+        &mut self,
+        _group: &Group,
+        _post: &mut P,
+    ) -> Result<bool, ReplicaFault> {
         self.failed = self.end == End::Broken;
         match self.end {
             End::Notes => Ok(true),

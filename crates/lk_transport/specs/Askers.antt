@@ -48,7 +48,7 @@ abbrev pub keys_to : Seals → Option To → List (List ℕ)
 keys_to s None = []
 keys_to s (Some to) = keys_for s to
 
--- a frame is sent there, once, if the socket reveals that, and no letter is kept
+-- a frame is sent there, once, if the socket reveals that, and no envelope is kept
 pub record SendsTo (observable : Type 0) (address : SocketAddr) (frame : List ℕ) (old new : SendState) : Type 0 where
   pub loopback : new.loopback ≡ old.loopback
   pub sent : observable → new.sent ≡ old.sent ++ (address, frame) ∷ []
@@ -59,8 +59,8 @@ abbrev pub known_or_from : Option SocketAddr → SocketAddr → SocketAddr
 known_or_from None from = from
 known_or_from (Some address) from = address
 
--- where a report goes: to a member whose port is that, where its letters go, if that is known; else to where the probe
--- came from
+-- where a report goes: to a member whose port is that, where its envelopes go, if that is known; else to where the
+-- probe came from
 abbrev pub IsReplyTo : AddressBook → ℕ → Option ℕ → SocketAddr → SocketAddr → Type 0
 IsReplyTo b node None from address = address ≡ from
 IsReplyTo b node (Some port) from address =

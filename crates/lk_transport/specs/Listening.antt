@@ -85,7 +85,7 @@ ProbesAt observable node asks m token (Some address) old new before after =
     }) × SendsSealedProbe observable old.seals (Node m.node m.port)
     (member_probe old.seals node asks token) address before after
 
--- the same at the address to which its letters go; the node itself is not probed
+-- the same at the address to which its envelopes go; the node itself is not probed
 abbrev pub ProbesOther : Bool → Type 0 → ℕ → Bool → Member → ℕ → AddressBook → AddressBook → SendState → SendState
     → Type 0
 ProbesOther true observable node asks m token old new before after = (new ≡ old) × (after ≡ before)

@@ -1,10 +1,10 @@
--- Where a letter goes and in which form, and what a contract sees of a post with a socket.
+-- Where an envelope goes and in which form, and what a contract sees of a post with a socket.
 use Rattle.std.specs.Prelude.{◌≡◌, ◌≢◌, ◌⊎◌, ◌==◌, ℕ, Bool, true, false, List, [], ◌∷◌, ◌++◌}
 use Rattle.std.specs.Prelude.{Option, Some, None, MatchBool, MatchOption, IsSomeAnd}
 use Rattle.std.specs.Net.Socket.{socket_ip, socket_port}
 use Rattle.std.specs.declared.net.socket_addr.SocketAddr.{SocketAddr}
 use Rattle.lk_disk.specs.Disk.{one_more}
-use Rattle.lk_node_interface.specs.Letters.{LetterValue}
+use Rattle.lk_node_interface.specs.Envelopes.{EnvelopeValue}
 use Rattle.lk_node_interface.specs.declared.to.To.{To}
 use Rattle.lk_node_interface.specs.declared.to.To.TheVariants.{Node, Client}
 use Rattle.lk_auth.specs.Clients.{client_keys}
@@ -14,21 +14,21 @@ use Rattle.lk_address_book.specs.Addresses.{AddressBook, client_at, node_at}
 use Rattle.lk_address_book.specs.Hosts.{host_of}
 use Rattle.lk_transport.specs.Streams.{Stream}
 
--- its node, the addresses, the kept letters of the node to itself, what the socket has sent, how many of its sends
+-- its node, the addresses, the kept envelopes of the node to itself, what the socket has sent, how many of its sends
 -- have failed overall and in this group, and what the receives to come find, in order
 pub record SocketPostValue : Type 0 where
   pub node : ℕ
   pub addresses : AddressBook
-  pub loopback : List LetterValue
+  pub loopback : List EnvelopeValue
   pub sent : List (SocketAddr × List ℕ)
   pub socket_failures : ℕ
   pub failures : ℕ
   pub incoming : Stream
 
--- what a letter may change: the kept letters of the node to itself, what the socket has sent, and how many of its
+-- what an envelope may change: the kept envelopes of the node to itself, what the socket has sent, and how many of its
 -- sends have failed
 pub record SendState : Type 0 where
-  pub loopback : List LetterValue
+  pub loopback : List EnvelopeValue
   pub sent : List (SocketAddr × List ℕ)
   pub failures : ℕ
 
@@ -67,34 +67,34 @@ abbrev pub IsBoundFor : ℕ → To → Type 0
 IsBoundFor node (Client c) = ⊥
 IsBoundFor node (Node n port) = n ≡ node
 
--- a letter of the node to itself is kept after the others, and nothing is sent
-pub record KeepsLoopback (node : ℕ) (l : LetterValue) (old new : SendState) : Type 0 where
+-- an envelope of the node to itself is kept after the others, and nothing is sent
+pub record KeepsLoopback (node : ℕ) (l : EnvelopeValue) (old new : SendState) : Type 0 where
   pub bound : IsBoundFor node l.to
   pub loopback : new.loopback ≡ old.loopback ++ l ∷ []
   pub sent : new.sent ≡ old.sent
   pub failures : new.failures ≡ old.failures
 
--- its frame is sent to its destination, whole and once, if the socket reveals that, and no letter is kept
-pub record Sends (observable : Type 0) (book : AddressBook) (l : LetterValue) (old new : SendState) : Type 0 where
+-- its frame is sent to its destination, whole and once, if the socket reveals that, and no envelope is kept
+pub record Sends (observable : Type 0) (book : AddressBook) (l : EnvelopeValue) (old new : SendState) : Type 0 where
   pub loopback : new.loopback ≡ old.loopback
   pub sent : observable → (address : Option SocketAddr) × IsRoute book l.to address
       × (new.sent ≡ old.sent ++ carried address (frame_of book.seals l.to l.bytes))
   pub failures : observable → new.failures ≡ old.failures
 
 -- it is lost: either one more send has failed, if the socket reveals that, or its frame ran out of memory, if there is
--- a key; nothing is sent and no letter is kept
+-- a key; nothing is sent and no envelope is kept
 pub record Loses (observable : Type 0) (keys : List (List ℕ)) (old new : SendState) : Type 0 where
   pub loopback : new.loopback ≡ old.loopback
   pub sent : observable → new.sent ≡ old.sent
   pub failures : observable → (new.failures ≡ one_more old.failures) ⊎ ((keys ≢ []) × (new.failures ≡ old.failures))
 
--- the fate of a letter of that node with these addresses: kept, sent, or lost by a failed send
-abbrev pub Becomes : Type 0 → ℕ → AddressBook → SendState → LetterValue → Bool → SendState → Type 0
+-- the fate of an envelope of that node with these addresses: kept, sent, or lost by a failed send
+abbrev pub Becomes : Type 0 → ℕ → AddressBook → SendState → EnvelopeValue → Bool → SendState → Type 0
 Becomes observable node book old l true new = KeepsLoopback node l old new ⊎ Sends observable book l old new
 Becomes observable node book old l false new = Loses observable (keys_for book.seals l.to) old new
 
--- the same at a post, of which a letter changes nothing else but the count of failed sends in this group
-pub record CarriesLetter (observable : Type 0) (old : SocketPostValue) (l : LetterValue) (is_sent : Bool)
+-- the same at a post, of which an envelope changes nothing else but the count of failed sends in this group
+pub record CarriesEnvelope (observable : Type 0) (old : SocketPostValue) (l : EnvelopeValue) (is_sent : Bool)
     (new : SocketPostValue) : Type 0 where
   pub node : new.node ≡ old.node
   pub addresses : new.addresses ≡ old.addresses

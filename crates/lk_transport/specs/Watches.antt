@@ -7,7 +7,7 @@ use Rattle.lk_node_interface.specs.declared.to.To.TheVariants.{Client}
 use Rattle.lk_watch.specs.Grammar.{SpellsWatch, SpellsNotice}
 use Rattle.lk_watch.specs.declared.watch.Watch.{Watch}
 use Rattle.lk_watch.specs.declared.notice.Notice.{Notice}
-use Rattle.lk_watch.specs.declared.waiter.Letter.{Letter}
+use Rattle.lk_watch.specs.declared.waiter.Envelope.{Envelope}
 use Rattle.lk_transport.specs.Askers.{SendsTo}
 use Rattle.lk_transport.specs.Posts.{SendState, Loses, frame_of, keys_for}
 use Rattle.lk_transport.specs.declared.received_watch.ReceivedWatch.{ReceivedWatch}
@@ -22,27 +22,27 @@ abbrev pub BringsWatch : Seals → SocketAddr × List ℕ → Option ReceivedWat
 BringsWatch s d None = (w : Watch) → CarriesWatch s d.1 w → ⊥
 BringsWatch s d (Some r) = (r.from ≡ d.0) × CarriesWatch s d.1 r.watch
 
--- the notice of that node with these seals, by a letter
-abbrev pub notice_by : Seals → ℕ → Letter → Notice
-notice_by s node letter = record {
+-- the notice of that node with these seals, by an envelope
+abbrev pub notice_by : Seals → ℕ → Envelope → Notice
+notice_by s node envelope = record {
   cluster = s.cluster;
   node = node;
-  ticket = letter.ticket;
-  news = letter.news;
-  place = letter.place;
+  ticket = envelope.ticket;
+  news = envelope.news;
+  place = envelope.place;
 }
 
--- the notice of a letter goes to its address, once, framed for the client of the watch that it answers, or is lost
-pub record SendsNotice (observable : Type 0) (s : Seals) (node : ℕ) (letter : Letter)
+-- the notice of an envelope goes to its address, once, framed for the client of the watch that it answers, or is lost
+pub record SendsNotice (observable : Type 0) (s : Seals) (node : ℕ) (envelope : Envelope)
     (old new : SendState) : Type 0 where
   pub bytes : List ℕ
-  pub spelled : SpellsNotice (notice_by s node letter) bytes
-  pub sends : SendsTo observable letter.to (frame_of s (Client letter.ticket.client) bytes) old new
-      ⊎ Loses observable (keys_for s (Client letter.ticket.client)) old new
+  pub spelled : SpellsNotice (notice_by s node envelope) bytes
+  pub sends : SendsTo observable envelope.to (frame_of s (Client envelope.ticket.client) bytes) old new
+      ⊎ Loses observable (keys_for s (Client envelope.ticket.client)) old new
 
--- the same for each of these letters, one after another
-abbrev pub SendsNotices : Type 0 → Seals → ℕ → List Letter → SendState → SendState → Type 0
+-- the same for each of these envelopes, one after another
+abbrev pub SendsNotices : Type 0 → Seals → ℕ → List Envelope → SendState → SendState → Type 0
 SendsNotices observable s node [] old new = new ≡ old
-SendsNotices observable s node (letter ∷ letters) old new =
-    (mid : SendState) × SendsNotice observable s node letter old mid
-    × SendsNotices observable s node letters mid new
+SendsNotices observable s node (envelope ∷ envelopes) old new =
+    (mid : SendState) × SendsNotice observable s node envelope old mid
+    × SendsNotices observable s node envelopes mid new

@@ -19,7 +19,7 @@ use std::alloc::AllocError;
 use std::net::SocketAddr;
 
 // Returns where the report to a probe from `from` goes that names this node, if it names one: to a member where its
-// letters go, if that is known; else to where the probe came from.
+// envelopes go, if that is known; else to where the probe came from.
 fn reply_address(
     addresses: &Addresses,
     members: &[Member],
@@ -68,9 +68,9 @@ impl<S: DatagramSocket + Drop> SocketPost<S> {
         ReceivedProbe::by(self.addresses.seals(), from, frame, datagram)
     }
 
-    /// Returns where the report that replies to a probe goes: to one of these members where its letters go, if that is
-    /// known, so that a node whose datagrams come from elsewhere hears what others hear; else to where the probe came
-    /// from.
+    /// Returns where the report that replies to a probe goes: to one of these members where its envelopes go, if that
+    /// is known, so that a node whose datagrams come from elsewhere hears what others hear; else to where the probe
+    /// came from.
     pub fn reply_address(&self, members: &[Member], asked: &ReceivedProbe) -> SocketAddr
         ensures { IsReplyAddress self.now.addresses members.now asked.now result }
     {

@@ -1,5 +1,5 @@
 //! Sends and receives a node's datagrams over UDP: the socket and its receive buffer, the post that frames and sends
-//! the letters of a replica to the addresses of its book, and the probes by which nodes compare geneses.
+//! the envelopes of a replica to the addresses of its book, and the probes by which nodes compare geneses.
 #![tactic(auto)]
 
 mod answering;

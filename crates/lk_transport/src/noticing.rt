@@ -9,16 +9,16 @@ ghost use Rattle.lk_watch.specs.Grammar.{SpellsNotice};
 use crate::post::{SocketPost, framed};
 use crate::socket::DatagramSocket;
 use lk_node_interface::{SendFault, To};
-use lk_watch::{Letter, WatchDatagram};
+use lk_watch::{Envelope, WatchDatagram};
 use std::net::SocketAddr;
 
 impl<S: DatagramSocket + Drop> SocketPost<S> {
-    // Returns the notice of this node by a letter.
-    fn notice_of(&self, letter: &Letter) -> WatchDatagram
-        ensures { SpellsNotice (notice_by self.now.addresses.seals self.now.node letter.now) result }
+    // Returns the notice of this node by an envelope.
+    fn notice_of(&self, envelope: &Envelope) -> WatchDatagram
+        ensures { SpellsNotice (notice_by self.now.addresses.seals self.now.node envelope.now) result }
     {
         let cluster = self.addresses.seals().cluster;
-        let notice = letter.notice(cluster, self.node);
+        let notice = envelope.notice(cluster, self.node);
         notice.datagram()
     }
 
@@ -47,10 +47,10 @@ impl<S: DatagramSocket + Drop> SocketPost<S> {
         self.socket.send_to(address, framed)
     }
 
-    /// Sends the notice of a letter to its address, framed for the client of the watch that it answers. A failure is
+    /// Sends the notice of an envelope to its address, framed for the client of the watch that it answers. A failure is
     /// not counted in the group. It changes no address, nor where replies to that client go.
-    pub fn send_notice(&mut self, letter: &Letter) -> Result<(), SendFault>
-        ensures sends { SendsNotice S.is_observable self.old.addresses.seals self.old.node letter.now
+    pub fn send_notice(&mut self, envelope: &Envelope) -> Result<(), SendFault>
+        ensures sends { SendsNotice S.is_observable self.old.addresses.seals self.old.node envelope.now
             (send_state_of self.old) (send_state_of self.new) }
         ensures still { S.is_observable → self.new.incoming ≡ self.old.incoming }
         ensures others { self.new
@@ -60,8 +60,8 @@ impl<S: DatagramSocket + Drop> SocketPost<S> {
               incoming = self.new.incoming;
             } }
     {
-        let to = To::Client(letter.ticket.client);
-        let datagram = self.notice_of(letter);
-        self.send_framed(&to, letter.to, datagram.as_slice())
+        let to = To::Client(envelope.ticket.client);
+        let datagram = self.notice_of(envelope);
+        self.send_framed(&to, envelope.to, datagram.as_slice())
     }
 }

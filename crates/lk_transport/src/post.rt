@@ -1,4 +1,4 @@
-//! The post of a node: sends a replica's letters over a socket, in frames if there are keys.
+//! The post of a node: sends a replica's envelopes over a socket, in frames if there are keys.
 
 ghost use Rattle.std.specs.Prelude.{◌≡◌, ◌≢◌, ◌↔◌, ◌++◌, ◌∷◌, ℕ, [], Some, None, true, false, is_ok, OnOk, OnErr, IfOk};
 ghost use Rattle.std.specs.Prelude.{IsErr, IfSome, IsNone};
@@ -22,7 +22,7 @@ use lk_address_book::arrival::Arrival;
 use lk_address_book::hosts::Hosts;
 use lk_address_book::network::Network;
 use lk_auth::{DIGEST, Seals};
-use lk_node_interface::{Letter, Post, SendFault, To};
+use lk_node_interface::{Envelope, Post, SendFault, To};
 use lk_types::{NoMemory, NodeNo};
 use lk_wire::Datagram;
 use std::alloc::{AllocError, Global};
@@ -39,9 +39,9 @@ const WANT: u8 = 7;
 
 /// A socket, and the addresses of those who wrote to it.
 ///
-/// A letter for a client goes to the address of its last request. A letter for a node goes to its port at its host, or,
-/// if that is not known, to the address from which the node last wrote. A letter with no known address is dropped. A
-/// letter for this node is queued here; only if memory runs out it goes through the socket.
+/// An envelope for a client goes to the address of its last request. An envelope for a node goes to its port at its
+/// host, or, if that is not known, to the address from which the node last wrote. An envelope with no known address is
+/// dropped. An envelope for this node is queued here; only if memory runs out it goes through the socket.
 #[derive(Drop)]
 pub struct SocketPost<S: DatagramSocket + Drop> {
     alloc: Global,
@@ -50,9 +50,9 @@ pub struct SocketPost<S: DatagramSocket + Drop> {
     pub(crate) addresses: Addresses,
     // the last frame sent, if there are keys
     pub(crate) frame: Vec<u8>,
-    // the queue of letters of the node to itself
-    loopback: VecDeque<Letter>,
-    // letters of this group that could not be sent
+    // the queue of envelopes of the node to itself
+    loopback: VecDeque<Envelope>,
+    // envelopes of this group that could not be sent
     failures: u64,
     // the last node that was sent a Want in this group
     wanted: Option<NodeNo>,
@@ -63,11 +63,11 @@ pub struct SocketPost<S: DatagramSocket + Drop> {
 /// Summarises the sends of a group, for the log.
 #[derive(Clone, Copy)]
 pub struct SendSummary {
-    /// How many letters could not be sent: a send failed, or memory ran out for a frame.
+    /// How many envelopes could not be sent: a send failed, or memory ran out for a frame.
     pub lost: u64,
     /// The last node that was sent a Want, if one was.
     pub wanted: Option<NodeNo>,
-    /// The last node to which a letter could not be sent, if there is one.
+    /// The last node to which an envelope could not be sent, if there is one.
     pub unsent: Option<NodeNo>,
 }
 
@@ -96,7 +96,7 @@ impl<S: DatagramSocket + Drop> Model for SocketPost<S> {
     } };
 }
 
-// Returns the address to which a letter goes, if one is known. Port 0 means that the node's port is unknown.
+// Returns the address to which an envelope goes, if one is known. Port 0 means that the node's port is unknown.
 pub(crate) fn route(addresses: &Addresses, to: &To) -> Option<SocketAddr>
     ensures { IsRoute addresses.now to.now result }
 {
@@ -127,7 +127,7 @@ pub(crate) fn framed<'a>(
     }
 }
 
-// Sends a letter's frame: to a client at once, to a node perhaps together with others of its group.
+// Sends an envelope's frame: to a client at once, to a node perhaps together with others of its group.
 fn hand_over<S: DatagramSocket>(
     socket: &mut S,
     to: &To,
@@ -188,8 +188,8 @@ impl<S: DatagramSocket + Drop> SocketPost<S> {
         self.addresses.record_sender(cluster, datagram, from)
     }
 
-    /// Removes and returns the first queued letter of the node to itself.
-    pub fn next_loopback(&mut self) -> Option<Letter>
+    /// Removes and returns the first queued envelope of the node to itself.
+    pub fn next_loopback(&mut self) -> Option<Envelope>
         ensures some { IfSome result (λ l. self.old.loopback ≡ l ∷ self.new.loopback) }
         ensures none { IsNone result → self.old.loopback ≡ [] }
         ensures unchanged { IsNone result → self.new ≡ self.old }
@@ -263,7 +263,7 @@ impl<S: DatagramSocket + Drop> SocketPost<S> {
         self.addresses.hosts()
     }
 
-    /// Sets where the nodes live: from now on letters go there.
+    /// Sets where the nodes live: from now on envelopes go there.
     pub fn set_hosts(&mut self, hosts: Hosts)
         ensures { self.new ≡ record self.old { addresses = record self.old.addresses { hosts = hosts } } }
     {
@@ -318,7 +318,7 @@ impl<S: DatagramSocket + Drop> SocketPost<S> {
         }
     }
 
-    // Records the recipient of a letter that was sent or queued, if it is a Want to a node, for the log.
+    // Records the recipient of an envelope that was sent or queued, if it is a Want to a node, for the log.
     fn note_sent(&mut self, to: &To, bytes: &[u8])
         ensures { self.new ≡ self.old }
     {
@@ -328,7 +328,7 @@ impl<S: DatagramSocket + Drop> SocketPost<S> {
         }
     }
 
-    // Counts a letter that could not be sent, and records its node for the log.
+    // Counts an envelope that could not be sent, and records its node for the log.
     fn count_lost(&mut self, to: &To)
         ensures { self.new ≡ record self.old { failures = one_more self.old.failures } }
     {
@@ -348,7 +348,7 @@ impl<S: DatagramSocket + Drop> SocketPost<S> {
         }
     }
 
-    // Queues a letter of the node to itself. Out of memory it changes nothing.
+    // Queues an envelope of the node to itself. Out of memory it changes nothing.
     fn keep_loopback(&mut self, to: To, bytes: &[u8]) -> Result<(), NoMemory>
         ensures ok { OnOk result
             (self.new ≡ record self.old {
@@ -357,13 +357,13 @@ impl<S: DatagramSocket + Drop> SocketPost<S> {
         ensures err { OnErr result (self.new ≡ self.old) }
     {
         let kept = bytes.to_vec(self.alloc)?;
-        self.loopback.push_back(Letter { to, bytes: kept })?;
+        self.loopback.push_back(Envelope { to, bytes: kept })?;
         self.note_sent(&to, bytes);
         Ok(())
     }
 
-    // Frames a letter and sends it over the socket, even one to this node. A letter with no known address is dropped,
-    // which is no failure; a failed send, or no memory for the frame, is counted.
+    // Frames an envelope and sends it over the socket, even one to this node. An envelope with no known address is
+    // dropped, which is no failure; a failed send, or no memory for the frame, is counted.
     fn transmit(&mut self, to: To, bytes: &[u8]) -> Result<(), SendFault>
         ensures becomes { Becomes S.is_observable self.old.node self.old.addresses (send_state_of self.old)
             (record { to = to; bytes = bytes.now }) (is_ok result) (send_state_of self.new) }
@@ -395,7 +395,7 @@ impl<S: DatagramSocket + Drop> SocketPost<S> {
 
 impl<S: DatagramSocket + Drop> Post for SocketPost<S> {
     ghost use Rattle.std.specs.Prelude.{[]};
-    ghost use Rattle.lk_transport.specs.Posts.{CarriesLetter};
+    ghost use Rattle.lk_transport.specs.Posts.{CarriesEnvelope};
 
     ghost sent = { λ _. [] };
 
@@ -403,9 +403,9 @@ impl<S: DatagramSocket + Drop> Post for SocketPost<S> {
 
     ghost failures = { λ p. p.failures };
 
-    ghost Carries = { CarriesLetter S.is_observable };
+    ghost Carries = { CarriesEnvelope S.is_observable };
 
-    // Out of memory for its queue, a letter to this node goes through the socket.
+    // Out of memory for its queue, an envelope to this node goes through the socket.
     fn send(&mut self, to: To, bytes: &[u8]) -> Result<(), SendFault> {
         if self.is_loopback(&to) && self.keep_loopback(to, bytes).is_ok() {
             return Ok(());

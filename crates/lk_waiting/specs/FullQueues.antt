@@ -2,7 +2,7 @@
 use Rattle.std.specs.Prelude.{Bool, true, false, nat_lt, ◌&&◌, ◌==◌}
 use Rattle.lk_watch.specs.declared.notice.News.{News}
 use Rattle.lk_watch.specs.declared.notice.News.TheVariants.{Free, Held, NotHere}
-use Rattle.lk_watch.specs.declared.waiter.Letter.{Letter}
+use Rattle.lk_watch.specs.declared.waiter.Envelope.{Envelope}
 use Rattle.lk_watch.specs.declared.watch.Watch.{Watch}
 
 abbrev pub is_held : News → Bool
@@ -11,5 +11,5 @@ is_held Held = true
 is_held NotHere = false
 
 -- the name is held, and a client that does not withdraw has no place
-abbrev pub says_full : Watch → Letter → Bool
+abbrev pub says_full : Watch → Envelope → Bool
 says_full watch answer = nat_lt 0 watch.periods && answer.place == 0 && is_held answer.news

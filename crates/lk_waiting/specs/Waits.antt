@@ -2,7 +2,7 @@
 use Rattle.std.specs.Prelude.{◌≡◌, ◌≤◌, ◌-◌, ◌⊎◌, ℕ, Bool, false, List, [], Option}
 use Rattle.lk_locks.specs.Plain.{Table}
 use Rattle.lk_node_interface.specs.declared.note.Note.{Note}
-use Rattle.lk_watch.specs.Queues.{QueueValue, begun, max_letters}
+use Rattle.lk_watch.specs.Queues.{QueueValue, begun, max_envelopes}
 use Rattle.lk_watch.specs.Seen.{holds_by, seen_in}
 use Rattle.lk_watch.specs.declared.seen.SeenName.{SeenName}
 use Rattle.lk_waiting.specs.ChangedNames.{AreChanged, ChangedValue, names_in, none_changed}
@@ -21,7 +21,7 @@ pub record WaitingValue : Type 0 where
 -- as a server starts
 abbrev pub nobody_waits : WaitingValue
 nobody_waits = record {
-  queue = record { waiters = []; left = max_letters };
+  queue = record { waiters = []; left = max_envelopes };
   aged = 0;
   changed = none_changed;
   spoke = false;

@@ -1,7 +1,7 @@
 // Who waits, and what the queue looked at in its last turn.
 
 ghost use Rattle.std.specs.Prelude.{◌≡◌, ◌⊎◌, ◌≤◌, ◌↔◌, [], length, true, IfSome, IsNone, IsTrue};
-ghost use Rattle.lk_watch.specs.Queues.{begun, HearsOrNot, NoneDueBefore, TellsFirst, listed_letter, max_letters};
+ghost use Rattle.lk_watch.specs.Queues.{begun, HearsOrNot, NoneDueBefore, TellsFirst, listed_envelope, max_envelopes};
 ghost use Rattle.lk_watch.specs.Seen.{holds_by, standing_by};
 ghost use Rattle.lk_watch.specs.Tables.{standing_in};
 ghost use Rattle.lk_waiting.specs.Waits.{AreAllChanged, HasNothingNew, NotesChanges, OnlyCommands};
@@ -12,7 +12,7 @@ use crate::moment::Moment;
 use lk_locks::LockTable;
 use lk_node_interface::Note;
 use lk_watch::queue::WatchQueue;
-use lk_watch::{Letter, NameTable, SeenNames, Watch};
+use lk_watch::{Envelope, NameTable, SeenNames, Watch};
 use std::alloc::Global;
 use std::marker::Model;
 use std::net::SocketAddr;
@@ -70,7 +70,7 @@ impl Waiting {
     /// Shows the prover that the queue is within its bounds. Does nothing at run time.
     pub fn facts(&self)
         ensures few { length self.now.queue.waiters ≤ 1024 }
-        ensures left { self.now.queue.left ≤ max_letters }
+        ensures left { self.now.queue.left ≤ max_envelopes }
     {
         self.queue.facts();
     }
@@ -137,17 +137,17 @@ impl Waiting {
         self.served = moment.executed;
     }
 
-    /// Hears a watch that came from an address, by what the table says of its name. Returns the letter that answers it:
-    /// none if it is ignored, or out of memory, when nothing changes.
+    /// Hears a watch that came from an address, by what the table says of its name. Returns the envelope that answers
+    /// it: none if it is ignored, or out of memory, when nothing changes.
     pub fn hear(
         &mut self,
         table: &LockTable,
         watch: &Watch,
         from: SocketAddr,
         speaks: bool,
-    ) -> Option<Letter>
+    ) -> Option<Envelope>
         ensures hears { HearsOrNot (standing_in table.now) speaks watch.now from
-            self.old.queue (listed_letter result) self.new.queue }
+            self.old.queue (listed_envelope result) self.new.queue }
         ensures others { self.new ≡ record self.old { queue = self.new.queue } }
     {
         let standing = table.standing(&watch.ticket.name);
@@ -158,11 +158,11 @@ impl Waiting {
         answer
     }
 
-    /// Returns the letter to the next who is to be told, by the table or by what the queue is shown of it, if there is
-    /// one.
-    pub fn next_letter(&mut self, table: &LockTable, seen: &Option<SeenNames>) -> Option<Letter>
-        ensures some { IfSome result (λ letter. TellsFirst (standing_by table.now seen.now)
-            self.old.queue letter self.new.queue) }
+    /// Returns the envelope to the next who is to be told, by the table or by what the queue is shown of it, if there
+    /// is one.
+    pub fn next_envelope(&mut self, table: &LockTable, seen: &Option<SeenNames>) -> Option<Envelope>
+        ensures some { IfSome result (λ envelope. TellsFirst (standing_by table.now seen.now)
+            self.old.queue envelope self.new.queue) }
         ensures none { IsNone result → (self.old.queue.left ≡ 0)
             ⊎ NoneDueBefore (standing_by table.now seen.now) self.old.queue.waiters
             (length self.old.queue.waiters) }
@@ -170,8 +170,8 @@ impl Waiting {
         ensures others { self.new ≡ record self.old { queue = self.new.queue } }
     {
         match seen {
-            Some(seen) => self.queue.next_letter(seen),
-            None => self.queue.next_letter(table),
+            Some(seen) => self.queue.next_envelope(seen),
+            None => self.queue.next_envelope(table),
         }
     }
 }

@@ -243,9 +243,9 @@ notice_fields_reads = fitting read_notice_fields notice
 
 -- ---- behind the letters
 
-letters : (k a b c d : ℕ) → (eqb a 76 && eqb b 87 && eqb c 1 && eqb d k) ≡ true
+envelopes : (k a b c d : ℕ) → (eqb a 76 && eqb b 87 && eqb c 1 && eqb d k) ≡ true
     → (a ≡ 76) × (b ≡ 87) × (c ≡ 1) × (d ≡ k)
-letters k a b c d e = grind (arith, nat_tests)
+envelopes k a b c d e = grind (arith, nat_tests)
 
 same : (k : ℕ) → eqb k k ≡ true
 same k = grind (arith, nat_tests)
@@ -258,7 +258,7 @@ module _ {X : Type 0} where
       elim (chosen (eqb a 76 && eqb b 87 && eqb c 1 && eqb d k) (p bytes) None (Some (x, rest)) e) [
         | inr failing ↦ let bad = failing.1 in absurd cc
         | inl passing ↦
-            let are = letters k a b c d passing.0 in
+            let are = envelopes k a b c d passing.0 in
             let t = r.takes bytes x rest (λ i. h (suc (suc (suc (suc i))))) passing.1 in
             record {
               parts = rw (are.0, are.1, are.2, are.3) (ap (front k) t.parts);

@@ -17,12 +17,12 @@ use Rattle.std.proofs.lemmas.Slice.Eq.{bytes_eq-Decides}
 use Rattle.lk_watch.specs.Standings.{opening, serves}
 use Rattle.lk_watch.specs.Waiters.{is_named, is_client, is_of, is_due, told, refreshed, newcomer, renewed, IsWaiter}
 use Rattle.lk_watch.specs.Queues.{QueueValue, IsQueue, position, has_room, without, renewed_in, is_alive, lived}
-use Rattle.lk_watch.specs.Queues.{Table, is_due_in, is_due_at, NoneDueBefore, letter_to, TellsFirst}
+use Rattle.lk_watch.specs.Queues.{Table, is_due_in, is_due_at, NoneDueBefore, envelope_to, TellsFirst}
 use Rattle.lk_watch.specs.declared.standing.Standing.{Standing}
 use Rattle.lk_watch.specs.declared.ticket.Ticket.{Ticket}
 use Rattle.lk_watch.specs.declared.watch.Watch.{Watch}
 use Rattle.lk_watch.specs.declared.waiter.Waiter.{Waiter}
-use Rattle.lk_watch.specs.declared.waiter.Letter.{Letter}
+use Rattle.lk_watch.specs.declared.waiter.Envelope.{Envelope}
 use Rattle.std.specs.declared.net.socket_addr.SocketAddr.{SocketAddr}
 
 -- a queue with these waiters
@@ -352,11 +352,11 @@ fewer_left ws n m h fewer = record {
   left = omega (arith, h.left, fewer);
 }
 
-pub tells : (table : Table) (ws vs : List Waiter) (n m i : ℕ) (w : Waiter) (letter : Letter)
-    → slice_get ws i ≡ Some w → is_due_at table ws i ≡ true → NoneDueBefore table ws i → letter ≡ letter_to ws i w
+pub tells : (table : Table) (ws vs : List Waiter) (n m i : ℕ) (w : Waiter) (envelope : Envelope)
+    → slice_get ws i ≡ Some w → is_due_at table ws i ≡ true → NoneDueBefore table ws i → envelope ≡ envelope_to ws i w
     → vs ≡ slice_set ws i (told (opening (table w.ticket.name)) w) → m + 1 ≡ n
-    → TellsFirst table (with_waiters ws n) letter (with_waiters vs m)
-tells table ws vs n m i w letter is due first sent becomes counted = record {
+    → TellsFirst table (with_waiters ws n) envelope (with_waiters vs m)
+tells table ws vs n m i w envelope is due first sent becomes counted = record {
   index = i;
   waiter = w;
   is = is;

@@ -11,7 +11,7 @@ use Rattle.lk_watch.specs.Standings.{places, HasNoPlace}
 use Rattle.lk_watch.specs.Tables.{standing_of, is_holder_of}
 use Rattle.lk_watch.specs.declared.seen.SeenName.{SeenName}
 use Rattle.lk_watch.specs.declared.standing.Standing.{Standing}
-use Rattle.lk_watch.specs.declared.standing.Standing.TheVariants.{Free, Alone, Together}
+use Rattle.lk_watch.specs.declared.standing.Standing.TheVariants.{Free, ExclusiveHold, SharedHold}
 use Rattle.lk_watch.specs.declared.ticket.Mode.{Mode}
 use Rattle.lk_watch.specs.declared.ticket.Mode.TheVariants.{Exclusive, Share}
 
@@ -34,25 +34,26 @@ held_by_none client seen name none = by (seen_at seen name) refl
     by : (o : Option SeenName) → seen_at seen name ≡ o → holds_shown client o ≡ false
     by None e = refl
     by (Some s) e =
-        none_at (λ (z : SeenName). is_holder_of client z.slot) seen (position_or_len (is_seen name) seen) s none e
+        none_at (λ (z : SeenName). is_holder_of client z.lock_entry) seen (position_or_len (is_seen name) seen) s none e
 
 no_place : (s : Standing) (mode : Mode) → nat_lt 0 (places Share s) ≡ false → places mode s ≡ 0
 no_place (Free fence) mode none = absurd cc
-no_place (Alone fence) Exclusive none = refl
-no_place (Alone fence) Share none = refl
-no_place (Together fence count) Exclusive none = refl
-no_place (Together fence count) Share none = omega (arith, ltb-false _ _ none)
+no_place (ExclusiveHold fence) Exclusive none = refl
+no_place (ExclusiveHold fence) Share none = refl
+no_place (SharedHold fence count) Exclusive none = refl
+no_place (SharedHold fence count) Share none = omega (arith, ltb-false _ _ none)
 
 -- where none has a place for a sharer, none has one
 pub none_open : (seen : List SeenName) → some_open seen ≡ false → HasNoPlace (standing_seen seen)
 none_open seen none name mode = by (seen_at seen name) refl
   where
-    alone : (m : Mode) → places m (Alone 0) ≡ 0
+    alone : (m : Mode) → places m (ExclusiveHold 0) ≡ 0
     alone Exclusive = refl
     alone Share = refl
 
     by : (o : Option SeenName) → seen_at seen name ≡ o → places mode (standing_shown o) ≡ 0
     by None e = alone mode
     by (Some s) e =
-        no_place (standing_of s.slot) mode (none_at (λ (z : SeenName). nat_lt 0 (places Share (standing_of z.slot)))
+        no_place (standing_of s.lock_entry) mode
+        (none_at (λ (z : SeenName). nat_lt 0 (places Share (standing_of z.lock_entry)))
         seen (position_or_len (is_seen name) seen) s none e)

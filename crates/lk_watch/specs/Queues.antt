@@ -12,9 +12,9 @@ use Rattle.lk_watch.specs.declared.ticket.Ticket.{Ticket}
 use Rattle.lk_watch.specs.declared.watch.Watch.{Watch}
 use Rattle.lk_watch.specs.declared.notice.News.TheVariants.{Free}
 use Rattle.lk_watch.specs.declared.waiter.Waiter.{Waiter}
-use Rattle.lk_watch.specs.declared.waiter.Letter.{Letter}
+use Rattle.lk_watch.specs.declared.waiter.Envelope.{Envelope}
 
--- the entries in order of arrival, and how many letters may still go in this turn
+-- the entries in order of arrival, and how many envelopes may still go in this turn
 pub record QueueValue : Type 0 where
   pub waiters : List Waiter
   pub left : ℕ
@@ -28,8 +28,8 @@ max_of_name = 256
 abbrev pub max_of_client : ℕ
 max_of_client = 4
 
-abbrev pub max_letters : ℕ
-max_letters = 64
+abbrev pub max_envelopes : ℕ
+max_envelopes = 64
 
 -- the bounds of a queue, which has one entry at most for each client and name
 pub record IsQueue (q : QueueValue) : Type 0 where
@@ -38,7 +38,7 @@ pub record IsQueue (q : QueueValue) : Type 0 where
   pub of_client : (client : ℕ) → count_by (is_client client) q.waiters ≤ max_of_client
   pub of_name : (name : List ℕ) → count_by (is_named name) q.waiters ≤ max_of_name
   pub each : All IsWaiter q.waiters
-  pub left : q.left ≤ max_letters
+  pub left : q.left ≤ max_envelopes
 
 -- ---- the entry of a ticket's client and name
 
@@ -113,7 +113,7 @@ abbrev pub others : Ticket → List Waiter → List Waiter
 others t ws = filter (is_other t) ws
 
 -- what is sent for it at once, by the waiters before and after it
-abbrev pub answer_to : Watch → SocketAddr → Standing → Bool → List Waiter → List Waiter → Option Letter
+abbrev pub answer_to : Watch → SocketAddr → Standing → Bool → List Waiter → List Waiter → Option Envelope
 answer_to watch from s speaks old new =
     if is_ignored_by watch from (entry watch.ticket old) then None else
     Some (record {
@@ -133,9 +133,9 @@ is_alive w = nat_lt 0 w.periods
 abbrev pub lived : (ℕ → List ℕ → Bool) → ℕ → List Waiter → List Waiter
 lived holds count ws = filter is_alive (map (refreshed holds count) ws)
 
--- so at the beginning of a turn, in which it may hand out all letters again
+-- so at the beginning of a turn, in which it may hand out all envelopes again
 abbrev pub begun : (ℕ → List ℕ → Bool) → ℕ → QueueValue → QueueValue
-begun holds count q = record { waiters = lived holds count q.waiters; left = max_letters }
+begun holds count q = record { waiters = lived holds count q.waiters; left = max_envelopes }
 
 -- ---- who is told
 
@@ -155,9 +155,9 @@ is_due_at table ws i = is_due_in table (take i ws) (slice_get ws i)
 abbrev pub NoneDueBefore : Table → List Waiter → ℕ → Type 0
 NoneDueBefore table ws n = (i : ℕ) → i < n → is_due_at table ws i ≡ false
 
--- the letter to the waiter there
-abbrev pub letter_to : List Waiter → ℕ → Waiter → Letter
-letter_to ws i w = record {
+-- the envelope to the waiter there
+abbrev pub envelope_to : List Waiter → ℕ → Waiter → Envelope
+envelope_to ws i w = record {
   to = w.address;
   ticket = w.ticket;
   news = Free;
@@ -165,43 +165,43 @@ letter_to ws i w = record {
 }
 
 -- of those who are to be told, the first to arrive is; all others stay as they are
-pub record TellsFirst (table : Table) (old : QueueValue) (letter : Letter) (new : QueueValue) : Type 0 where
+pub record TellsFirst (table : Table) (old : QueueValue) (envelope : Envelope) (new : QueueValue) : Type 0 where
   pub index : ℕ
   pub waiter : Waiter
   pub is : slice_get old.waiters index ≡ Some waiter
   pub due : is_due (table waiter.ticket.name) (take index old.waiters) waiter ≡ true
   pub first : NoneDueBefore table old.waiters index
-  pub sent : letter ≡ letter_to old.waiters index waiter
+  pub sent : envelope ≡ envelope_to old.waiters index waiter
   pub becomes : new.waiters ≡ slice_set old.waiters index (told (opening (table waiter.ticket.name)) waiter)
   pub counted : new.left + 1 ≡ old.left
 
--- these letters are handed out, one after another
-abbrev pub TellsEach : Table → QueueValue → List Letter → QueueValue → Type 0
+-- these envelopes are handed out, one after another
+abbrev pub TellsEach : Table → QueueValue → List Envelope → QueueValue → Type 0
 TellsEach table old [] new = new ≡ old
-TellsEach table old (letter ∷ letters) new =
-    (mid : QueueValue) × TellsFirst table old letter mid × TellsEach table mid letters new
+TellsEach table old (envelope ∷ envelopes) new =
+    (mid : QueueValue) × TellsFirst table old envelope mid × TellsEach table mid envelopes new
 
--- these are, until nobody is to be told or no letter is left in this turn
-pub record TellsAll (table : Table) (old : QueueValue) (letters : List Letter) (new : QueueValue) : Type 0 where
-  pub each : TellsEach table old letters new
+-- these are, until nobody is to be told or no envelope is left in this turn
+pub record TellsAll (table : Table) (old : QueueValue) (envelopes : List Envelope) (new : QueueValue) : Type 0 where
+  pub each : TellsEach table old envelopes new
   pub ends : (new.left ≡ 0) ⊎ NoneDueBefore table new.waiters (length new.waiters)
 
 -- ---- a watch as a server hears it
 
-abbrev pub listed_letter : Option Letter → List Letter
-listed_letter None = []
-listed_letter (Some letter) = letter ∷ []
+abbrev pub listed_envelope : Option Envelope → List Envelope
+listed_envelope None = []
+listed_envelope (Some envelope) = envelope ∷ []
 
--- a watch that came from there was heard, and these letters are to be sent for it at once: one, or none if it is
+-- a watch that came from there was heard, and these envelopes are to be sent for it at once: one, or none if it is
 -- ignored
 pub record Hears (table : Table) (speaks : Bool) (watch : Watch) (from : SocketAddr) (old : QueueValue)
-    (letters : List Letter) (new : QueueValue) : Type 0 where
+    (envelopes : List Envelope) (new : QueueValue) : Type 0 where
   pub waiters : new.waiters ≡ heard watch from (table watch.ticket.name) old.waiters
   pub left : new.left ≡ old.left
-  pub answer : letters
-      ≡ listed_letter (answer_to watch from (table watch.ticket.name) speaks old.waiters new.waiters)
+  pub answer : envelopes
+      ≡ listed_envelope (answer_to watch from (table watch.ticket.name) speaks old.waiters new.waiters)
 
 -- so, or out of memory nothing happens
-abbrev pub HearsOrNot : Table → Bool → Watch → SocketAddr → QueueValue → List Letter → QueueValue → Type 0
-HearsOrNot table speaks watch from old letters new =
-    Hears table speaks watch from old letters new ⊎ ((letters ≡ []) × (new ≡ old))
+abbrev pub HearsOrNot : Table → Bool → Watch → SocketAddr → QueueValue → List Envelope → QueueValue → Type 0
+HearsOrNot table speaks watch from old envelopes new =
+    Hears table speaks watch from old envelopes new ⊎ ((envelopes ≡ []) × (new ≡ old))

@@ -11,17 +11,17 @@ use Rattle.lk_watch.specs.declared.notice.News.TheVariants.{Free, Held, NotHere}
 
 abbrev pub fence_in : Standing → ℕ
 fence_in (standing.Free fence) = fence
-fence_in (standing.Alone fence) = fence
-fence_in (standing.Together fence count) = fence
+fence_in (standing.ExclusiveHold fence) = fence
+fence_in (standing.SharedHold fence count) = fence
 
 -- how many more clients may take the name in that mode, each by itself
 abbrev pub places : Mode → Standing → ℕ
 places Exclusive (standing.Free fence) = 1
-places Exclusive (standing.Alone fence) = 0
-places Exclusive (standing.Together fence count) = 0
+places Exclusive (standing.ExclusiveHold fence) = 0
+places Exclusive (standing.SharedHold fence count) = 0
 places Share (standing.Free fence) = max_sharers
-places Share (standing.Alone fence) = 0
-places Share (standing.Together fence count) = max_sharers - count
+places Share (standing.ExclusiveHold fence) = 0
+places Share (standing.SharedHold fence count) = max_sharers - count
 
 -- by what is said of each name, none is free for anybody
 abbrev pub HasNoPlace : (List ℕ → Standing) → Type 0
@@ -30,8 +30,8 @@ HasNoPlace table = (name : List ℕ) (mode : Mode) → places mode (table name) 
 -- the fence at which the name was free last: the first grant after that took the next one
 abbrev pub opening : Standing → ℕ
 opening (standing.Free fence) = fence
-opening (standing.Alone fence) = fence - 1
-opening (standing.Together fence count) = fence - 1
+opening (standing.ExclusiveHold fence) = fence - 1
+opening (standing.SharedHold fence count) = fence - 1
 
 -- the table is not older than the watch, and the name is free for it
 abbrev pub serves : Standing → Ticket → Bool

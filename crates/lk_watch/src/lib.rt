@@ -22,5 +22,5 @@ pub use notice::{News, Notice};
 pub use seen::{SeenName, SeenNames};
 pub use standing::{NameTable, Standing};
 pub use ticket::{Mode, Ticket};
-pub use waiter::{Letter, Stage, Waiter};
+pub use waiter::{Envelope, Stage, Waiter};
 pub use watch::Watch;

@@ -5,14 +5,14 @@ ghost use Rattle.std.specs.Prelude.{◌+◌, nat_lt, take, map, vec_len, vec_cap
 ghost use Rattle.std.specs.List.{sum_by, count_by, position_or_len};
 ghost use Rattle.lk_watch.specs.Standings.{serves};
 ghost use Rattle.lk_watch.specs.Waiters.{is_named, is_client, is_of, waits_for, load, is_due, refreshed};
-ghost use Rattle.lk_watch.specs.Queues.{IsQueue, max_letters, position, has_room, is_kept, is_ignored_by, is_waiting};
+ghost use Rattle.lk_watch.specs.Queues.{IsQueue, max_envelopes, position, has_room, is_kept, is_ignored_by, is_waiting};
 ghost use Rattle.lk_watch.specs.Queues.{without, renewed_in, entered_for, heard, answer_to, place_of, begun, lived};
 ghost use Rattle.lk_watch.specs.Queues.{others, is_due_at, NoneDueBefore, TellsFirst};
 
 use crate::same_name::is_same;
 use crate::standing::{NameTable, Standing};
 use crate::ticket::Ticket;
-use crate::waiter::{Letter, MAX_SENT, Stage, Waiter};
+use crate::waiter::{Envelope, MAX_SENT, Stage, Waiter};
 use crate::watch::Watch;
 use lk_locks::Name;
 use lk_types::{ClientNo, NoMemory};
@@ -29,7 +29,7 @@ pub const MAX_OF_NAME: usize = 256;
 /// The most names for which a client waits.
 pub const MAX_OF_CLIENT: usize = 4;
 
-/// The most letters of a turn.
+/// The most envelopes of a turn.
 pub const MAX_LETTERS: usize = 64;
 
 // Returns how many of the waiters are of that client.
@@ -206,13 +206,13 @@ fn first_due<T: NameTable>(table: &T, waiters: &[Waiter]) -> Option<usize>
 #[derive(Drop)]
 pub struct WatchQueue {
     waiters: Vec<Waiter>,
-    // how many letters it may still hand out in this turn
+    // how many envelopes it may still hand out in this turn
     left: usize,
 }
 
 impl Model for WatchQueue {
     ghost use Rattle.std.specs.Prelude.{◌≤◌};
-    ghost use Rattle.lk_watch.specs.Queues.{QueueValue, IsQueue, max_letters};
+    ghost use Rattle.lk_watch.specs.Queues.{QueueValue, IsQueue, max_envelopes};
 
     ghost Value = { QueueValue };
 
@@ -224,7 +224,7 @@ impl Model for WatchQueue {
 impl WatchQueue {
     /// Returns an empty queue. It takes memory with the first that waits.
     pub fn new(alloc: Global) -> WatchQueue
-        ensures { result ≡ record { waiters = []; left = max_letters } }
+        ensures { result ≡ record { waiters = []; left = max_envelopes } }
     {
         WatchQueue {
             waiters: Vec::new(alloc),
@@ -293,7 +293,7 @@ impl WatchQueue {
         Ok(())
     }
 
-    /// Takes a watch that came from an address, where the table says this of its name, and returns the letter that
+    /// Takes a watch that came from an address, where the table says this of its name, and returns the envelope that
     /// answers it. `None`, and nothing changes, if a newer watch of the client for the name came before, or if its
     /// waiter has another address. A watch that withdraws ends the wait. Any other renews it; without a waiter it is
     /// kept if the name is held or others wait for it, and there is room: nobody makes place for it. Out of memory
@@ -304,7 +304,7 @@ impl WatchQueue {
         from: SocketAddr,
         standing: Standing,
         speaks: bool,
-    ) -> Result<Option<Letter>, NoMemory>
+    ) -> Result<Option<Envelope>, NoMemory>
         ensures waiters { OnOk result (self.new.waiters ≡ heard watch.now from standing self.old.waiters) }
         ensures answer { IfOk result
             (λ a. a ≡ answer_to watch.now from standing speaks self.old.waiters self.new.waiters) }
@@ -323,7 +323,7 @@ impl WatchQueue {
         } else if is_kept(watch, standing, &self.waiters) {
             self.enter(at, watch, from)?;
         }
-        Ok(Some(Letter {
+        Ok(Some(Envelope {
             to: from,
             ticket: ticket.copy(),
             news: standing.news(speaks, ticket),
@@ -351,7 +351,7 @@ impl WatchQueue {
 
     /// Begins a turn, before which that many periods have passed since the last one. Watches that have lived for theirs
     /// expire. Whoever holds the name that it waits for, by what the table says, was granted it, and waits no more: its
-    /// number is kept until its watch expires. It may hand out 64 letters again.
+    /// number is kept until its watch expires. It may hand out 64 envelopes again.
     pub fn begin_turn<T: NameTable>(&mut self, table: &T, count: u64)
         ensures { self.new ≡ begun (T.holds table.now) count self.old }
     {
@@ -363,12 +363,13 @@ impl WatchQueue {
         self.left = MAX_LETTERS;
     }
 
-    /// Returns the letter to the first to arrive of those who are to be told that their name is free, by what the table
-    /// says, and counts it. `None`, and nothing changes, if nobody is, or 64 letters were handed out in this turn.
-    /// If some name has a place, it looks at each entry, and for a name that is free at those before it too.
-    pub fn next_letter<T: NameTable>(&mut self, table: &T) -> Option<Letter>
-        ensures first { IfSome result (λ letter. TellsFirst (T.standing table.now) self.old letter self.new) }
-        ensures free { IfSome result (λ letter. serves (T.standing table.now letter.ticket.name) letter.ticket ≡ true) }
+    /// Returns the envelope to the first to arrive of those who are to be told that their name is free, by what the
+    /// table says, and counts it. `None`, and nothing changes, if nobody is, or 64 envelopes were handed out in this
+    /// turn. If some name has a place, it looks at each entry, and for a name that is free at those before it too.
+    pub fn next_envelope<T: NameTable>(&mut self, table: &T) -> Option<Envelope>
+        ensures first { IfSome result (λ envelope. TellsFirst (T.standing table.now) self.old envelope self.new) }
+        ensures free { IfSome result (λ envelope. serves (T.standing table.now envelope.ticket.name)
+            envelope.ticket ≡ true) }
         ensures none { IsNone result → (self.old.left ≡ 0)
             ⊎ NoneDueBefore (T.standing table.now) self.old.waiters (length self.old.waiters) }
         ensures unchanged { IsNone result → self.new ≡ self.old }

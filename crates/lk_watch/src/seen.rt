@@ -8,16 +8,16 @@ use crate::same_name::is_same;
 use crate::standing::{NameTable, Standing};
 use crate::table::{is_holder_of, standing_of};
 use crate::ticket::Mode;
-use lk_locks::{LockTable, Name, Slot};
+use lk_locks::{LockEntry, LockTable, Name};
 use lk_types::{ClientNo, NoMemory};
 use std::alloc::Global;
 use std::marker::Model;
 
-/// What a lock table says of a name: its slot, if it has the name.
+/// What a lock table says of a name: its lock entry, if it has the name.
 #[derive(Drop)]
 pub struct SeenName {
     pub name: Name,
-    pub slot: Option<Slot>,
+    pub lock_entry: Option<LockEntry>,
 }
 
 /// What a lock table says of some names. Any other counts as held, by nobody who waits for it.
@@ -55,8 +55,8 @@ fn standing_among(names: &[SeenName], name: &Name) -> Standing
     ensures { result ≡ standing_seen names.now name.now }
 {
     match names.get(position_of(name, names)) {
-        Some(seen) => standing_of(&seen.slot),
-        None => Standing::Alone(0),
+        Some(seen) => standing_of(&seen.lock_entry),
+        None => Standing::ExclusiveHold(0),
     }
 }
 
@@ -64,16 +64,16 @@ fn standing_among(names: &[SeenName], name: &Name) -> Standing
 fn holds_some(names: &[SeenName], client: ClientNo) -> bool
     ensures { result ≡ holds_some client names.now }
 {
-    names.iter().any(|seen| is_holder_of(client, &seen.slot))
+    names
+        .iter()
+        .any(|seen| is_holder_of(client, &seen.lock_entry))
 }
 
 // Whether one of these names has a place.
 fn some_open(names: &[SeenName]) -> bool
     ensures { result ≡ some_open names.now }
 {
-    names
-        .iter()
-        .any(|seen| standing_of(&seen.slot).places(Mode::Share) > 0)
+    names.iter().any(|seen| standing_of(&seen.lock_entry).places(Mode::Share) > 0)
 }
 
 // Whether a client holds a name, by what these say: not if it is none of them.
@@ -81,7 +81,7 @@ fn is_holder_among(names: &[SeenName], client: ClientNo, name: &Name) -> bool
     ensures { result ≡ holds_seen names.now client name.now }
 {
     match names.get(position_of(name, names)) {
-        Some(seen) => is_holder_of(client, &seen.slot),
+        Some(seen) => is_holder_of(client, &seen.lock_entry),
         None => false,
     }
 }
@@ -93,7 +93,7 @@ impl SeenNames {
     {
         self.names.push(SeenName {
             name: name.copy(),
-            slot: table.slot(name),
+            lock_entry: table.lock_entry(name),
         })?;
         Ok(())
     }

@@ -14,9 +14,9 @@ pub enum Standing {
     /// Nobody.
     Free(u64),
     /// One client, exclusively.
-    Alone(u64),
+    ExclusiveHold(u64),
     /// That many clients share it.
-    Together(u64, u8),
+    SharedHold(u64, u8),
 }
 
 /// A lock table, as a queue of watches asks it.
@@ -48,7 +48,9 @@ impl Standing {
         ensures { result ≡ fence_in self }
     {
         match self {
-            Standing::Free(fence) | Standing::Alone(fence) | Standing::Together(fence, _) => fence,
+            Standing::Free(fence)
+            | Standing::ExclusiveHold(fence)
+            | Standing::SharedHold(fence, _) => fence,
         }
     }
 
@@ -59,7 +61,7 @@ impl Standing {
         match (mode, self) {
             (Mode::Exclusive, Standing::Free(_)) => 1,
             (Mode::Share, Standing::Free(_)) => usize::from(MAX_SHARERS),
-            (Mode::Share, Standing::Together(_, count)) => {
+            (Mode::Share, Standing::SharedHold(_, count)) => {
                 usize::from(MAX_SHARERS.saturating_sub(count))
             }
             _ => 0,
@@ -72,7 +74,9 @@ impl Standing {
     {
         match self {
             Standing::Free(fence) => fence,
-            Standing::Alone(fence) | Standing::Together(fence, _) => fence.saturating_sub(1),
+            Standing::ExclusiveHold(fence) | Standing::SharedHold(fence, _) => fence.saturating_sub(
+                1,
+            ),
         }
     }
 

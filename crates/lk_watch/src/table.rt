@@ -3,17 +3,17 @@ ghost use Rattle.std.specs.Prelude.{◌≡◌};
 ghost use Rattle.lk_watch.specs.Tables.{standing_at, standing_of, is_holder, is_holder_of};
 
 use crate::standing::{NameTable, Standing};
-use lk_locks::{Holders, LockTable, Name, Slot};
+use lk_locks::{Holders, LockEntry, LockTable, Name};
 use lk_types::{ClientNo, Fence};
 
-// Returns what a slot with that last fence and these holders says.
+// Returns what a lock entry with that last fence and these holders says.
 fn standing_at(fence: Fence, holders: &Holders) -> Standing
     ensures { result ≡ standing_at fence holders.now }
 {
     match holders {
         Holders::Nobody => Standing::Free(fence.get()),
-        Holders::Alone(_) => Standing::Alone(fence.get()),
-        Holders::Together(clients) => Standing::Together(fence.get(), clients.count().get()),
+        Holders::ExclusiveHold(_) => Standing::ExclusiveHold(fence.get()),
+        Holders::SharedHold(clients) => Standing::SharedHold(fence.get(), clients.count().get()),
     }
 }
 
@@ -23,27 +23,27 @@ fn is_holder(client: ClientNo, holders: &Holders) -> bool
 {
     match holders {
         Holders::Nobody => false,
-        Holders::Alone(holder) => *holder == client,
-        Holders::Together(clients) => clients.has(client),
+        Holders::ExclusiveHold(holder) => *holder == client,
+        Holders::SharedHold(clients) => clients.has(client),
     }
 }
 
-// Returns what a slot says, if there is one.
-pub(crate) fn standing_of(slot: &Option<Slot>) -> Standing
-    ensures { result ≡ standing_of slot.now }
+// Returns what a lock entry says, if there is one.
+pub(crate) fn standing_of(lock_entry: &Option<LockEntry>) -> Standing
+    ensures { result ≡ standing_of lock_entry.now }
 {
-    match slot {
-        Some(slot) => standing_at(slot.fence, &slot.holders),
+    match lock_entry {
+        Some(lock_entry) => standing_at(lock_entry.fence, &lock_entry.holders),
         None => Standing::Free(0),
     }
 }
 
-// Whether the client is one of the holders of a slot, if there is one.
-pub(crate) fn is_holder_of(client: ClientNo, slot: &Option<Slot>) -> bool
-    ensures { result ≡ is_holder_of client slot.now }
+// Whether the client is one of the holders of a lock entry, if there is one.
+pub(crate) fn is_holder_of(client: ClientNo, lock_entry: &Option<LockEntry>) -> bool
+    ensures { result ≡ is_holder_of client lock_entry.now }
 {
-    match slot {
-        Some(slot) => is_holder(client, &slot.holders),
+    match lock_entry {
+        Some(lock_entry) => is_holder(client, &lock_entry.holders),
         None => false,
     }
 }
@@ -56,11 +56,11 @@ impl NameTable for LockTable {
     ghost holds = { holds_in };
 
     fn standing(&self, name: &Name) -> Standing {
-        standing_of(&self.slot(name))
+        standing_of(&self.lock_entry(name))
     }
 
     fn holds(&self, client: ClientNo, name: &Name) -> bool {
-        is_holder_of(client, &self.slot(name))
+        is_holder_of(client, &self.lock_entry(name))
     }
 
     fn has_place(&self) -> bool {

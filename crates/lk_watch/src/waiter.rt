@@ -1,4 +1,4 @@
-// A client in a queue, and the letters to it.
+// A client in a queue, and the envelopes to it.
 ghost use Rattle.std.specs.Prelude.{◌≡◌, ◌<◌, IsTrue, ◌↔◌};
 ghost use Rattle.lk_watch.specs.Waiters.{is_of, waits_for, stage_at, is_passed, load, ignores, newcomer, renewed, aged};
 ghost use Rattle.lk_watch.specs.Waiters.{aged_stage, next_stage, settled, told, weight};
@@ -51,7 +51,7 @@ pub struct Waiter {
 
 /// A notice that a queue hands out, and where it goes.
 #[derive(Drop)]
-pub struct Letter {
+pub struct Envelope {
     pub to: SocketAddr,
     /// The watch that it answers.
     pub ticket: Ticket,
@@ -60,7 +60,7 @@ pub struct Letter {
     pub place: u16,
 }
 
-impl Letter {
+impl Envelope {
     /// Returns the notice of a node of that cluster.
     pub fn notice(&self, cluster: u64, node: NodeNo) -> Notice
         ensures { result ≡ record {
@@ -202,9 +202,9 @@ impl Waiter {
     }
 
     /// Counts a notice that tells it that the name is free, and returns it. Its place is that.
-    pub(crate) fn tell(&mut self, opening: u64, place: u16) -> Letter
+    pub(crate) fn tell(&mut self, opening: u64, place: u16) -> Envelope
         requires { self.old.sent < 255 }
-        ensures letter { result ≡ record {
+        ensures envelope { result ≡ record {
           to = self.old.address;
           ticket = self.old.ticket;
           news = News.Free;
@@ -215,7 +215,7 @@ impl Waiter {
         self.stage = self.stage_at(opening).next();
         self.opening = opening;
         self.sent += 1;
-        Letter {
+        Envelope {
             to: self.address,
             ticket: self.ticket.copy(),
             news: News::Free,

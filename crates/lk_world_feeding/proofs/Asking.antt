@@ -13,7 +13,7 @@ use Rattle.lk_store_format.specs.Values.{HeaderValue}
 use Rattle.lk_node.specs.CatchingUp.{AsksOn}
 use Rattle.lk_node.specs.NodeValue.{NodeValue}
 use Rattle.lk_node.specs.Nudging.{AsksLeader, Nudges}
-use Rattle.lk_node.specs.Telling.{letter_to}
+use Rattle.lk_node.specs.Telling.{envelope_to}
 use Rattle.lk_node_interface.specs.Outboxes.{OutboxValue, nothing}
 use Rattle.lk_node_interface.specs.declared.input.Input.{Input}
 use Rattle.lk_node_interface.specs.declared.input.Input.TheVariants.{Nudge, Datagram as Heard}
@@ -35,8 +35,8 @@ asks_alone : (node : NodeValue) (other : ℕ) (out : OutboxValue) → executed n
     → AsksOn node other out → Asks node other out
 asks_alone node other out less (inl k) =
     let question = kinds.Want (wanted node.learner) in
-    subst (λ (o : OutboxValue). Contains o.letters (letter_to node question other)) (sym k.1.1)
-    (Contains-push nothing.letters (letter_to node question other))
+    subst (λ (o : OutboxValue). Contains o.envelopes (envelope_to node question other)) (sym k.1.1)
+    (Contains-push nothing.envelopes (envelope_to node question other))
 asks_alone node other out less (inr k) = absurd (omega (arith, less, k.0))
 
 module _ (m : Meaning) (IsText : List ℕ → Type 0) (law : EventIsStep m IsText) (old new : Scene ReplicaValue)
@@ -65,7 +65,7 @@ module _ (m : Meaning) (IsText : List ℕ → Type 0) (law : EventIsStep m IsTex
               (λ e. e) refl;
           gathered = inl kept;
           asks = k.says other (kinds.Want (wanted s.after.node.learner))
-              (subst (λ (w : WantValue). Contains s.out.letters (letter_to s.start (kinds.Want w) other))
+              (subst (λ (w : WantValue). Contains s.out.envelopes (envelope_to s.start (kinds.Want w) other))
               (sym (wanted_same s.after.node.learner s.start.learner whole gathered)) asks);
           only = k.only;
         },

@@ -22,7 +22,7 @@ use Rattle.lk_node.specs.Installing.{HandlesPart}
 use Rattle.lk_node.specs.Leading.{having_proposed, ProposesAll}
 use Rattle.lk_node.specs.NewBases.{with_snapshot}
 use Rattle.lk_node.specs.NodeValue.{NodeValue}
-use Rattle.lk_node_interface.specs.Letters.{LetterValue}
+use Rattle.lk_node_interface.specs.Envelopes.{EnvelopeValue}
 use Rattle.lk_node_interface.specs.Outboxes.{OutboxValue}
 use Rattle.lk_progress.proofs.Hearing.{Handled, handled, same_learner}
 use Rattle.lk_progress.specs.Gathering.{GetsOn, HasFirst, HasSoFar, parts_from}
@@ -164,8 +164,8 @@ first_follows position text count p parts follow =
 pub record TookParts (m : Meaning) (IsText : List ℕ → Type 0) (n from : ℕ) (parts : List PartValue) (r : ReplicaValue)
     (old new : Scene ReplicaValue) : Type 0 where
   pub last : NodeValue
-  pub letters : List LetterValue
-  pub takes : TakesEach m IsText (parts_from from parts) r.node last letters
+  pub envelopes : List EnvelopeValue
+  pub takes : TakesEach m IsText (parts_from from parts) r.node last envelopes
   pub now : ReplicaValue
   pub is : IsUpAs new n now
   pub left : (now.node ≡ last) ⊎ (now.node ≡ with_snapshot last)
@@ -195,14 +195,14 @@ module _ (m : Meaning) (IsText : List ℕ → Type 0) (law : EventIsStep m IsTex
         let t = took x r old d.0 up d.1 in
         let e : new ≡ d.0 = d.2 in record {
           last = t.steps.step.last;
-          letters = t.steps.step.out.letters;
+          envelopes = t.steps.step.out.envelopes;
           takes = (
             t.steps.step.last,
             t.steps.step.out,
             [],
             taken x r old d.0 up d.1,
             (refl, refl),
-            sym (append-nil t.steps.step.out.letters),
+            sym (append-nil t.steps.step.out.envelopes),
           );
           now = t.steps.step.after;
           is = subst (λ (w : Scene ReplicaValue). IsUpAs w n t.steps.step.after) (sym e) t.steps.step.is;
@@ -227,13 +227,13 @@ module _ (m : Meaning) (IsText : List ℕ → Type 0) (law : EventIsStep m IsTex
         (subst (λ (node : NodeValue). HasSoFar node.learner position text (count + 1024)) (sym after) (inr gathered.0))
         rest d.2 in record {
           last = more.last;
-          letters = t.steps.step.out.letters ++ more.letters;
+          envelopes = t.steps.step.out.envelopes ++ more.envelopes;
           takes = (
             t.steps.step.last,
             t.steps.step.out,
-            more.letters,
+            more.envelopes,
             taken x r old d.0 up d.1,
-            subst (λ (node : NodeValue). TakesEach m IsText (parts_from from (q ∷ parts)) node more.last more.letters)
+            subst (λ (node : NodeValue). TakesEach m IsText (parts_from from (q ∷ parts)) node more.last more.envelopes)
                 after more.takes,
             refl,
           );

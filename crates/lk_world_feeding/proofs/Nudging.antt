@@ -22,14 +22,14 @@ use Rattle.lk_node.specs.NodeValue.{NodeValue}
 use Rattle.lk_node.specs.Nudging.{AsksInTerm, AsksOthers, Nudges, SeeksAfresh, TellsIfSilent, TellsProgress, progress}
 use Rattle.lk_node.specs.Nudging.{refreshed, remembering, without_gathered}
 use Rattle.lk_node.specs.Reminding.{IsTermOf}
-use Rattle.lk_node.specs.Telling.{AreOthers, letter_to}
-use Rattle.lk_node_interface.specs.Letters.{LetterValue}
+use Rattle.lk_node.specs.Telling.{AreOthers, envelope_to}
+use Rattle.lk_node_interface.specs.Envelopes.{EnvelopeValue}
 use Rattle.lk_node_interface.specs.Outboxes.{OutboxValue, nothing}
 use Rattle.lk_node_interface.specs.Ticks.{is_full}
 use Rattle.lk_node_interface.specs.declared.input.Input.TheVariants.{Nudge}
 use Rattle.lk_node_interface.specs.declared.nudge_reason.NudgeReason.{NudgeReason}
 use Rattle.lk_node_interface.specs.declared.nudge_reason.NudgeReason.TheVariants.{Period, TicksWithheld, Fed}
-use Rattle.lk_progress.proofs.Hearing.{proposed_learner, proposed_letters}
+use Rattle.lk_progress.proofs.Hearing.{proposed_learner, proposed_envelopes}
 use Rattle.lk_replica.specs.ReplicaValue.{ReplicaValue}
 use Rattle.lk_sim.specs.Scenes.{Scene}
 use Rattle.lk_sim.specs.declared.event.Event.TheVariants as event
@@ -183,17 +183,19 @@ module _ (m : Meaning) (IsText : List ℕ → Type 0) (law : EventIsStep m IsTex
       abbrev question : NodeMessage
       question = kinds.Want (wanted now.learner)
 
-      asked_in : AsksInTerm now k.step.last k.step.out → Contains k.step.out.letters (letter_to start question other)
-      asked_in a = subst (λ (l : LetterValue). Contains k.step.out.letters l)
-          (refreshed_has (λ node. letter_to node question other ≡ letter_to start question other) start refl refl)
-          (proposed_letters a.proposes.0 now k.step.last a.asked k.step.out (letter_to now question other) a.proposes.1
+      asked_in : AsksInTerm now k.step.last k.step.out → Contains k.step.out.envelopes
+          (envelope_to start question other)
+      asked_in a = subst (λ (l : EnvelopeValue). Contains k.step.out.envelopes l)
+          (refreshed_has (λ node. envelope_to node question other ≡ envelope_to start question other) start refl refl)
+          (proposed_envelopes a.proposes.0 now k.step.last a.asked k.step.out (envelope_to now question
+          other) a.proposes.1
           (by_asks a.asks))
         where
-          by_asks : AsksOthers now a.asked → Contains a.asked.letters (letter_to now question other)
-          by_asks (inl asks) = subst (λ (o : OutboxValue). Contains o.letters (letter_to now question other))
+          by_asks : AsksOthers now a.asked → Contains a.asked.envelopes (envelope_to now question other)
+          by_asks (inl asks) = subst (λ (o : OutboxValue). Contains o.envelopes (envelope_to now question other))
               (sym asks.1.2.1)
-              (Contains-append_right nothing.letters _ _
-              (map_has (letter_to now question) asks.1.0 other (other_among some ne named asks.1.0 asks.1.1)))
+              (Contains-append_right nothing.envelopes _ _
+              (map_has (envelope_to now question) asks.1.0 other (other_among some ne named asks.1.0 asks.1.1)))
           by_asks (inr none) =
               let few : executed now.learner < 281474976710656 =
               refreshed_has (λ node. executed node.learner < 281474976710656) start few_start few_start in
@@ -215,7 +217,7 @@ module _ (m : Meaning) (IsText : List ℕ → Type 0) (law : EventIsStep m IsTex
             whole = whole ∙ whole_now;
             gathered = elim gathered_now [ inl e ↦ inl (gathered ∙ e) | inr e ↦ inr (gathered ∙ e) ];
             asks = k.says other (kinds.Want (wanted k.step.after.node.learner))
-                (subst (λ (w : WantValue). Contains k.step.out.letters (letter_to start (kinds.Want w) other))
+                (subst (λ (w : WantValue). Contains k.step.out.envelopes (envelope_to start (kinds.Want w) other))
                 (sym (wanted_same k.step.after.node.learner now.learner whole gathered)) (asked_in a));
             only = k.only;
           }
@@ -236,14 +238,15 @@ module _ (m : Meaning) (IsText : List ℕ → Type 0) (law : EventIsStep m IsTex
     -- ---- without one
 
     module _ (silent : IsSilent n other reason r) (waited : (withheld || is_full r.node.ticks) ≡ true) where
-      told_in : TellsProgress now k.step.out → Contains k.step.out.letters
-          (letter_to start (kinds.Nack (progress start)) other)
-      told_in t = subst (λ (l : LetterValue). Contains k.step.out.letters l)
-          (refreshed_has (λ node. letter_to node (kinds.Nack (progress node)) other
-          ≡ letter_to start (kinds.Nack (progress start)) other) start refl refl)
-          (subst (λ (o : OutboxValue). Contains o.letters (letter_to now (kinds.Nack (progress now)) other)) (sym t.2.1)
-          (Contains-append_right nothing.letters _ _
-          (map_has (letter_to now (kinds.Nack (progress now))) t.0 other
+      told_in : TellsProgress now k.step.out → Contains k.step.out.envelopes
+          (envelope_to start (kinds.Nack (progress start)) other)
+      told_in t = subst (λ (l : EnvelopeValue). Contains k.step.out.envelopes l)
+          (refreshed_has (λ node. envelope_to node (kinds.Nack (progress node)) other
+          ≡ envelope_to start (kinds.Nack (progress start)) other) start refl refl)
+          (subst (λ (o : OutboxValue). Contains o.envelopes (envelope_to now (kinds.Nack (progress now))
+          other)) (sym t.2.1)
+          (Contains-append_right nothing.envelopes _ _
+          (map_has (envelope_to now (kinds.Nack (progress now))) t.0 other
           (other_among silent.some silent.apart silent.named t.0 t.1))))
 
       waited_now : (withheld || is_full now.ticks) ≡ true
@@ -259,12 +262,12 @@ module _ (m : Meaning) (IsText : List ℕ → Type 0) (law : EventIsStep m IsTex
           at_start = found_has r start k.found (λ node. node.leader.term ≡ None) (λ e. e) silent.idle
 
       told : SeeksAfresh withheld start k.step.last k.step.out
-          → Contains k.step.out.letters (letter_to start (kinds.Nack (progress start)) other)
+          → Contains k.step.out.envelopes (envelope_to start (kinds.Nack (progress start)) other)
       told (inl a) = absurd (cc (sym idle_now ∙ a.1.1))
       told (inr t) = by_silence t.2
         where
           by_silence : TellsIfSilent withheld now k.step.out
-              → Contains k.step.out.letters (letter_to start (kinds.Nack (progress start)) other)
+              → Contains k.step.out.envelopes (envelope_to start (kinds.Nack (progress start)) other)
           by_silence (inl says) = told_in says.1
           by_silence (inr not_yet) = absurd (cc (sym waited_now ∙ not_yet.0))
 

@@ -9,8 +9,8 @@ use Rattle.lk_agreement_laws.proofs.Histories.{only}
 use Rattle.lk_state.specs.Meanings.{Meaning}
 use Rattle.lk_learner.specs.Learners.{alpha, decided_from, executed}
 use Rattle.lk_node.specs.NodeValue.{NodeValue}
-use Rattle.lk_node.specs.Telling.{letter_to}
-use Rattle.lk_node_interface.specs.Letters.{LetterValue, batch_of}
+use Rattle.lk_node.specs.Telling.{envelope_to}
+use Rattle.lk_node_interface.specs.Envelopes.{EnvelopeValue, batch_of}
 use Rattle.lk_node_interface.specs.Outboxes.{OutboxValue}
 use Rattle.lk_progress.specs.Feeding.{DecidedIsExecuted, LaggingNodeIsFed, Sends, WantIsAnswered}
 use Rattle.lk_progress.specs.Hearing.{Takes}
@@ -45,7 +45,7 @@ module _ (m : Meaning) (IsText : List ℕ → Type 0) (law : DeliveriesAreTaken 
     pub is : IsUpAs new n now
     pub takes : Takes m IsText r.node (content.Node from x) now.node out
     pub learner : now.node.learner ≡ r.node.learner
-    pub says : (j : ℕ) (y : NodeMessage) → Contains out.letters (letter_to r.node y j) → HasSentTo new n j y
+    pub says : (j : ℕ) (y : NodeMessage) → Contains out.envelopes (envelope_to r.node y j) → HasSentTo new n j y
     pub only : ChangesOnly n old new
 
   pub takes_one : TakesOne
@@ -60,12 +60,12 @@ module _ (m : Meaning) (IsText : List ℕ → Type 0) (law : DeliveriesAreTaken 
         takes = takes;
         learner = taken_learner m IsText r.node all.after.node from x each.1 about takes;
         says = λ j y c. sent_as old new n j r.node y (has_header m IsText old k.hears.goes.before n r up) all.genesis
-            (among n all.letters old new all.sent (letter_to r.node y j)
-            (subst (λ (ls : List LetterValue). Contains ls (letter_to r.node y j)) (sym each.5)
-            (Contains-append_left each.1.letters each.2 (letter_to r.node y j) c)));
+            (among n all.envelopes old new all.sent (envelope_to r.node y j)
+            (subst (λ (ls : List EnvelopeValue). Contains ls (envelope_to r.node y j)) (sym each.5)
+            (Contains-append_left each.1.envelopes each.2 (envelope_to r.node y j) c)));
         only = record {
           others = all.others;
-          sent = still old new (batch_of n all.letters) all.sent;
+          sent = still old new (batch_of n all.envelopes) all.sent;
           genesis = all.genesis;
         };
       }

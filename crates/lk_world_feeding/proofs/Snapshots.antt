@@ -142,7 +142,7 @@ module _ (m : Meaning) (IsText : List ℕ → Type 0) (law : EventIsStep m IsTex
         (gets_on_left taking.0.node took.last took.now.node (position_of ahead)
         (count_of behind + length k.parts * 1024) (text_of ahead) took.left
         (installs taking.0.node took.last other (position_of ahead) (count_of behind) (text_of ahead) unpacks.0 k.parts
-        took.letters (omega (arith, window, window_then)) behind_then unpacks.1 needs.gathered.0 so_far k.are
+        took.envelopes (omega (arith, window, window_then)) behind_then unpacks.1 needs.gathered.0 so_far k.are
         took.takes))
 
     -- ---- together

@@ -14,9 +14,9 @@ use Rattle.lk_node.specs.CatchingUp.{HandlesLead}
 use Rattle.lk_node.specs.Leavings.{header_of}
 use Rattle.lk_node.specs.NodeValue.{NodeValue}
 use Rattle.lk_node.specs.Steps.{HandlesNode}
-use Rattle.lk_node.specs.Telling.{letter_to}
+use Rattle.lk_node.specs.Telling.{envelope_to}
 use Rattle.lk_node.specs.Yielding.{seeing, with_round, without_term}
-use Rattle.lk_node_interface.specs.Letters.{batch_of}
+use Rattle.lk_node_interface.specs.Envelopes.{batch_of}
 use Rattle.lk_node_interface.specs.Outboxes.{OutboxValue}
 use Rattle.lk_node_interface.specs.declared.input.Input.{Input}
 use Rattle.lk_node_interface.specs.declared.input.Input.TheVariants.{Datagram as Heard}
@@ -99,7 +99,7 @@ module _ (m : Meaning) (IsText : List ℕ → Type 0) (law : EventIsStep m IsTex
       → ChangesOnly n old new
   step_only n i old new s = record {
     others = s.others;
-    sent = still old new (batch_of n s.out.letters) s.sent;
+    sent = still old new (batch_of n s.out.envelopes) s.sent;
     genesis = s.genesis;
   }
 
@@ -115,7 +115,8 @@ module _ (m : Meaning) (IsText : List ℕ → Type 0) (law : EventIsStep m IsTex
     pub found : IsFound r step.start
     pub header : step.start.header ≡ header_of old.genesis n
     pub only : ChangesOnly n old new
-    pub says : (k : ℕ) (y : NodeMessage) → Contains step.out.letters (letter_to step.start y k) → HasSentTo new n k y
+    pub says : (k : ℕ) (y : NodeMessage) → Contains step.out.envelopes (envelope_to step.start y k)
+        → HasSentTo new n k y
 
   pub steps_from : (n : ℕ) (i : Input) (e : Event) (r : ReplicaValue) (old new : Scene ReplicaValue) → IsUpAs old n r
       → GoesWell m IsText old e new → Gives old e n i → StepsFrom n i r old new
@@ -133,7 +134,7 @@ module _ (m : Meaning) (IsText : List ℕ → Type 0) (law : EventIsStep m IsTex
             header = header;
             only = step_only n i old new s;
             says = λ k y c. sent_as old new n k s.start y header s.genesis
-                (among n s.out.letters old new s.sent (letter_to s.start y k) c);
+                (among n s.out.envelopes old new s.sent (envelope_to s.start y k) c);
           }
 
   -- a datagram that is delivered to the node

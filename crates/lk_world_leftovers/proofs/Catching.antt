@@ -11,7 +11,7 @@ use Rattle.lk_state.specs.Meanings.{Meaning}
 use Rattle.lk_acceptor.specs.AcceptorValue.{AcceptorValue}
 use Rattle.lk_leader.specs.Terms.{TermValue}
 use Rattle.lk_learner.specs.Learners.{alpha, executed}
-use Rattle.lk_node_interface.specs.Letters.{batch_of}
+use Rattle.lk_node_interface.specs.Envelopes.{batch_of}
 use Rattle.lk_node.specs.NodeValue.{NodeValue}
 use Rattle.lk_leftovers.specs.Accepting.{IsVoterFrom}
 use Rattle.lk_replica.specs.ReplicaValue.{ReplicaValue}
@@ -178,7 +178,7 @@ module _ (m : Meaning) (IsText : List ℕ → Type 0) (law : SentCommandsAreExec
     pairs = k.pairs;
     reported = k.reported;
     sent = λ p c j d. still_sent old new x j (kinds.Accept (vote_of t p))
-        (λ e in_old. still old new (batch_of n took_from.out.letters) took_from.sent e in_old) took_from.genesis
+        (λ e in_old. still old new (batch_of n took_from.out.envelopes) took_from.sent e in_old) took_from.genesis
         (k.sent p c j d);
   }
 

@@ -24,7 +24,7 @@ use Rattle.lk_node.specs.Leavings.{header_of}
 use Rattle.lk_node.specs.Nearness.{AreNear}
 use Rattle.lk_node.specs.NodeValue.{NodeValue}
 use Rattle.lk_node.specs.Reminding.{Ticks}
-use Rattle.lk_node.specs.Telling.{letter_to}
+use Rattle.lk_node.specs.Telling.{envelope_to}
 use Rattle.lk_node.specs.Waiting.{BeginsWhereDue, ticked}
 use Rattle.lk_progress.proofs.Electing.{named_by}
 use Rattle.lk_progress.proofs.Exchanges.{node_named}
@@ -221,7 +221,7 @@ module _ (m : Meaning) (IsText : List ℕ → Type 0) (asks_law : DueNodeAsks)
 
     own_sent : HasSentTo polled x x (kinds.Promise (promise_in c.node c))
     own_sent = sent_as begun_in polled x x start (kinds.Promise (promise_in c.node c)) own_header taken.genesis
-        (own.sent (letter_to start (kinds.Promise (promise_in c.node c)) x) own_promise.told)
+        (own.sent (envelope_to start (kinds.Promise (promise_in c.node c)) x) own_promise.told)
 
     -- another node
     module _ (r : ReplicaValue) (other : Contains others r) where
@@ -259,7 +259,7 @@ module _ (m : Meaning) (IsText : List ℕ → Type 0) (asks_law : DueNodeAsks)
           (found_header r promising.start promising.found
           ∙ has_header m IsText first k.holds (number_of r) r (k.others_up r other))
           (taken.genesis ∙ began.genesis)
-          (promising.sent (letter_to promising.start (kinds.Promise (promise_in c.node r)) x) their_promise.told)
+          (promising.sent (envelope_to promising.start (kinds.Promise (promise_in c.node r)) x) their_promise.told)
 
       they_reach : highest ≤ executed promising.after.node.learner + 2 * alpha promising.after.node.learner
       they_reach = subst (λ (l : LearnerValue). highest ≤ executed l + 2 * alpha l)
@@ -335,7 +335,7 @@ module _ (m : Meaning) (IsText : List ℕ → Type 0) (asks_law : DueNodeAsks)
       }
 
       leads : LeadsToFill second (begun b) set chain.shadow_after
-      leads = fills_law second chain.shadow_after (begun b) set heard chain.letters begun_as still_begun.idle
+      leads = fills_law second chain.shadow_after (begun b) set heard chain.envelopes begun_as still_begun.idle
           may_be_heard
           (subst (λ (ns : List ℕ). IsMajority ns set) (sym (numbers_of c.node (c ∷ others))) k.majority) chain.takes
 
@@ -351,12 +351,12 @@ module _ (m : Meaning) (IsText : List ℕ → Type 0) (asks_law : DueNodeAsks)
       G y = y.position ≤ highest
 
       told : (y : Vote)
-          → ((n : ℕ) → Contains (nodes_of set) n → Tells second.header chain.letters (kinds.Accept y) n) → F y
+          → ((n : ℕ) → Contains (nodes_of set) n → Tells second.header chain.envelopes (kinds.Accept y) n) → F y
       told y each n d =
-          let s : Tells second.header chain.letters (kinds.Accept y) n = each n d in
+          let s : Tells second.header chain.envelopes (kinds.Accept y) n = each n d in
           sent_as polled last x n s.node (kinds.Accept y)
           (s.header ∙ has_header m IsText polled taken.holds x own.after own.is) chain.genesis
-          (among x chain.letters polled last chain.sent (letter_to s.node (kinds.Accept y) n) s.told)
+          (among x chain.envelopes polled last chain.sent (envelope_to s.node (kinds.Accept y) n) s.told)
 
       one_term : (u : TermValue) → second.leader.term ≡ Some u → begun b ≡ u
       one_term u is = let q : Some (begun b) ≡ Some u = sym second_term ∙ is in cc q
@@ -379,8 +379,9 @@ module _ (m : Meaning) (IsText : List ℕ → Type 0) (asks_law : DueNodeAsks)
           none_heard q d = omega (arith, d.1)
 
       offers : Offers b second.header second.acceptor F G last_node
-      offers = promises_offer b second.header second.acceptor F G set chain.letters told m IsText heard second last_node
-          chain.letters
+      offers = promises_offer b second.header second.acceptor F G set chain.envelopes told m IsText heard
+          second last_node
+          chain.envelopes
           (λ h d v in_votes.
           let r = was_promised h d in
           (leftovers r.0 r.1).low v (above_from (e + 1) r.0.node.acceptor.state.votes v

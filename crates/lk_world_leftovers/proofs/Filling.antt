@@ -23,10 +23,10 @@ use Rattle.lk_acceptor.specs.AcceptorValue.{AcceptorValue}
 use Rattle.lk_leader.specs.Terms.{ProposalValue, ReceivedPromise, TermValue, proposal_at}
 use Rattle.lk_leader.specs.Values.{has_vote_from}
 use Rattle.lk_learner.specs.Learners.{LearnerValue, Pair, alpha, executed}
-use Rattle.lk_node_interface.specs.Letters.{batch_of}
+use Rattle.lk_node_interface.specs.Envelopes.{batch_of}
 use Rattle.lk_node.specs.Leavings.{header_of}
 use Rattle.lk_node.specs.NodeValue.{NodeValue}
-use Rattle.lk_node.specs.Telling.{letter_to}
+use Rattle.lk_node.specs.Telling.{envelope_to}
 use Rattle.lk_progress.proofs.Electing.{named_by}
 use Rattle.lk_progress.proofs.Exchanges.{node_named}
 use Rattle.lk_progress.proofs.LeadingOn.{Keeps}
@@ -193,7 +193,7 @@ module _ (m : Meaning) (IsText : List ℕ → Type 0) (leader_law : LeaderAccept
     voted_sent = sent_as old run.accepted n x voting.start (kinds.Accepted v)
         (found_header voter.replica voting.start voting.found
         ∙ has_header m IsText old k.holds n voter.replica voter.up)
-        taken.genesis (voting.sent (letter_to voting.start (kinds.Accepted v) x) voted.accepts.told)
+        taken.genesis (voting.sent (envelope_to voting.start (kinds.Accepted v) x) voted.accepts.told)
 
   -- the leader
   own : HeardIt m IsText x accept leader run.accepted
@@ -236,10 +236,10 @@ module _ (m : Meaning) (IsText : List ℕ → Type 0) (leader_law : LeaderAccept
 
   own_sent : HasSentTo run.accepted x x (kinds.Accepted v)
   own_sent = sent_as old run.accepted x x start (kinds.Accepted v) header_is taken.genesis
-      (own.sent (letter_to start (kinds.Accepted v) x)
-      (subst (λ (y : Vote). Contains own.out.letters (letter_to start (kinds.Accepted y) x)) (sym v_is)
-      (subst (λ (n : ℕ). Contains own.out.letters
-      (letter_to start (kinds.Accepted (vote_for_next start t next.proposal.command)) n))
+      (own.sent (envelope_to start (kinds.Accepted v) x)
+      (subst (λ (y : Vote). Contains own.out.envelopes (envelope_to start (kinds.Accepted y) x)) (sym v_is)
+      (subst (λ (n : ℕ). Contains own.out.envelopes
+      (envelope_to start (kinds.Accepted (vote_for_next start t next.proposal.command)) n))
       (ap (λ (h : HeaderValue). h.node) header_is) accepts.accepts.accepts.told)))
 
   accepted_header : accepted.header ≡ header_of run.accepted.genesis x
@@ -287,8 +287,8 @@ module _ (m : Meaning) (IsText : List ℕ → Type 0) (leader_law : LeaderAccept
   })
 
   on : FillsOn accepted t set last_node
-  on = here.goes_on last_node (x ∷ others) chain.letters k.majority
-      (subst (λ (y : Vote). TakesEach m IsText (acceptances (x ∷ others) y) accepted last_node chain.letters) v_for
+  on = here.goes_on last_node (x ∷ others) chain.envelopes k.majority
+      (subst (λ (y : Vote). TakesEach m IsText (acceptances (x ∷ others) y) accepted last_node chain.envelopes) v_for
       chain.takes)
 
   -- ---- what that leaves
@@ -300,14 +300,14 @@ module _ (m : Meaning) (IsText : List ℕ → Type 0) (leader_law : LeaderAccept
   G y = y.position ≤ last
 
   told : (y : Vote)
-      → ((n : ℕ) → Contains (nodes_of set) n → Tells accepted.header chain.letters (kinds.Accept y) n) → F y
+      → ((n : ℕ) → Contains (nodes_of set) n → Tells accepted.header chain.envelopes (kinds.Accept y) n) → F y
   told y each n c =
-      let s : Tells accepted.header chain.letters (kinds.Accept y) n = each n c in
+      let s : Tells accepted.header chain.envelopes (kinds.Accept y) n = each n c in
       sent_as run.accepted new x n s.node (kinds.Accept y) (s.header ∙ accepted_header) chain.genesis
-      (among x chain.letters run.accepted new chain.sent (letter_to s.node (kinds.Accept y) n) s.told)
+      (among x chain.envelopes run.accepted new chain.sent (envelope_to s.node (kinds.Accept y) n) s.told)
 
   grows : (d : Datagram) → Contains old.sent d → Contains new.sent d
-  grows d c = still run.accepted new (batch_of x chain.letters) chain.sent d (taken.grows d c)
+  grows d c = still run.accepted new (batch_of x chain.envelopes) chain.sent d (taken.grows d c)
 
   genesis_is : new.genesis ≡ old.genesis
   genesis_is = chain.genesis ∙ taken.genesis
@@ -350,10 +350,10 @@ module _ (m : Meaning) (IsText : List ℕ → Type 0) (leader_law : LeaderAccept
     keeps = accepts.fills.leads.keeps;
   }
 
-  fares : Fares t.ballot accepted.header accepted.acceptor F G set chain.letters told width last some t.received m
+  fares : Fares t.ballot accepted.header accepted.acceptor F G set chain.envelopes told width last some t.received m
       IsText v low plain last_node
-  fares = all_fare t.ballot accepted.header accepted.acceptor F G set chain.letters told width last some t.received m
-      IsText v low plain (x ∷ others) accepted last_node chain.letters chain.takes (λ l c. c)
+  fares = all_fare t.ballot accepted.header accepted.acceptor F G set chain.envelopes told width last some t.received m
+      IsText v low plain (x ∷ others) accepted last_node chain.envelopes chain.takes (λ l c. c)
       (record { offers = offers_before; reaches = reaches_before; keeps = (keeps_before, accepts.fills.leads.known) })
 
   moves : e < executed last_node.learner
@@ -469,12 +469,12 @@ module _ (m : Meaning) (IsText : List ℕ → Type 0) (leader_law : LeaderAccept
 
     told_others : HasSentTo new x n (kinds.Decided (decided_by v))
     told_others = elim (all_tell m IsText v accepted.header e n above not_own (x ∷ others) accepted last_node
-        chain.letters chain.takes before_telling) [
+        chain.envelopes chain.takes before_telling) [
           | inl still ↦ absurd (omega (arith, still, moves))
           | inr s ↦ sent_as run.accepted new x n s.node (kinds.Decided (decided_by v)) (s.header ∙ accepted_header)
               chain.genesis
-              (among x chain.letters run.accepted new chain.sent
-              (letter_to s.node (kinds.Decided (decided_by v)) n) s.told)
+              (among x chain.envelopes run.accepted new chain.sent
+              (envelope_to s.node (kinds.Decided (decided_by v)) n) s.told)
         ]
 
   filled : FillsOnIn m IsText x leader t set others last v old new run

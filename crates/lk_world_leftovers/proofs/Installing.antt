@@ -16,7 +16,7 @@ use Rattle.lk_learner.specs.Gathering.{first_gathered, goes_on, heard, starts_te
 use Rattle.lk_learner.specs.Installing.{Installs, MayInstall, hearing, installed, with_gathered}
 use Rattle.lk_learner.specs.Learners.{GatheredValue, LearnerValue, Pair, executed}
 use Rattle.lk_node_interface.specs.KeptReplies.{session_by}
-use Rattle.lk_node_interface.specs.Letters.{LetterValue}
+use Rattle.lk_node_interface.specs.Envelopes.{EnvelopeValue}
 use Rattle.lk_node_interface.specs.Outboxes.{OutboxValue}
 use Rattle.lk_node.specs.Executing.{EndsWaitIfAny, NothingToRun, Runs, goes_on as runs_on, is_outside, stays}
 use Rattle.lk_node.specs.Executing.{without_term_if_outside}
@@ -273,14 +273,14 @@ module _ (a : AcceptorValue) (width last : ℕ) (some : 1 ≤ width) where
           )
 
   pub all_parts : (m : Meaning) (IsText : List ℕ → Type 0) (from : ℕ) (parts : List PartValue) (old new : NodeValue)
-      (letters : List LetterValue) → ((p : PartValue) → Contains parts p → p.position ≤ last)
-      → TakesEach m IsText (parts_from from parts) old new letters → Grows a width last old
+      (envelopes : List EnvelopeValue) → ((p : PartValue) → Contains parts p → p.position ≤ last)
+      → TakesEach m IsText (parts_from from parts) old new envelopes → Grows a width last old
       → Grows a width last new × (IsResting old → IsResting new)
-  all_parts m IsText from [] old new letters low takes k = (
+  all_parts m IsText from [] old new envelopes low takes k = (
     subst (Grows a width last) (sym takes.0) k,
     λ rests. subst IsResting (sym takes.0) rests,
   )
-  all_parts m IsText from (p ∷ parts) old new letters low takes k =
+  all_parts m IsText from (p ∷ parts) old new envelopes low takes k =
       let one = one_part m IsText p from old takes.0 takes.1 (low p (0, omega arith, refl)) takes.3 k in
       let rest = all_parts m IsText from parts takes.0 new takes.2 (λ q c. low q (contains_more p parts q c)) takes.4
       one.0 in

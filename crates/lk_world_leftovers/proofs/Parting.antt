@@ -236,7 +236,7 @@ module _ (m : Meaning) (IsText : List ℕ → Type 0) (law : PartsFeed m IsText)
   grown : Grows told.after.node.acceptor (alpha told.after.node.learner) last took.last
       × (IsResting told.after.node → IsResting took.last)
   grown = all_parts told.after.node.acceptor (alpha told.after.node.learner) last some_alpha m IsText other run.parts
-      told.after.node took.last took.letters low_parts took.takes begun
+      told.after.node took.last took.envelopes low_parts took.takes begun
 
   now_executed : executed took.now.node.learner ≡ executed took.last.learner
   now_executed = elim took.left [

@@ -28,7 +28,7 @@ use Rattle.lk_node.specs.Leading.{NothingToPropose, ProposesAll, having_proposed
 use Rattle.lk_node.specs.Nearness.{AreNear}
 use Rattle.lk_node.specs.NewBases.{with_snapshot}
 use Rattle.lk_node.specs.NodeValue.{NodeValue}
-use Rattle.lk_node.specs.Telling.{letter_to}
+use Rattle.lk_node.specs.Telling.{envelope_to}
 use Rattle.lk_progress.proofs.Hearing.{Handled, handled, same_acceptor, same_learner}
 use Rattle.lk_progress.proofs.Quiet.{proposes_nothing}
 use Rattle.lk_progress.proofs.Rejecting.{keeps_header, keeps_leader}
@@ -107,8 +107,8 @@ stands_promised b c e highest votes old new acceptor learner s = record {
 pub record PromisesFrom (old : NodeValue) (from : ℕ) (b : BallotValue) (e highest : ℕ) (votes : List Vote)
     (new : NodeValue) (out : OutboxValue) : Type 0 where
   pub promises : Promises old from b (e + 1) new out
-  pub told : Contains out.letters
-      (letter_to old (kinds.Promise (record { ballot = b; first = e + 1; votes = votes })) from)
+  pub told : Contains out.envelopes
+      (envelope_to old (kinds.Promise (record { ballot = b; first = e + 1; votes = votes })) from)
   pub stands : Stands b e highest votes new
 
 pub promises_from : (m : Meaning) (IsText : List ℕ → Type 0) → PrepareIsPromisedOrRejected m IsText
@@ -129,8 +129,8 @@ promises_from m IsText law old new from b e highest votes out s ballot takes =
     by_cause (inr rejects) = absurd (why_not rejects.why)
     by_cause (inl promises) = record {
       promises = promises;
-      told = subst (λ (vs : List Vote). Contains out.letters
-          (letter_to old (kinds.Promise (record { ballot = b; first = e + 1; votes = vs })) from))
+      told = subst (λ (vs : List Vote). Contains out.envelopes
+          (envelope_to old (kinds.Promise (record { ballot = b; first = e + 1; votes = vs })) from))
           s.reports promises.told;
       stands = stands_promised b b e highest votes old new promises.acceptor promises.learner s;
     }

@@ -25,18 +25,18 @@ use Rattle.lk_acceptor.specs.AcceptorValue.{AcceptorValue}
 use Rattle.lk_leader.specs.Terms.{LeaderValue, TermValue}
 use Rattle.lk_leader.specs.Waits.{waiting_of}
 use Rattle.lk_learner.specs.Learners.{LearnerValue, alpha, executed}
-use Rattle.lk_node_interface.specs.Letters.{LetterValue}
+use Rattle.lk_node_interface.specs.Envelopes.{EnvelopeValue}
 use Rattle.lk_node_interface.specs.declared.note.Note.TheVariants as note
 use Rattle.lk_node.specs.Leavings.{header_of}
 use Rattle.lk_node.specs.Nearness.{AreNear}
 use Rattle.lk_node.specs.NodeValue.{NodeValue}
-use Rattle.lk_node.specs.Telling.{letter_to}
+use Rattle.lk_node.specs.Telling.{envelope_to}
 use Rattle.lk_node.specs.Yielding.{with_round}
 use Rattle.lk_progress.proofs.Exchanges.{carried}
 use Rattle.lk_progress.proofs.Hearing.{Handled, handled, proposed_header, same_acceptor, same_learner}
 use Rattle.lk_progress.proofs.Proposing.{goes_on_proposing, goes_on_waiting}
 use Rattle.lk_progress.proofs.Rejecting.{keeps_header, keeps_leader}
-use Rattle.lk_progress.specs.Answering.{WaitsFresh, answer_letter}
+use Rattle.lk_progress.specs.Answering.{WaitsFresh, answer_envelope}
 use Rattle.lk_progress.specs.Deciding.{AcceptedRequestIsAnswered, AsksMembers, FreshRequestIsProposed, HasProposed}
 use Rattle.lk_progress.specs.Deciding.{NearNodeAccepts, acceptances, vote_for_next}
 use Rattle.lk_progress.specs.Hearing.{TakesEach}
@@ -139,8 +139,8 @@ module _ (m : Meaning) (IsText : List ℕ → Type 0) (proposes_law : FreshReque
   proposed_sent n d = sent_as requested proposed x n leader.node (kinds.Accept vote)
       (has_header m IsText requested requests.after x leader (requested_lives x (Up leader) k.up))
       request.genesis
-      (among x request.out.letters requested proposed request.sent
-      (letter_to leader.node (kinds.Accept vote) n) (asks.told n d))
+      (among x request.out.envelopes requested proposed request.sent
+      (envelope_to leader.node (kinds.Accept vote) n) (asks.told n d))
 
   module _ (near_law : NearNodeAccepts m IsText) (polled : Scene ReplicaValue)
       (polls : HearsEach m IsText (content.Node x (kinds.Accept (vote_in leader t r))) (x ∷ others) proposed polled)
@@ -189,13 +189,13 @@ module _ (m : Meaning) (IsText : List ℕ → Type 0) (proposes_law : FreshReque
         other_sent = sent_as proposed polled n x voting.start (kinds.Accepted vote)
             (found_header voter voting.start voting.found
             ∙ has_header m IsText proposed proposes.goes.after n voter voter_up) accepted.genesis
-            (voting.sent (letter_to voting.start (kinds.Accepted vote) x) other_casts.told)
+            (voting.sent (envelope_to voting.start (kinds.Accepted vote) x) other_casts.told)
 
       own_sent : HasSentTo polled x x (kinds.Accepted vote)
       own_sent = sent_as proposed polled x x asked (kinds.Accepted vote)
           (shadow_header asked request.after.node one.shadows
           ∙ has_header m IsText proposed proposes.goes.after x request.after request.is) accepted.genesis
-          (own_vote.sent (letter_to asked (kinds.Accepted vote) x) casts.told)
+          (own_vote.sent (envelope_to asked (kinds.Accepted vote) x) casts.told)
 
       pub replied : (n : ℕ) → Contains (x ∷ others) n → HasSentTo polled n x (kinds.Accepted vote)
       replied n c = elim (cons_cases x others n c) [
@@ -254,12 +254,13 @@ module _ (m : Meaning) (IsText : List ℕ → Type 0) (proposes_law : FreshReque
             command = Request r;
           }
 
-          answer_told : Contains three.letters (answer_letter m leader.node r)
-          answer_told = subst (λ (l : LetterValue). Contains three.letters l)
-              (λ i. answer_letter m (record leader.node { header = voted_header i; learner = voted_learner i }) r)
-              (answers_law voted three.shadow_after still.0 set r [] (x ∷ others) three.letters still.2 waits k.majority
+          answer_told : Contains three.envelopes (answer_envelope m leader.node r)
+          answer_told = subst (λ (l : EnvelopeValue). Contains three.envelopes l)
+              (λ i. answer_envelope m (record leader.node { header = voted_header i; learner = voted_learner i }) r)
+              (answers_law voted three.shadow_after still.0 set r [] (x ∷ others) three.envelopes still.2
+              waits k.majority
               (subst (λ (v : Vote). TakesEach m IsText (acceptances (x ∷ others) v) voted three.shadow_after
-              three.letters)
+              three.envelopes)
               (sym vote_is) three.takes))
 
         genesis_is : last.genesis ≡ first.genesis
@@ -286,7 +287,7 @@ module _ (m : Meaning) (IsText : List ℕ → Type 0) (proposes_law : FreshReque
               to = party.Client r.client;
               bytes = spelling (record { cluster = h.cluster; content = content.Node h.node (kinds.Answer answer) });
             })) header_is
-            (among x three.letters polled last three.sent (answer_letter m leader.node r)
+            (among x three.envelopes polled last three.sent (answer_envelope m leader.node r)
             (answer_told (handled m IsText asked accept voted own_vote.out two.takes))))
 
         answer_sent : HasAnswered m last leader.node r

@@ -20,7 +20,7 @@ use Rattle.lk_node.specs.Nearness.{AreNear}
 use Rattle.lk_node.specs.NewBases.{with_snapshot}
 use Rattle.lk_node.specs.NodeValue.{NodeValue}
 use Rattle.lk_node.specs.Reminding.{Ticks}
-use Rattle.lk_node.specs.Telling.{letter_to}
+use Rattle.lk_node.specs.Telling.{envelope_to}
 use Rattle.lk_node.specs.Waiting.{BeginsWhereDue, ticked}
 use Rattle.lk_progress.specs.Electing.{AsksWindow, DueNodeAsks, IsDue}
 use Rattle.lk_progress.specs.Exchanges.{prepare_by}
@@ -121,7 +121,7 @@ module _ (m : Meaning) (IsText : List ℕ → Type 0) where
         asks = λ k above named. found_tells r s.start found (λ node. HasSentTo new n k (prepare_by node)) (λ h. h)
             (sent_as old new n k s.start (prepare_by s.start)
             (header ∙ has_header m IsText old goes.before n r up) s.genesis
-            (among n s.out.letters old new s.sent (letter_to s.start (prepare_by s.start) k)
+            (among n s.out.envelopes old new s.sent (envelope_to s.start (prepare_by s.start) k)
             (asks.told k above
             (found_has r s.start found (λ node. is_named k node.learner.whole.roster.sets ≡ true)
             (λ e. e) named))));
@@ -142,10 +142,10 @@ module _ (m : Meaning) (IsText : List ℕ → Type 0) where
       asked_found = subst (λ (q : ReplicaValue). IsFound q s.start)
           (one_replica m IsText old hears.goes.before n s.before r s.was up) s.found
 
-      said : (y : NodeMessage) → Contains s.out.letters (letter_to s.start y from) → HasSentTo new n from y
+      said : (y : NodeMessage) → Contains s.out.envelopes (envelope_to s.start y from) → HasSentTo new n from y
       said y c = sent_as old new n from s.start y
           (found_header r s.start asked_found ∙ has_header m IsText old hears.goes.before n r up) s.genesis
-          (among n s.out.letters old new s.sent (letter_to s.start y from) c)
+          (among n s.out.envelopes old new s.sent (envelope_to s.start y from) c)
 
       answer : Promises s.start from b first s.last s.out ⊎ RejectsPrepare s.start from b first s.last s.out
           → PromisesIn n r from b first new ⊎ RejectsPrepareIn n r from b first new
@@ -184,10 +184,10 @@ module _ (m : Meaning) (IsText : List ℕ → Type 0) where
     found_here = subst (λ (q : ReplicaValue). IsFound q s.start)
         (one_replica m IsText old hears.goes.before n s.before r s.was up) s.found
 
-    sends : (y : NodeMessage) → Contains s.out.letters (letter_to s.start y from) → HasSentTo new n from y
+    sends : (y : NodeMessage) → Contains s.out.envelopes (envelope_to s.start y from) → HasSentTo new n from y
     sends y c = sent_as old new n from s.start y
         (found_header r s.start found_here ∙ has_header m IsText old hears.goes.before n r up) s.genesis
-        (among n s.out.letters old new s.sent (letter_to s.start y from) c)
+        (among n s.out.envelopes old new s.sent (envelope_to s.start y from) c)
 
     reply : Accepts s.start from x s.last s.out ⊎ RejectsAccept s.start from x s.last s.out
         → HasSentTo new n from (kinds.Accepted x) ⊎ RejectsAcceptIn n r from x new

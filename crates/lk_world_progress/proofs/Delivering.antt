@@ -8,7 +8,7 @@ use Rattle.lk_agreement_laws.proofs.Histories.{cons_cases, contains_more}
 use Rattle.lk_agreement_laws.specs.Datagrams.{Datagram}
 use Rattle.lk_state.specs.Meanings.{Meaning}
 use Rattle.lk_store_format.specs.Values.{HeaderValue}
-use Rattle.lk_node_interface.specs.Letters.{LetterValue, batch_of, datagram_of}
+use Rattle.lk_node_interface.specs.Envelopes.{EnvelopeValue, batch_of, datagram_of}
 use Rattle.lk_node_interface.specs.Outboxes.{OutboxValue}
 use Rattle.lk_node_interface.specs.declared.input.Input.TheVariants.{Datagram as Heard}
 use Rattle.lk_node.proofs.Nodes.{map_has}
@@ -25,16 +25,16 @@ use Rattle.lk_world_progress.specs.Delivering.{AreDistinct, DeliveriesAreTaken, 
 use Rattle.lk_world_progress.specs.Delivering.{HearsEach, InstallsNothing, TakesContents}
 use Rattle.lk_world_progress.specs.Stepping.{Holds, IsFound, IsLeft, IsUpAs, Lives, TakesStep}
 
-pub batch-append : (n : ℕ) (xs ys : List LetterValue) → batch_of n (xs ++ ys) ≡ batch_of n xs ++ batch_of n ys
+pub batch-append : (n : ℕ) (xs ys : List EnvelopeValue) → batch_of n (xs ++ ys) ≡ batch_of n xs ++ batch_of n ys
 batch-append n [] ys = refl
 batch-append n (x ∷ xs) ys = ap (λ (l : List Datagram). datagram_of n x ∷ l) (batch-append n xs ys)
 
 -- what joined the datagrams is among them
-pub among : (n : ℕ) (letters : List LetterValue) (old new : Scene ReplicaValue)
-    → new.sent ≡ old.sent ++ batch_of n letters → (l : LetterValue) → Contains letters l
+pub among : (n : ℕ) (envelopes : List EnvelopeValue) (old new : Scene ReplicaValue)
+    → new.sent ≡ old.sent ++ batch_of n envelopes → (l : EnvelopeValue) → Contains envelopes l
     → Contains new.sent (datagram_of n l)
-among n letters old new e l c = subst (λ (ds : List Datagram). Contains ds (datagram_of n l)) (sym e)
-    (Contains-append_right old.sent (batch_of n letters) (datagram_of n l) (map_has (datagram_of n) letters l c))
+among n envelopes old new e l c = subst (λ (ds : List Datagram). Contains ds (datagram_of n l)) (sym e)
+    (Contains-append_right old.sent (batch_of n envelopes) (datagram_of n l) (map_has (datagram_of n) envelopes l c))
 
 pub still : (old new : Scene ReplicaValue) (more : List Datagram) → new.sent ≡ old.sent ++ more → (d : Datagram)
     → Contains old.sent d → Contains new.sent d
@@ -56,7 +56,7 @@ module _ (m : Meaning) (IsText : List ℕ → Type 0) where
     pub after : ReplicaValue
     pub left : IsLeft out last after
     pub is : IsUpAs new n after
-    pub sent : new.sent ≡ old.sent ++ batch_of n out.letters
+    pub sent : new.sent ≡ old.sent ++ batch_of n out.envelopes
     pub others : (k : ℕ) (life : Life ReplicaValue) → (k ≡ n → ⊥) → Lives old k life → Lives new k life
     pub genesis : new.genesis ≡ old.genesis
 
@@ -102,7 +102,7 @@ module _ (m : Meaning) (IsText : List ℕ → Type 0) where
     pub is : IsUpAs new n after
     pub out : OutboxValue
     pub takes : Takes m IsText before.node x after.node out
-    pub sent : new.sent ≡ old.sent ++ batch_of n out.letters
+    pub sent : new.sent ≡ old.sent ++ batch_of n out.envelopes
     pub others : (k : ℕ) (life : Life ReplicaValue) → (k ≡ n → ⊥) → Lives old k life → Lives new k life
     pub genesis : new.genesis ≡ old.genesis
 
@@ -136,19 +136,19 @@ module _ (m : Meaning) (IsText : List ℕ → Type 0) where
     took_both = record {
       after = rest.after;
       is = rest.is;
-      letters = one.out.letters ++ rest.letters;
+      envelopes = one.out.envelopes ++ rest.envelopes;
       takes = (
         one.after.node,
         one.out,
-        rest.letters,
+        rest.envelopes,
         subst (λ (r : ReplicaValue). Takes m IsText r.node x one.after.node one.out)
             (one_replica m IsText old holds n one.before before one.was up) one.takes,
         rest.takes,
         refl,
       );
-      sent = rest.sent ∙ ap (λ (l : List Datagram). l ++ batch_of n rest.letters) one.sent
-          ∙ append_assoc old.sent (batch_of n one.out.letters) (batch_of n rest.letters)
-          ∙ ap (λ (l : List Datagram). old.sent ++ l) (sym (batch-append n one.out.letters rest.letters));
+      sent = rest.sent ∙ ap (λ (l : List Datagram). l ++ batch_of n rest.envelopes) one.sent
+          ∙ append_assoc old.sent (batch_of n one.out.envelopes) (batch_of n rest.envelopes)
+          ∙ ap (λ (l : List Datagram). old.sent ++ l) (sym (batch-append n one.out.envelopes rest.envelopes));
       others = λ k life ne c. rest.others k life ne (one.others k life ne c);
       genesis = rest.genesis ∙ one.genesis;
     }
@@ -159,7 +159,7 @@ module _ (m : Meaning) (IsText : List ℕ → Type 0) where
   in_turn n [] old new before holds up each same = record {
     after = before;
     is = subst (λ (w : Scene ReplicaValue). IsUpAs w n before) (sym same) up;
-    letters = [];
+    envelopes = [];
     takes = (refl, refl);
     sent = ap (λ (w : Scene ReplicaValue). w.sent) same ∙ sym (append-nil old.sent);
     others = λ k life ne c. subst (λ (w : Scene ReplicaValue). Lives w k life) (sym same) c;
@@ -183,7 +183,7 @@ module _ (m : Meaning) (IsText : List ℕ → Type 0) where
     pub is : IsUpAs new n after
     pub out : OutboxValue
     pub takes : Takes m IsText start x after.node out
-    pub sent : (l : LetterValue) → Contains out.letters l → Contains new.sent (datagram_of n l)
+    pub sent : (l : EnvelopeValue) → Contains out.envelopes l → Contains new.sent (datagram_of n l)
 
   pub left_as : (n : ℕ) (x : Content) (old new : Scene ReplicaValue) → InstallsNothing x
       → (s : TakesFrom n x old new) → Takes m IsText s.start x s.after.node s.out
@@ -206,7 +206,7 @@ module _ (m : Meaning) (IsText : List ℕ → Type 0) where
         is = s.is;
         out = s.out;
         takes = left_as n x old new nothing s;
-        sent = among n s.out.letters old new s.sent;
+        sent = among n s.out.envelopes old new s.sent;
       }
 
   -- ---- the same datagram to several nodes
@@ -229,7 +229,7 @@ module _ (m : Meaning) (IsText : List ℕ → Type 0) where
       is = rest.others n (Up one.after) distinct.0 one.is;
       out = one.out;
       takes = left_as n x old mid nothing one;
-      sent = λ l c. rest.grows (datagram_of n l) (among n one.out.letters old mid one.sent l c);
+      sent = λ l c. rest.grows (datagram_of n l) (among n one.out.envelopes old mid one.sent l c);
     }
 
     all_heard : EachHeard x (n ∷ ns) old new
@@ -241,7 +241,7 @@ module _ (m : Meaning) (IsText : List ℕ → Type 0) where
         | inr later ↦ rest.heard k r later
             (one.others k (Up r) (λ e. distinct.0 (subst (λ (j : ℕ). Contains ns j) e later)) up)
       ];
-      grows = λ e c. rest.grows e (still old mid (batch_of n one.out.letters) one.sent e c);
+      grows = λ e c. rest.grows e (still old mid (batch_of n one.out.envelopes) one.sent e c);
       others = λ k life no c. rest.others k life (λ later. no (contains_more n ns k later))
           (one.others k life (λ e. no (0, omega arith, sym e)) c);
       genesis = rest.genesis ∙ one.genesis;

@@ -22,7 +22,7 @@ use Rattle.lk_state.specs.Runs.{session_for}
 use Rattle.lk_state.specs.Sessions.{session_of, is_new}
 use Rattle.lk_store_format.specs.Values.{HeaderValue}
 use Rattle.lk_learner.specs.Learners.{LearnerValue, executed}
-use Rattle.lk_node_interface.specs.Letters.{LetterValue, datagram_of}
+use Rattle.lk_node_interface.specs.Envelopes.{EnvelopeValue, datagram_of}
 use Rattle.lk_node_interface.specs.Outboxes.{OutboxValue}
 use Rattle.lk_node_interface.specs.declared.input.Input.TheVariants.{Tick}
 use Rattle.lk_node_interface.specs.declared.note.Note.TheVariants as note
@@ -31,9 +31,9 @@ use Rattle.lk_members.specs.Nodes.{nodes_of}
 use Rattle.lk_node.specs.Beginning.{next_ballot}
 use Rattle.lk_node.specs.NodeValue.{NodeValue}
 use Rattle.lk_node.specs.Reminding.{Ticks}
-use Rattle.lk_node.specs.Telling.{letter_to}
+use Rattle.lk_node.specs.Telling.{envelope_to}
 use Rattle.lk_node.specs.Waiting.{ticked}
-use Rattle.lk_progress.specs.Answering.{answer_letter}
+use Rattle.lk_progress.specs.Answering.{answer_envelope}
 use Rattle.lk_progress.specs.Deciding.{acceptances}
 use Rattle.lk_progress.specs.Electing.{promises}
 use Rattle.lk_progress.specs.Exchanges.{Exchanges as NodeExchanges, Succeeds, Votes, prepare_by, promise_to, vote_by}
@@ -105,7 +105,7 @@ module _ (m : Meaning) (IsText : List ℕ → Type 0) (keeps : KeepsTexts IsText
     shadows : Shadows shadow after.node
     ticks : Ticks c.node shadow out
     learner : shadow.learner ≡ c.node.learner
-    sent : (l : LetterValue) → Contains out.letters l → Contains k.ticked.sent (datagram_of x l)
+    sent : (l : EnvelopeValue) → Contains out.envelopes l → Contains k.ticked.sent (datagram_of x l)
     stay : (j : ℕ) (life : Life ReplicaValue) → (j ≡ x → ⊥) → Lives first j life → Lives k.ticked j life
     genesis : k.ticked.genesis ≡ first.genesis
 
@@ -137,7 +137,7 @@ module _ (m : Meaning) (IsText : List ℕ → Type 0) (keeps : KeepsTexts IsText
       shadows = subst (λ (node : NodeValue). Shadows shadow.shadow node) (sym left_is) shadow.shadows;
       ticks = shadow.ticks;
       learner = shadow.learner;
-      sent = among x s.out.letters first k.ticked s.sent;
+      sent = among x s.out.envelopes first k.ticked s.sent;
       stay = s.others;
       genesis = s.genesis;
     }
@@ -168,7 +168,7 @@ module _ (m : Meaning) (IsText : List ℕ → Type 0) (keeps : KeepsTexts IsText
       k.leads
 
   third_learner : third.shadow_after.learner ≡ c.node.learner
-  third_learner = each_learner m IsText replies second.shadow_after third.shadow_after third.letters
+  third_learner = each_learner m IsText replies second.shadow_after third.shadow_after third.envelopes
       (each_promise IsStatic (λ n p. tt) (map (λ n. (n, promise_to c.node)) (x ∷ others))) third.takes ∙ second_learner
 
   asking : IsAsked k.promised k.requested x r
@@ -272,7 +272,7 @@ module _ (m : Meaning) (IsText : List ℕ → Type 0) (keeps : KeepsTexts IsText
     promising = own.out;
     promises_itself = second.takes;
     third = third.shadow_after;
-    leading = third.letters;
+    leading = third.envelopes;
     leads = third.takes;
     fourth = fourth.shadow_after;
     proposing = request.out;
@@ -281,7 +281,7 @@ module _ (m : Meaning) (IsText : List ℕ → Type 0) (keeps : KeepsTexts IsText
     accepting = own_vote.out;
     accepts_itself = fifth.takes;
     sixth = sixth.shadow_after;
-    answering = sixth.letters;
+    answering = sixth.envelopes;
     answers = sixth.takes;
   }
 
@@ -295,7 +295,7 @@ module _ (m : Meaning) (IsText : List ℕ → Type 0) (keeps : KeepsTexts IsText
   -- what a shadow sends, the node sends
   said : (old new : Scene ReplicaValue) (n : ℕ) (q : ReplicaValue) (shadow : NodeValue) (y : NodeMessage)
       → Holds m IsText old → IsUpAs old n q → Shadows shadow q.node → new.genesis ≡ old.genesis
-      → Contains new.sent (datagram_of n (letter_to shadow y x)) → HasSentTo new n x y
+      → Contains new.sent (datagram_of n (envelope_to shadow y x)) → HasSentTo new n x y
   said old new n q shadow y holds up s genesis d = sent_as old new n x shadow y
       (shadow_header shadow q.node s ∙ has_header m IsText old holds n q up) genesis d
 
@@ -304,11 +304,11 @@ module _ (m : Meaning) (IsText : List ℕ → Type 0) (keeps : KeepsTexts IsText
     | inl is ↦ subst (λ (j : ℕ). HasSentTo k.asked j x (kinds.Promise (promise_to c.node))) is
         (said k.ticked k.asked x began.after began.shadow (kinds.Promise (promise_to c.node)) k.ticks.after began.is
         began.shadows prepared.genesis
-        (own.sent (letter_to began.shadow (kinds.Promise (promise_to c.node)) x) succeeds.promises_itself))
+        (own.sent (envelope_to began.shadow (kinds.Promise (promise_to c.node)) x) succeeds.promises_itself))
     | inr other ↦
         has_sent m IsText first k.asked n x (voter n other) (kinds.Promise (promise_to c.node)) quiet.holds
         (voter_up n other) (prepared.genesis ∙ began.genesis)
-        ((promising n other).sent (letter_to (voter n other).node (kinds.Promise (promise_to c.node)) x)
+        ((promising n other).sent (envelope_to (voter n other).node (kinds.Promise (promise_to c.node)) x)
         (succeeds.promises n other))
   ]
 
@@ -318,12 +318,12 @@ module _ (m : Meaning) (IsText : List ℕ → Type 0) (keeps : KeepsTexts IsText
     | inl is ↦ subst (λ (j : ℕ). HasSentTo k.accepted j x (kinds.Accepted (vote_by c.node r))) is
         (said k.proposed k.accepted x request.after fourth.shadow_after (kinds.Accepted (vote_by c.node r))
         k.proposes.goes.after request.is fourth.shadows accepted.genesis
-        (own_vote.sent (letter_to fourth.shadow_after (kinds.Accepted (vote_by c.node r)) x) succeeds.accepts_itself))
+        (own_vote.sent (envelope_to fourth.shadow_after (kinds.Accepted (vote_by c.node r)) x) succeeds.accepts_itself))
     | inr other ↦
         said k.proposed k.accepted n (promising n other).after (promise n other).shadow_after
         (kinds.Accepted (vote_by c.node r)) k.proposes.goes.after (promised_up n other) (promise n other).shadows
         accepted.genesis
-        ((accepting n other).sent (letter_to (promise n other).shadow_after (kinds.Accepted (vote_by c.node r)) x)
+        ((accepting n other).sent (envelope_to (promise n other).shadow_after (kinds.Accepted (vote_by c.node r)) x)
         (succeeds.accepts n other))
   ]
 
@@ -333,8 +333,8 @@ module _ (m : Meaning) (IsText : List ℕ → Type 0) (keeps : KeepsTexts IsText
       (shadow_header third.shadow_after third.after.node third.shadows
       ∙ has_header m IsText k.requested k.requests.after x third.after third_up)
       request.genesis
-      (among x request.out.letters k.requested k.proposed request.sent
-      (letter_to third.shadow_after (kinds.Accept (vote_by c.node r)) n) (succeeds.proposes n d))
+      (among x request.out.envelopes k.requested k.proposed request.sent
+      (envelope_to third.shadow_after (kinds.Accept (vote_by c.node r)) n) (succeeds.proposes n d))
 
   -- ---- the answer
 
@@ -353,7 +353,7 @@ module _ (m : Meaning) (IsText : List ℕ → Type 0) (keeps : KeepsTexts IsText
         to = party.Client r.client;
         bytes = spelling (record { cluster = h.cluster; content = content.Node x (kinds.Answer answer) });
       })) (has_header m IsText first quiet.holds x c quiet.up)
-      (among x sixth.letters k.accepted last sixth.sent (answer_letter m c.node r) succeeds.answers))
+      (among x sixth.envelopes k.accepted last sixth.sent (answer_envelope m c.node r) succeeds.answers))
 
   answer_valid : IsMessage (said_by last.genesis x (kinds.Answer answer))
   answer_valid =
@@ -387,7 +387,7 @@ module _ (m : Meaning) (IsText : List ℕ → Type 0) (keeps : KeepsTexts IsText
   answered : IsAnsweredBy m IsText c set r others first last k
   answered = record {
     asks = λ n d above. has_sent m IsText first k.ticked x n c (prepare_by c.node) quiet.holds quiet.up began.genesis
-        (began.sent (letter_to c.node (prepare_by c.node) n) (succeeds.asks n d above));
+        (began.sent (envelope_to c.node (prepare_by c.node) n) (succeeds.asks n d above));
     promises = promise_sent;
     proposes = proposed_sent;
     accepts = accepted_sent;

@@ -27,11 +27,11 @@ use Rattle.lk_node.specs.Beginning.{greatest_round, next_ballot}
 use Rattle.lk_node.specs.CatchingUp.{refusal}
 use Rattle.lk_node.specs.NodeValue.{NodeValue}
 use Rattle.lk_node.specs.Responding.{Responds, replied}
-use Rattle.lk_node.specs.Telling.{letter_to}
+use Rattle.lk_node.specs.Telling.{envelope_to}
 use Rattle.lk_node.specs.Yielding.{seeing, without_term, with_round, yielded}
 use Rattle.lk_progress.specs.Electing.{DueNodeAsks, GoesAbove, RejectedNodeGoesAbove}
 use Rattle.lk_progress.specs.Exchanges.{prepare_by}
-use Rattle.lk_rebases.proofs.Rebases.{HasSame, Handled, handled, proposed_letters, proposed_same}
+use Rattle.lk_rebases.proofs.Rebases.{HasSame, Handled, handled, proposed_envelopes, proposed_same}
 use Rattle.lk_replica.specs.ReplicaValue.{ReplicaValue}
 use Rattle.lk_sim.specs.Scenes.{Scene}
 use Rattle.lk_sim.specs.declared.event.Event.TheVariants as event
@@ -196,20 +196,20 @@ module _ (m : Meaning) (IsText : List ℕ → Type 0) where
 
     -- a rival rejects it
     module _ (above : IsBelow b old.acceptor.state.promised) where
-      told : Contains out.letters (letter_to old (kinds.Nack (refusal b old)) from)
+      told : Contains out.envelopes (envelope_to old (kinds.Nack (refusal b old)) from)
       told = elim responds.given [
         | inl granted ↦ absurd (below_self b
             (below_at_most b old.acceptor.state.promised b above granted.0.ballot))
         | inr refused ↦
             let reply : responds.response.reply ≡ kinds.Nack (refusal b old) = refused.1.reply in
-            proposed_letters h.proposes.0 h.mid new h.first out _ h.proposes.1
-            (subst (λ (o : OutboxValue). Contains o.letters (letter_to old (kinds.Nack (refusal b old)) from))
+            proposed_envelopes h.proposes.0 h.mid new h.first out _ h.proposes.1
+            (subst (λ (o : OutboxValue). Contains o.envelopes (envelope_to old (kinds.Nack (refusal b old)) from))
             (sym responds.comes_to)
             (subst (λ (y : NodeMessage). Contains
-            ((with_optional responds.response.entry nothing).letters ++ letter_to old y from ∷ [])
-            (letter_to old (kinds.Nack (refusal b old)) from)) (sym reply)
-            (Contains-push (with_optional responds.response.entry nothing).letters
-            (letter_to old (kinds.Nack (refusal b old)) from))))
+            ((with_optional responds.response.entry nothing).envelopes ++ envelope_to old y from ∷ [])
+            (envelope_to old (kinds.Nack (refusal b old)) from)) (sym reply)
+            (Contains-push (with_optional responds.response.entry nothing).envelopes
+            (envelope_to old (kinds.Nack (refusal b old)) from))))
       ]
 
       keeps : new.acceptor.state.promised ≡ old.acceptor.state.promised
@@ -331,7 +331,7 @@ module _ (m : Meaning) (IsText : List ℕ → Type 0) where
         (found_header rejecting rejected.start rejected.found
         ∙ has_header m IsText first k.holds rival rejecting k.is_rival.up)
         (heard.genesis ∙ stepped.genesis)
-        (rejected.sent (letter_to rejected.start (kinds.Nack (refusal b rejected.start)) x)
+        (rejected.sent (envelope_to rejected.start (kinds.Nack (refusal b rejected.start)) x)
         (told rejected.start rejected.after.node x b (executed c.node.learner + 1) rejected.out
         (handles rival k.among rejecting k.is_rival.up) start_above)))
 

@@ -8,10 +8,10 @@ use Rattle.lk_agreement_laws.specs.Datagrams.{said_by}
 use Rattle.lk_agreement_laws.specs.declared.party.Party.TheVariants as party
 use Rattle.lk_state.specs.Meanings.{Meaning}
 use Rattle.lk_store_format.specs.Values.{HeaderValue}
-use Rattle.lk_node_interface.specs.Letters.{datagram_of}
+use Rattle.lk_node_interface.specs.Envelopes.{datagram_of}
 use Rattle.lk_node.specs.Leavings.{header_of}
 use Rattle.lk_node.specs.NodeValue.{NodeValue}
-use Rattle.lk_node.specs.Telling.{letter_to}
+use Rattle.lk_node.specs.Telling.{envelope_to}
 use Rattle.lk_replica.specs.ReplicaValue.{ReplicaValue}
 use Rattle.lk_sim.specs.Scenes.{Scene}
 use Rattle.lk_world_progress.proofs.Stepping.{has_header}
@@ -20,7 +20,7 @@ use Rattle.lk_world_progress.specs.Stepping.{Holds, IsUpAs}
 
 pub sent_as : (old new : Scene ReplicaValue) (n k : ℕ) (node : NodeValue) (y : NodeMessage)
     → node.header ≡ header_of old.genesis n → new.genesis ≡ old.genesis
-    → Contains new.sent (datagram_of n (letter_to node y k)) → HasSentTo new n k y
+    → Contains new.sent (datagram_of n (envelope_to node y k)) → HasSentTo new n k y
 sent_as old new n k node y header genesis c =
     subst (λ (g : Genesis). Contains new.sent
     (record { from = party.Node n; to = party.Node k; bytes = spelling (said_by g n y) })) (sym genesis)
@@ -32,6 +32,6 @@ sent_as old new n k node y header genesis c =
 
 pub has_sent : (m : Meaning) (IsText : List ℕ → Type 0) (old new : Scene ReplicaValue) (n k : ℕ) (q : ReplicaValue)
     (y : NodeMessage) → Holds m IsText old → IsUpAs old n q → new.genesis ≡ old.genesis
-    → Contains new.sent (datagram_of n (letter_to q.node y k)) → HasSentTo new n k y
+    → Contains new.sent (datagram_of n (envelope_to q.node y k)) → HasSentTo new n k y
 has_sent m IsText old new n k q y holds up genesis c =
     sent_as old new n k q.node y (has_header m IsText old holds n q up) genesis c

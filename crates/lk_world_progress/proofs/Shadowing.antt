@@ -7,7 +7,7 @@ use Rattle.lk_agreement_laws.proofs.Histories.{contains_more}
 use Rattle.lk_agreement_laws.specs.Datagrams.{Datagram}
 use Rattle.lk_state.specs.Meanings.{Meaning}
 use Rattle.lk_learner.specs.Learners.{alpha, executed}
-use Rattle.lk_node_interface.specs.Letters.{LetterValue, batch_of}
+use Rattle.lk_node_interface.specs.Envelopes.{EnvelopeValue, batch_of}
 use Rattle.lk_node_interface.specs.Outboxes.{OutboxValue}
 use Rattle.lk_node.specs.NodeValue.{NodeValue}
 use Rattle.lk_node.specs.Reminding.{Ticks}
@@ -108,11 +108,11 @@ module _ (m : Meaning) (IsText : List ℕ → Type 0) where
   -- ---- deliveries to one node
 
   -- what moves nothing on
-  pub each_learner : (xs : List Content) (old new : NodeValue) (letters : List LetterValue)
-      → ((x : Content) → Contains xs x → IsStatic x) → TakesEach m IsText xs old new letters
+  pub each_learner : (xs : List Content) (old new : NodeValue) (envelopes : List EnvelopeValue)
+      → ((x : Content) → Contains xs x → IsStatic x) → TakesEach m IsText xs old new envelopes
       → new.learner ≡ old.learner
-  each_learner [] old new letters static takes = ap (λ (n : NodeValue). n.learner) takes.0
-  each_learner (x ∷ xs) old new letters static takes =
+  each_learner [] old new envelopes static takes = ap (λ (n : NodeValue). n.learner) takes.0
+  each_learner (x ∷ xs) old new envelopes static takes =
       each_learner xs takes.0 new takes.2 (λ y c. static y (contains_more x xs y c)) takes.4
       ∙ taken_learner m IsText x old takes.0 takes.1 (static x (0, omega arith, refl)) takes.3
 
@@ -122,9 +122,9 @@ module _ (m : Meaning) (IsText : List ℕ → Type 0) where
     pub is : IsUpAs new n after
     pub shadow_after : NodeValue
     pub shadows : Shadows shadow_after after.node
-    pub letters : List LetterValue
-    pub takes : TakesEach m IsText xs shadow shadow_after letters
-    pub sent : new.sent ≡ old.sent ++ batch_of n letters
+    pub envelopes : List EnvelopeValue
+    pub takes : TakesEach m IsText xs shadow shadow_after envelopes
+    pub sent : new.sent ≡ old.sent ++ batch_of n envelopes
     pub holds : Holds m IsText new
     pub others : (k : ℕ) (life : Life ReplicaValue) → (k ≡ n → ⊥) → Lives old k life → Lives new k life
     pub genesis : new.genesis ≡ old.genesis
@@ -139,11 +139,11 @@ module _ (m : Meaning) (IsText : List ℕ → Type 0) where
       is = rest.is;
       shadow_after = rest.shadow_after;
       shadows = rest.shadows;
-      letters = one.out.letters ++ rest.letters;
-      takes = (first.shadow_after, one.out, rest.letters, first.takes, rest.takes, refl);
-      sent = rest.sent ∙ ap (λ (l : List Datagram). l ++ batch_of n rest.letters) one.sent
-          ∙ append_assoc old.sent (batch_of n one.out.letters) (batch_of n rest.letters)
-          ∙ ap (λ (l : List Datagram). old.sent ++ l) (sym (batch-append n one.out.letters rest.letters));
+      envelopes = one.out.envelopes ++ rest.envelopes;
+      takes = (first.shadow_after, one.out, rest.envelopes, first.takes, rest.takes, refl);
+      sent = rest.sent ∙ ap (λ (l : List Datagram). l ++ batch_of n rest.envelopes) one.sent
+          ∙ append_assoc old.sent (batch_of n one.out.envelopes) (batch_of n rest.envelopes)
+          ∙ ap (λ (l : List Datagram). old.sent ++ l) (sym (batch-append n one.out.envelopes rest.envelopes));
       holds = rest.holds;
       others = λ k life ne c. rest.others k life ne (one.others k life ne c);
       genesis = rest.genesis ∙ one.genesis;
@@ -158,7 +158,7 @@ module _ (m : Meaning) (IsText : List ℕ → Type 0) where
     is = subst (λ (w : Scene ReplicaValue). IsUpAs w n before) (sym same) up;
     shadow_after = shadow;
     shadows = s;
-    letters = [];
+    envelopes = [];
     takes = (refl, refl);
     sent = ap (λ (w : Scene ReplicaValue). w.sent) same ∙ sym (append-nil old.sent);
     holds = subst (λ (w : Scene ReplicaValue). Holds m IsText w) (sym same) holds;

@@ -13,7 +13,7 @@ use Rattle.lk_agreement_laws.specs.Datagrams.{Datagram}
 use Rattle.lk_agreement_laws.specs.declared.party.Party.TheVariants as party
 use Rattle.lk_state.specs.Meanings.{Meaning}
 use Rattle.lk_store_format.specs.Values.{HeaderValue}
-use Rattle.lk_node_interface.specs.Letters.{LetterValue, batch_of}
+use Rattle.lk_node_interface.specs.Envelopes.{EnvelopeValue, batch_of}
 use Rattle.lk_node_interface.specs.declared.input.Input.{Input}
 use Rattle.lk_node_interface.specs.declared.input.Input.TheVariants.{Datagram as Heard}
 use Rattle.lk_node_interface.specs.declared.note.Note.{Note}
@@ -201,7 +201,7 @@ module _ (m : Meaning) (IsText : List ℕ → Type 0) where
         is_taken : IsTakenAs m IsText k.replica i g.replica g.notes g.batch
         is_taken = g.takes
 
-        taken : IsTaken m IsText ⊤ k.replica i g.replica g.notes (λ (ls : List LetterValue). ls ≡ is_taken.letters)
+        taken : IsTaken m IsText ⊤ k.replica i g.replica g.notes (λ (ls : List EnvelopeValue). ls ≡ is_taken.envelopes)
         taken = is_taken.taken
 
         after : ReplicaValue

@@ -8,7 +8,7 @@ use Rattle.lk_messages.specs.declared.message.NodeMessage.TheVariants as kinds
 use Rattle.lk_agreement_laws.specs.Datagrams.{Datagram}
 use Rattle.lk_agreement_laws.specs.declared.party.Party.TheVariants as party
 use Rattle.lk_state.specs.Meanings.{Meaning}
-use Rattle.lk_node_interface.specs.Letters.{LetterValue, batch_of}
+use Rattle.lk_node_interface.specs.Envelopes.{EnvelopeValue, batch_of}
 use Rattle.lk_progress.specs.Hearing.{TakesEach}
 use Rattle.lk_recovery.specs.Compacting.{IsDue}
 use Rattle.lk_replica.specs.ReplicaValue.{ReplicaValue}
@@ -79,9 +79,9 @@ pub record TakesContents (m : Meaning) (IsText : List ℕ → Type 0) (n : ℕ) 
     (old new : Scene ReplicaValue) : Type 0 where
   pub after : ReplicaValue
   pub is : IsUpAs new n after
-  pub letters : List LetterValue
-  pub takes : TakesEach m IsText xs before.node after.node letters
-  pub sent : new.sent ≡ old.sent ++ batch_of n letters
+  pub envelopes : List EnvelopeValue
+  pub takes : TakesEach m IsText xs before.node after.node envelopes
+  pub sent : new.sent ≡ old.sent ++ batch_of n envelopes
   pub others : (k : ℕ) (life : Life ReplicaValue) → (k ≡ n → ⊥) → Lives old k life → Lives new k life
   pub genesis : new.genesis ≡ old.genesis
 

@@ -6,7 +6,7 @@ use Rattle.lk_types.specs.declared.genesis.Genesis.{Genesis}
 use Rattle.lk_agreement_laws.specs.Datagrams.{Datagram}
 use Rattle.lk_agreement_laws.specs.declared.party.Party.TheVariants as party
 use Rattle.lk_state.specs.Meanings.{Meaning}
-use Rattle.lk_node_interface.specs.Letters.{batch_of}
+use Rattle.lk_node_interface.specs.Envelopes.{batch_of}
 use Rattle.lk_node_interface.specs.Outboxes.{OutboxValue}
 use Rattle.lk_node_interface.specs.declared.input.Input.{Input}
 use Rattle.lk_node_interface.specs.declared.input.Input.TheVariants.{Tick, Nudge, Datagram as Heard}
@@ -91,7 +91,7 @@ pub record IsLeft (out : OutboxValue) (node : NodeValue) (r : ReplicaValue) : Ty
   pub rebases : out.rebase ≡ true → r.node ≡ with_snapshot node
   pub rests : out.rebase ≡ false → r.node ≡ node
 
--- the node took one step on this input; its letters are the world's next datagrams, and every other node is unchanged
+-- the node took one step on this input; its envelopes are the world's next datagrams, and every other node is unchanged
 pub record TakesStep (m : Meaning) (IsText : List ℕ → Type 0) (old : Scene ReplicaValue) (n : ℕ) (i : Input)
     (new : Scene ReplicaValue) : Type 0 where
   pub before : ReplicaValue
@@ -105,7 +105,7 @@ pub record TakesStep (m : Meaning) (IsText : List ℕ → Type 0) (old : Scene R
   pub after : ReplicaValue
   pub left : IsLeft out last after
   pub is : IsUpAs new n after
-  pub sent : new.sent ≡ old.sent ++ batch_of n out.letters
+  pub sent : new.sent ≡ old.sent ++ batch_of n out.envelopes
   pub others : (k : ℕ) (life : Life ReplicaValue) → (k ≡ n → ⊥) → Lives old k life → Lives new k life
   pub genesis : new.genesis ≡ old.genesis
 

@@ -20,7 +20,7 @@ use lk_state::Machine;
 // ---- events
 
 /// An event that goes well and gives a node an input is a step of that node, after a rebase if that is due: the step's
-/// letters are the world's next datagrams, and every other node is unchanged.
+/// envelopes are the world's next datagrams, and every other node is unchanged.
 pub fn an_event_is_a_step<M: Machine>()
     ensures { EventIsStep M.meaning M.IsText }
 {}

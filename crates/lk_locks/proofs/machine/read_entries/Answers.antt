@@ -11,7 +11,7 @@ use Rattle.lk_codec.proofs.Spellings.{goes_on}
 use Rattle.std.proofs.Common.{Bool}
 use Rattle.lk_locks.specs.Holders.{is_kept}
 use Rattle.lk_locks.specs.Packed.{read_entry}
-use Rattle.lk_locks.specs.declared.slot.Slot.{Slot}
+use Rattle.lk_locks.specs.declared.lock_entry.LockEntry.{LockEntry}
 use Rattle.lk_locks.proofs.TableLaws.{starts, one_longer, falls}
 use Rattle.lk_locks.proofs.machine.read_entries.Goals as goal
 
@@ -19,7 +19,7 @@ pub loop-init : goal.loop-init
 loop-init c = rw c.new-table.ensures
     (record {
       so_far = starts c.args.raised c.args.count c.args.bytes.now;
-      size = map.len-empty (slice_cmp nat_cmp) Slot;
+      size = map.len-empty (slice_cmp nat_cmp) LockEntry;
       version = refl;
     })
 
@@ -27,11 +27,11 @@ pub loop-preserved : goal.loop-preserved
 loop-preserved c = record {
   so_far = rw c.in_ok-push.ensures.ok
       (goes_on (read_entry c.args.raised) (map.entries c.loop.table.names) c.args.count c.loop.counter c.loop.rest.now
-      (c.in-Some.name, c.in-Some.slot) c.in-Some.after.now
+      (c.in-Some.name, c.in-Some.lock_entry) c.in-Some.after.now
       (many (read_entry c.args.raised) c.args.count c.args.bytes.now) c.loop-test.true c.in-Some.ensures.read
       c.loop.invariant.so_far);
   size = one_longer c.loop.table.names c.push.new.self.names
-      (c.in-Some.name, c.in-Some.slot) c.loop.counter c.in_ok-push.ensures.ok c.loop.invariant.size;
+      (c.in-Some.name, c.in-Some.lock_entry) c.loop.counter c.in_ok-push.ensures.ok c.loop.invariant.size;
   version = c.in_ok-push.ensures.version ∙ c.loop.invariant.version;
 }
 
@@ -44,14 +44,14 @@ returns-in_err-push-clause-not_packed c =
     λ e.
     let stopped = c.in_err-push.ensures.not_packed
     (same_fault p.0 c.in_err-push.field-0.0 NotPacked (sym p.1 ∙ e) p.2) in
-    falls (map.entries c.loop.table.names ++ (c.in-Some.name, c.in-Some.slot) ∷ [])
+    falls (map.entries c.loop.table.names ++ (c.in-Some.name, c.in-Some.lock_entry) ∷ [])
     (many (read_entry c.args.raised) (c.args.count - (c.loop.counter + 1)) c.in-Some.after.now)
     (many (read_entry c.args.raised) c.args.count c.args.bytes.now) stopped
     (goes_on (read_entry c.args.raised) (map.entries c.loop.table.names) c.args.count c.loop.counter c.loop.rest.now
-    (c.in-Some.name, c.in-Some.slot) c.in-Some.after.now
+    (c.in-Some.name, c.in-Some.lock_entry) c.in-Some.after.now
     (many (read_entry c.args.raised) c.args.count c.args.bytes.now) c.loop-test.true
     c.in-Some.ensures.read c.loop.invariant.so_far)
 
 pub push-requires-clause-kept : goal.push-requires-clause-kept
 push-requires-clause-kept c =
-    ap (λ (b : Bool). is_kept b c.in-Some.slot.holders) c.loop.invariant.version ∙ c.in-Some.ensures.kept
+    ap (λ (b : Bool). is_kept b c.in-Some.lock_entry.holders) c.loop.invariant.version ∙ c.in-Some.ensures.kept

@@ -15,8 +15,8 @@ use Rattle.lk_disk.specs.Meters.{start}
 use Rattle.lk_log.specs.declared.fault.OpenFault.TheVariants.{NoMemory}
 use Rattle.lk_log.proofs.OpenMetering.{refused}
 
-pub spelled_base-requires : goal.spelled_base-requires
-spelled_base-requires g c =
+pub encode_base-requires : goal.encode_base-requires
+encode_base-requires g c =
     subst (λ (b : BaseValue). IsStored (Base b)) (sym c.in_ok-base.ensures.value)
     (first_fits c.args.header.now c.args.zero.now c.first_base.ensures.header c.requires.some c.requires.room)
 

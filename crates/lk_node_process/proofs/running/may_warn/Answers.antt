@@ -3,8 +3,8 @@ use Rattle.lk_node_process.proofs.running.may_warn.Goals as goal
 
 pub returns-then-is_none : goal.returns-then-is_none
 returns-then-is_none g c = λ no status told port due.
-    let none : c.args.reminder.now.unheard ≡ None = search rules in
-    let both = sym due.unheard ∙ none in cc both
+    let none : c.args.reminder.now.unreached ≡ None = search rules in
+    let both = sym due.unreached ∙ none in cc both
 
 pub returns : goal.returns
 returns g c = λ no status told port due.

@@ -11,8 +11,8 @@ returns g c = record {
   socket = record {
     bound = c.in_ok-socket.socket;
     at_address = c.in_ok-socket.ensures;
-    finds = c.in_ok-unheard.ensures.finds;
-    alike = c.in_ok-unheard.ensures.alike;
-    some = c.in_ok-unheard.ensures.some;
+    finds = c.in_ok-unreached.ensures.finds;
+    alike = c.in_ok-unreached.ensures.alike;
+    some = c.in_ok-unreached.ensures.some;
   };
 }

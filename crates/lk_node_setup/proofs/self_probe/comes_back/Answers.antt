@@ -5,7 +5,7 @@ use Rattle.lk_node_setup.proofs.self_probe.comes_back.Goals as goal
 
 pub receives-init : goal.receives-init
 receives-init g c = (
-  λ unheard_is. away_first c.args.frame.now (g.S.DatagramSocket.incoming c.args.socket.now)
+  λ unreached_is. away_first c.args.frame.now (g.S.DatagramSocket.incoming c.args.socket.now)
       (g.S.DatagramSocket.incoming c.set_timeout.new.self) c.set_timeout.ensures.still,
   c.set_timeout.ensures.unchanged,
   c.set_timeout.ensures.spares,
@@ -16,25 +16,25 @@ receives-preserved g c =
     let socket = g.S.DatagramSocket in
     let i = c.receives.invariant in
     let e = c.comes_next.ensures in (
-      λ unheard_is.
-          away_more (i.0 unheard_is)
+      λ unreached_is.
+          away_more (i.0 unreached_is)
           (subst (λ (is : Bool). ComesNext c.args.frame.now is (socket.incoming c.receives.socket)
-          (socket.incoming c.comes_next.new.socket)) c.if-comes_next.false (e.comes unheard_is)),
+          (socket.incoming c.comes_next.new.socket)) c.if-comes_next.false (e.comes unreached_is)),
       e.unchanged ∙ i.1,
       e.spares ∙ i.2,
     )
 
 pub returns-then-comes_next-clause-heard : goal.returns-then-comes_next-clause-heard
-returns-then-comes_next-clause-heard g c unheard_is =
+returns-then-comes_next-clause-heard g c unreached_is =
     let socket = g.S.DatagramSocket in
-    back_now c.receives-test.true (c.receives.invariant.0 unheard_is)
+    back_now c.receives-test.true (c.receives.invariant.0 unreached_is)
     (subst (λ (is : Bool). ComesNext c.args.frame.now is (socket.incoming c.receives.socket)
-    (socket.incoming c.comes_next.new.socket)) c.if-comes_next.true (c.comes_next.ensures.comes unheard_is))
+    (socket.incoming c.comes_next.new.socket)) c.if-comes_next.true (c.comes_next.ensures.comes unreached_is))
 
 pub returns-clause-heard : goal.returns-clause-heard
-returns-clause-heard g c unheard_is =
+returns-clause-heard g c unreached_is =
     let socket = g.S.DatagramSocket in
     let all : c.receives.counter ≡ 30 = omega arith in
     subst (λ (n : ℕ). StaysAway c.args.frame.now n (socket.incoming c.args.socket.now)
     (socket.incoming c.receives.socket))
-    all (c.receives.invariant.0 unheard_is)
+    all (c.receives.invariant.0 unreached_is)

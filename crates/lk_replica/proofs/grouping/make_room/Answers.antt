@@ -8,7 +8,7 @@ use Rattle.lk_recovery.specs.Compacting.{AreSame, IsDue}
 use Rattle.lk_recovery.proofs.Recoveries.{before_fits, node_covers, same_room, err_as, refused_on, spared_all}
 use Rattle.lk_recovery.proofs.Recoveries.{spared_more, kept_then}
 use Rattle.lk_node_interface.specs.Faults.{WantsNoMemory, fault_number}
-use Rattle.lk_replica.specs.Groups.{as_released}
+use Rattle.lk_replica.specs.Groups.{synced_if}
 use Rattle.lk_replica.proofs.Based.{based_switched, based_ends, based_covers, room_fits}
 use Rattle.lk_replica.proofs.Grouped.{of_store_too, no_room_made, room_made, begin_fits, begun, group_fits, group_keeps}
 use Rattle.lk_replica.proofs.Grouped.{same_recalls, same_group_fits, same_group_stays, same_group_covers, asked_same}
@@ -70,7 +70,7 @@ returns-clause-keeps g c honest = record {
       c.is_rebase_due.new.store c.write_base.new.store c.in_ok-write_base.ensures.becomes near
       (c.in_ok-write_base.ensures.done honest) mine.keeps.entries (plain mine.keeps.loose)
       mine.keeps.holds).syncs genesis n x mid
-      (node_covers m genesis n c.args.node.now (as_released c.args.needs_sync c.is_rebase_due.new.store)
+      (node_covers m genesis n c.args.node.now (synced_if c.args.needs_sync c.is_rebase_due.new.store)
       c.write_base.new.store mid c.in_ok-write_base.ensures.becomes.fits_base near.0.snapshot x
       (same_group_covers m c.args.store.now c.is_rebase_due.new.store
       (c.is_rebase_due.ensures.same honest) genesis n x c.args.needs_sync every));
@@ -109,7 +109,7 @@ returns-in_err-write_base-clause-disks g c honest = record {
       let mine = same_group_stays m c.args.store.now c.is_rebase_due.new.store
       (c.is_rebase_due.ensures.same honest) h n c.args.node.now c.args.needs_sync s in
       let k = mine.fits.shown.keeps in
-      let asked = as_released c.args.needs_sync c.is_rebase_due.new.store in
+      let asked = synced_if c.args.needs_sync c.is_rebase_due.new.store in
       based_ends m c.args.node.now c.args.node.now c.is_rebase_due.new.store c.write_base.new.store c.args.needs_sync
       c.write_base.ensures.near h n mine
       (before_fits m h n c.args.node.now asked
@@ -139,7 +139,7 @@ returns-clause-disks g c honest = record {
       let mine = same_group_stays m c.args.store.now c.is_rebase_due.new.store
       (c.is_rebase_due.ensures.same honest) h n c.args.node.now c.args.needs_sync s in
       let k = mine.fits.shown.keeps in
-      let asked = as_released c.args.needs_sync c.is_rebase_due.new.store in
+      let asked = synced_if c.args.needs_sync c.is_rebase_due.new.store in
       based_ends m c.args.node.now c.args.node.now c.is_rebase_due.new.store c.write_base.new.store c.args.needs_sync
       c.write_base.ensures.near h n mine
       (before_fits m h n c.args.node.now asked

@@ -1,10 +1,10 @@
 use Rattle.std.proofs.Common.{◌≡◌, ℕ, ◌∙◌, Bool, true, false, sym, ap, subst, arith, inl}
 use Rattle.lk_log.specs.StoreValue.{disks}
 use Rattle.lk_log.proofs.Room.{refused_room, within_first}
-use Rattle.lk_node_interface.specs.Letters.{batch_of}
+use Rattle.lk_node_interface.specs.Envelopes.{batch_of}
 use Rattle.lk_node.specs.Histories.{Genesis}
 use Rattle.lk_node.specs.Leavings.{AllCover}
-use Rattle.lk_replica.specs.Groups.{GroupValue, MakesRoom, as_released, RemembersInGroup, GroupFits, GroupLeavesFit}
+use Rattle.lk_replica.specs.Groups.{GroupValue, MakesRoom, synced_if, RemembersInGroup, GroupFits, GroupLeavesFit}
 use Rattle.lk_replica.specs.Groups.{GroupStays, empty_group}
 use Rattle.lk_disk.proofs.Devices.{passes_on}
 use Rattle.lk_node_interface.specs.declared.fault.ReplicaFault.TheVariants as fault
@@ -23,9 +23,9 @@ returns-clause-goes g c honest =
     let is = c.in_ok-add.ensures.added in
     record {
       notes = o.notes;
-      letters = o.letters;
+      envelopes = o.envelopes;
       noted = ap (λ (x : GroupValue). x.notes) is;
-      said = ap (λ (x : GroupValue). x.letters) is;
+      said = ap (λ (x : GroupValue). x.envelopes) is;
       are = λ h n f heard sent among. subst
           (λ (x : GroupValue). GroupLeavesFit m h n c.step_to_file.new.node c.step_to_file.new.store x.needs_sync
           o.notes
@@ -63,17 +63,17 @@ returns-clause-keeps g c honest =
       said = λ genesis n r was.
           says_more m genesis n before c.add.new.self c.args.store.now c.step_to_file.new.store
           (λ x every. subst (λ (y : GroupValue). AllCover m genesis n
-          (disks (as_released y.needs_sync c.step_to_file.new.store)) x) (sym is)
+          (disks (synced_if y.needs_sync c.step_to_file.new.store)) x) (sym is)
           (step.still genesis n x (room.recalls genesis n (mine genesis n r))
           (room.still genesis n x (mine genesis n r)
-          (subst (λ (w : Bool). AllCover m genesis n (disks (as_released w c.args.store.now)) x) w every))))
+          (subst (λ (w : Bool). AllCover m genesis n (disks (synced_if w c.args.store.now)) x) w every))))
           (λ x. record {
             notes = o.notes;
-            letters = o.letters;
+            envelopes = o.envelopes;
             noted = ap (λ (x : GroupValue). x.notes) is;
-            said = ap (λ (x : GroupValue). x.letters) is;
+            said = ap (λ (x : GroupValue). x.envelopes) is;
             are = λ d listed spelled. subst
-                (λ (y : GroupValue). AllCover m genesis n (disks (as_released y.needs_sync c.step_to_file.new.store)) x)
+                (λ (y : GroupValue). AllCover m genesis n (disks (synced_if y.needs_sync c.step_to_file.new.store)) x)
                 (sym is)
                 (step.syncs genesis n x (room.recalls genesis n (mine genesis n r)) d listed spelled);
           })

@@ -4,15 +4,15 @@ use Rattle.lk_log.specs.StoreValue.{disks}
 use Rattle.lk_log.proofs.Room.{within_same, behind_room, refused_room}
 use Rattle.lk_node.proofs.Nodes.{few_entries, step_told}
 use Rattle.lk_state.specs.Meanings.{Meaning}
-use Rattle.lk_node_interface.specs.Letters.{batch_of}
+use Rattle.lk_node_interface.specs.Envelopes.{batch_of}
 use Rattle.lk_node.specs.Executing.{NothingToRun}
 use Rattle.lk_node.specs.NodeValue.{NodeValue}
-use Rattle.lk_replica.specs.Groups.{as_released, needs_sync_after, GroupLeavesFit, GroupStays, RemembersInGroup}
+use Rattle.lk_replica.specs.Groups.{synced_if, needs_sync_after, GroupLeavesFit, GroupStays, RemembersInGroup}
 use Rattle.lk_replica.proofs.Behind.{still_keeps, still_remembers, sent_is_covered, stepped_fits}
 use Rattle.lk_replica.proofs.Based.{based_ends, based_covers}
 use Rattle.lk_replica.proofs.Going.{by_kind}
-use Rattle.lk_replica.proofs.Grouped.{gather_goes, group_leaves, group_stays, gather_recalls, gather_syncs}
-use Rattle.lk_replica.proofs.Grouped.{gather_covers, gather_still_covers}
+use Rattle.lk_replica.proofs.Grouped.{add_step_goes, group_leaves, group_stays, add_step_recalls, add_step_syncs}
+use Rattle.lk_replica.proofs.Grouped.{add_step_covers, add_step_still_covers}
 use Rattle.lk_replica.proofs.Grouped.{group_fits, group_keeps}
 use Rattle.lk_replica.proofs.Grouped.{begin_recalls, based_cover, based_goes, based_stays}
 use Rattle.lk_disk.specs.Meters.{start}
@@ -44,7 +44,7 @@ returns-in_err-write_to_file-clause-disks g c honest w =
       ends = λ h n s heard. by_kind out.rebase
           (λ is. let b = left.based is in
           based_ends m c.args.node.now c.step.new.self c.args.store.now after w b.near h n s
-          (stepped_fits m h n c.args.node.now c.step.new.self (as_released w c.args.store.now) c.args.input out
+          (stepped_fits m h n c.args.node.now c.step.new.self (synced_if w c.args.store.now) c.args.input out
           (group_fits m h n c.args.node.now c.args.store.now w s.fits) heard c.in_ok-outbox.ensures.safe is)
           (b.every_image _ _ s.fits.shown.keeps.holds))
           (λ not_so. group_leaves m h n c.args.node.now c.step.new.self c.args.store.now after w
@@ -55,10 +55,10 @@ returns-in_err-write_to_file-clause-disks g c honest w =
       covers = λ genesis n x r every. by_kind out.rebase
           (λ is. let b = left.based is in
           based_covers m c.args.node.now c.step.new.self c.args.store.now after w b.near genesis n r
-          (still_keeps m _ genesis n c.args.node.now c.step.new.self (as_released w c.args.store.now) r.whose
+          (still_keeps m _ genesis n c.args.node.now c.step.new.self (synced_if w c.args.store.now) r.whose
           (group_keeps _ c.args.store.now w _ r.keeps) out c.in_ok-outbox.ensures.safe is) x every
           (b.every_image _ _ r.keeps.holds))
-          (λ not_so. gather_still_covers m genesis n c.args.node.now c.args.store.now after w
+          (λ not_so. add_step_still_covers m genesis n c.args.node.now c.args.store.now after w
           out.entries r
           ((left.put not_so).every_image _ _ r.keeps.holds) x every);
       room = λ small. by_kind out.rebase
@@ -85,7 +85,7 @@ returns-clause-disks g c honest w =
       ends = λ h n s heard. by_kind out.rebase
           (λ is. let b = left.based is in
           based_ends m c.args.node.now c.step.new.self c.args.store.now after w b.near h n s
-          (stepped_fits m h n c.args.node.now c.step.new.self (as_released w c.args.store.now) c.args.input out
+          (stepped_fits m h n c.args.node.now c.step.new.self (synced_if w c.args.store.now) c.args.input out
           (group_fits m h n c.args.node.now c.args.store.now w s.fits) heard c.in_ok-outbox.ensures.safe is)
           (b.every_image _ _ s.fits.shown.keeps.holds))
           (λ not_so. group_leaves m h n c.args.node.now c.step.new.self c.args.store.now after w
@@ -96,10 +96,10 @@ returns-clause-disks g c honest w =
       covers = λ genesis n x r every. by_kind out.rebase
           (λ is. let b = left.based is in
           based_covers m c.args.node.now c.step.new.self c.args.store.now after w b.near genesis n r
-          (still_keeps m _ genesis n c.args.node.now c.step.new.self (as_released w c.args.store.now) r.whose
+          (still_keeps m _ genesis n c.args.node.now c.step.new.self (synced_if w c.args.store.now) r.whose
           (group_keeps _ c.args.store.now w _ r.keeps) out c.in_ok-outbox.ensures.safe is) x every
           (b.every_image _ _ r.keeps.holds))
-          (λ not_so. gather_still_covers m genesis n c.args.node.now c.args.store.now after w
+          (λ not_so. add_step_still_covers m genesis n c.args.node.now c.args.store.now after w
           out.entries r
           ((left.put not_so).every_image _ _ r.keeps.holds) x every);
       room = λ small. by_kind out.rebase
@@ -130,14 +130,14 @@ returns-clause-keeps g c honest w =
           let sw = done.switches is w _ _ f.shown.keeps.holds in
           subst (λ (k : NodeValue). GroupLeavesFit m h n k after (needs_sync_after w out) out.notes
           (batch_of n sent)) (sym (on.stands is).0.becomes)
-          (based_goes m h n c.args.node.now c.step.new.self (as_released w c.args.store.now) after w c.args.input out
+          (based_goes m h n c.args.node.now c.step.new.self (synced_if w c.args.store.now) after w c.args.input out
           mid heard c.in_ok-outbox.ensures.safe is (on.stands is).0.fits_base (on.stands is).1
           (sw.rebases.writes mid.shown.keeps.entries (plain mid.shown.keeps.loose) mid.shown.keeps.holds)
           sent among))
           (λ not_so. subst (λ (k : NodeValue). GroupLeavesFit m h n k after (needs_sync_after w out)
           out.notes
           (batch_of n sent)) (sym (on.rests not_so))
-          (gather_goes m h n c.args.node.now c.step.new.self c.args.store.now after w c.args.input
+          (add_step_goes m h n c.args.node.now c.step.new.self c.args.store.now after w c.args.input
           out f heard c.in_ok-outbox.ensures.safe
           (step_told _ _ c.args.node.now _ c.step.new.self out c.in_ok-outbox.ensures.steps not_so) not_so
           (done.puts not_so _ _ f.shown.keeps.holds) sent among));
@@ -146,7 +146,7 @@ returns-clause-keeps g c honest w =
           let sw = done.switches is w _ _ s.fits.shown.keeps.holds in
           subst (λ (k : NodeValue). GroupStays m h n k after (needs_sync_after w out))
           (sym (on.stands is).0.becomes)
-          (based_stays m h n c.args.node.now c.step.new.self (as_released w c.args.store.now) after w c.args.input out
+          (based_stays m h n c.args.node.now c.step.new.self (synced_if w c.args.store.now) after w c.args.input out
           mid heard c.in_ok-outbox.ensures.safe is (on.stands is).0.fits_base (on.stands is).1
           (sw.rebases.writes mid.shown.keeps.entries (plain mid.shown.keeps.loose) mid.shown.keeps.holds)
           ((returns-clause-disks g c honest w).ends h n s heard)))
@@ -160,32 +160,32 @@ returns-clause-keeps g c honest w =
       recalls = λ genesis n r. by_kind out.rebase
           (λ is. begin_recalls _ after genesis n w out is
           ((done.switches is w _ _ r.keeps.holds).remembers genesis n
-          (still_remembers m _ genesis n c.args.node.now c.step.new.self (as_released w c.args.store.now) r.whose
+          (still_remembers m _ genesis n c.args.node.now c.step.new.self (synced_if w c.args.store.now) r.whose
           (group_keeps _ c.args.store.now w _ r.keeps) out c.in_ok-outbox.ensures.safe is)))
           (λ not_so. subst (λ (k : NodeValue). RemembersInGroup k after (needs_sync_after w out)
           genesis n)
           (sym (on.rests not_so))
-          (gather_recalls m genesis n c.args.node.now c.step.new.self c.args.store.now after w _ out r
+          (add_step_recalls m genesis n c.args.node.now c.step.new.self c.args.store.now after w _ out r
           c.in_ok-outbox.ensures.safe not_so (done.puts not_so _ _ r.keeps.holds)));
       syncs = λ genesis n x r d listed said. by_kind out.rebase
           (λ is. let mid = group_keeps _ c.args.store.now w _ r.keeps in
           based_cover m genesis n after w out x is
           ((done.switches is w _ _ r.keeps.holds).syncs genesis n x
-          (still_keeps m _ genesis n c.args.node.now c.step.new.self (as_released w c.args.store.now) r.whose mid out
+          (still_keeps m _ genesis n c.args.node.now c.step.new.self (synced_if w c.args.store.now) r.whose mid out
           c.in_ok-outbox.ensures.safe is)
-          (sent_is_covered m _ genesis n c.args.node.now c.step.new.self (as_released w c.args.store.now) r.whose mid
+          (sent_is_covered m _ genesis n c.args.node.now c.step.new.self (synced_if w c.args.store.now) r.whose mid
           out c.in_ok-outbox.ensures.safe is x d listed said)))
-          (λ not_so. gather_syncs m genesis n c.args.node.now c.step.new.self c.args.store.now after w
+          (λ not_so. add_step_syncs m genesis n c.args.node.now c.step.new.self c.args.store.now after w
           _ out r
           c.in_ok-outbox.ensures.safe not_so (done.puts not_so _ _ r.keeps.holds) x d listed said);
       still = λ genesis n x r every. by_kind out.rebase
-          (λ is. let kept = still_keeps m _ genesis n c.args.node.now c.step.new.self (as_released w c.args.store.now)
+          (λ is. let kept = still_keeps m _ genesis n c.args.node.now c.step.new.self (synced_if w c.args.store.now)
           r.whose (group_keeps _ c.args.store.now w _ r.keeps) out c.in_ok-outbox.ensures.safe is in
           based_cover m genesis n after w out x is
           ((done.switches is w _ _ r.keeps.holds).syncs genesis n x kept
-          (node_covers m genesis n c.step.new.self (as_released w c.args.store.now) after kept
+          (node_covers m genesis n c.step.new.self (synced_if w c.args.store.now) after kept
           (on.stands is).0.fits_base (on.stands is).1.0.snapshot x every)))
-          (λ not_so. gather_covers m genesis n c.args.node.now c.step.new.self c.args.store.now after w
+          (λ not_so. add_step_covers m genesis n c.args.node.now c.step.new.self c.args.store.now after w
           _ out r
           c.in_ok-outbox.ensures.safe not_so (done.puts not_so _ _ r.keeps.holds) x every);
     }

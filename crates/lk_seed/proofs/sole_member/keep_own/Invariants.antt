@@ -4,4 +4,4 @@ use Rattle.lk_seed.proofs.sole_member.keep_own.Given as goal
 
 -- those so far that go to the node were appended
 abbrev pub invariant-sent : goal.invariant-sent
-invariant-sent l = l.letters.items ≡ l.fn.letters.items ++ own_of l.node l.yielded
+invariant-sent l = l.envelopes.items ≡ l.fn.envelopes.items ++ own_of l.node l.yielded

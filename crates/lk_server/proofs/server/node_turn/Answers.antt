@@ -108,7 +108,7 @@ returns-clause-notes g c =
       now = c.nudge_if_fed.new.group;
       nudged = c.nudge_if_fed.new.self;
       nudges = c.in_ok-nudge_if_fed.ensures.nudges;
-      releases = c.in_ok-end_group.ensures.gives;
+      sends_all = c.in_ok-end_group.ensures.gives;
       kept = noted_ended c.nudge_if_fed.new.self c.end_group.new.self c.end_group.ensures.counts
           c.end_group.ensures.same c.end_group.ensures.addresses;
       rests = c.end_group.ensures.counts.fed ∙ c.nudge_if_fed.ensures.rests;

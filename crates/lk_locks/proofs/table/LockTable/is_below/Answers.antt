@@ -12,7 +12,7 @@ returns-in-Some c = λ s.
     let listed : map.entries c.args.self.now.names ≡ c.next_back.new.self
     ++ (c.in-Some.last.now, c.in-Some.field-0-1.now) ∷ [] =
     ap (λ (t : Table). map.entries t.names) (sym c.self.view_is)
-    ∙ entries_are nat_list_cmp_total c.self.inside.slots.entries c.self.invariant.0 ∙ sym c.iter.ensures.rest
+    ∙ entries_are nat_list_cmp_total c.self.inside.lock_entries.entries c.self.invariant.0 ∙ sym c.iter.ensures.rest
     ∙ c.in-Some.ensures.steps in
     c.is_lt.ensures ∙ ap is_lt c.cmp.ensures
     ∙ below_is c.args.self.now.names c.next_back.new.self
@@ -22,6 +22,6 @@ pub returns-in-None : goal.returns-in-None
 returns-in-None c = λ s.
     let listed : map.entries c.args.self.now.names ≡ [] =
     ap (λ (t : Table). map.entries t.names) (sym c.self.view_is)
-    ∙ entries_are nat_list_cmp_total c.self.inside.slots.entries c.self.invariant.0 ∙ sym c.iter.ensures.rest
+    ∙ entries_are nat_list_cmp_total c.self.inside.lock_entries.entries c.self.invariant.0 ∙ sym c.iter.ensures.rest
     ∙ c.in-None.ensures.steps.0 in
     rw listed refl

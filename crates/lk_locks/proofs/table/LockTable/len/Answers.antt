@@ -8,12 +8,12 @@ use Rattle.lk_locks.proofs.table.LockTable.len.Goals as goal
 
 pub returns-clause-len : goal.returns-clause-len
 returns-clause-len c = c.len.ensures.len
-    ∙ sym (len_is nat_list_cmp_total c.self.inside.slots.entries c.len.ensures.ordered)
+    ∙ sym (len_is nat_list_cmp_total c.self.inside.lock_entries.entries c.len.ensures.ordered)
     ∙ ap (λ (t : Table). map.len t.names) c.self.view_is
 
 pub returns-clause-short : goal.returns-clause-short
 unfolding AreNames
 returns-clause-short c =
     subst (λ (n : ℕ). n ≤ 512)
-    (len_is nat_list_cmp_total c.self.inside.slots.entries c.len.ensures.ordered ∙ sym c.len.ensures.len)
+    (len_is nat_list_cmp_total c.self.inside.lock_entries.entries c.len.ensures.ordered ∙ sym c.len.ensures.len)
     c.self.invariant.1.0

@@ -6,5 +6,5 @@ use Rattle.lk_locks.proofs.table.LockTable.push.Goals as goal
 
 pub returns-clause-ok : goal.returns-clause-ok
 returns-clause-ok c = ap (λ (t : Table). map.entries t.names) c.in_ok-set.ensures.ok
-    ∙ push_is c.args.self.now.names c.args.name c.args.slot
-    (sym (c.is_below.ensures c.args.slot) ∙ c.if-not-is_below.false)
+    ∙ push_is c.args.self.now.names c.args.name c.args.lock_entry
+    (sym (c.is_below.ensures c.args.lock_entry) ∙ c.if-not-is_below.false)

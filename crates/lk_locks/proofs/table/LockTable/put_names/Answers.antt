@@ -14,7 +14,7 @@ pub loop-name-init : goal.loop-name-init
 loop-name-init c =
     let listed : c.into_iter-name-iterator.result ≡ map.entries c.args.self.now.names =
     c.into_iter-name-iterator.ensures.into_iter_gives ∙ c.iter-name-items.ensures.rest
-    ∙ sym (entries_are nat_list_cmp_total c.self.inside.slots.entries c.self.invariant.0)
+    ∙ sym (entries_are nat_list_cmp_total c.self.inside.lock_entries.entries c.self.invariant.0)
     ∙ ap (λ (t : Table). map.entries t.names) c.self.view_is in
     let wrote = c.in_ok-put_u16.ensures.ok in
     record {

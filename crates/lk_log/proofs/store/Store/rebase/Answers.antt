@@ -19,8 +19,8 @@ returns-then-self-clause-every_image g c honest ks ls holds =
     keeps_still c.args.self.now.live c.args.self.now.live_disk c.args.self.now.other_disk ks ls
     (next_base c.args.self.now c.args.standing.now) holds.on
 
-pub spelled_parts-requires : goal.spelled_parts-requires
-spelled_parts-requires g c =
+pub encode_parts-requires : goal.encode_parts-requires
+encode_parts-requires g c =
     let b : BaseValue = record {
       generation = c.self.inside.generation + 1;
       format = 2;

@@ -17,10 +17,10 @@ returns-clause-safe g c = λ at.
     (note.Counted c.node.result c.args.position c.args.members v) c.args.out.now) c.copy.ensures in
     subst (λ (o : OutboxValue). ActsSafely m
     (λ h. ChosenAt h.genesis h.sent c.args.position c.args.command.now) c.args.self.now c.execute.new.self
-    c.args.out.now o) (sym c.in_ok-add_letters.ensures)
+    c.args.out.now o) (sym c.in_ok-add_envelopes.ensures)
     (decides_goes_on m c.args.members c.args.position c.args.command.now c.node.result c.args.self.now c.learn.new.self
-    c.execute.new.self c.args.out.now c.learn.new.out c.execute.new.out c.in_ok-letters.letters.items
-    at c.in_ok-letters.ensures
+    c.execute.new.self c.args.out.now c.learn.new.out c.execute.new.out c.in_ok-envelopes.envelopes.items
+    at c.in_ok-envelopes.ensures
     (subst (λ (o : OutboxValue). Learns
     (c.args.position, c.args.command.now) c.args.self.now o c.learn.new.self c.learn.new.out) noted
     c.in_ok-learn.ensures.exact)

@@ -7,7 +7,7 @@ use Rattle.lk_node.specs.Histories.{History}
 use Rattle.lk_node.specs.NodeValue.{NodeValue}
 use Rattle.lk_node.specs.SafeSteps.{ActsSafely}
 use Rattle.lk_node.proofs.InstallLaws.{BeganWell, began_well, gathers_goes_on}
-use Rattle.lk_node.proofs.LearnerLaws.{unheard}
+use Rattle.lk_node.proofs.LearnerLaws.{yet_to_accept}
 use Rattle.lk_node.proofs.SafeSteps.{then_goes_on}
 use Rattle.lk_node.proofs.node.Node.handle_part.Goals as goal
 
@@ -47,5 +47,5 @@ returns-clause-safe g c = λ from.
     then_goes_on m Heard c.args.self.now c.add_part.new.self c.install_gathered.new.self nothing nothing c.in_ok-out.out
     (gathers_goes_on m from g.M.Machine.IsText keeps c.in_ok-add_part.field-0 c.args.part.now c.args.self.now
     c.add_part.new.self nothing began c.in_ok-add_part.ensures)
-    (unheard m Heard c.add_part.new.self c.install_gathered.new.self nothing c.in_ok-out.out
+    (yet_to_accept m Heard c.add_part.new.self c.install_gathered.new.self nothing c.in_ok-out.out
     c.in_ok-out.ensures.safe)

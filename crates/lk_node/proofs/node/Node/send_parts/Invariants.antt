@@ -1,4 +1,4 @@
--- The letters of the parts so far.
+-- The envelopes of the parts so far.
 use Rattle.std.proofs.Common.{◌≡◌, ◌++◌, length, Contains}
 use Rattle.std.specs.Vec.Iter.{into_iter_items, into_iter_len}
 use Rattle.lk_messages.specs.Grammar.{IsMessage}

@@ -12,13 +12,14 @@ members-preserved c = λ new rest.
     let m = c.member-item.result in
     let next : drop i ms ≡ m ∷ drop (i + 1) ms = next_member ms i m c.members-test.true c.member-item.is in
     c.members.invariant new
-    (subst (λ (l : List Member). PutsNews c.args.now c.args.self.now c.args.seen.now (joins l) c.members.slots.all new)
+    (subst (λ (l : List Member). PutsNews c.args.now c.args.self.now c.args.seen.now (joins l)
+    c.members.rate_limits.all new)
     (sym next)
     (news c.joined.result c.joined.ensures c.put_some.ensures rest))
 
 pub returns : goal.returns
 returns c =
-    c.members.invariant c.members.slots.all
+    c.members.invariant c.members.rate_limits.all
     (subst (λ (l : List Member). PutsNews c.args.now c.args.self.now c.args.seen.now
-    (joins l) c.members.slots.all c.members.slots.all)
+    (joins l) c.members.rate_limits.all c.members.rate_limits.all)
     (sym (none_left c.args.members.now c.members.member-index c.members-test.false)) nothing)

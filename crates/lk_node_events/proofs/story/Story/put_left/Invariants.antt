@@ -7,5 +7,5 @@ use Rattle.lk_node_events.proofs.story.Story.put_left.Given as goal
 
 abbrev pub invariant-members : goal.invariant-members
 invariant-members l =
-    (new : List RateLimit) → PutsNews l.now l.self l.seen (leaves (drop l.member-index l.members)) l.slots.all new
-    → PutsNews l.now l.self l.seen (leaves l.members) l.initial.slots.all new
+    (new : List RateLimit) → PutsNews l.now l.self l.seen (leaves (drop l.member-index l.members)) l.rate_limits.all new
+    → PutsNews l.now l.self l.seen (leaves l.members) l.initial.rate_limits.all new

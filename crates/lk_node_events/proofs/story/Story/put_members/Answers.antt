@@ -8,7 +8,8 @@ pub returns : goal.returns
 returns c =
     let story = c.args.self.now in
     let seen = c.args.seen.now in
-    let mid = c.put_joined.new.slots.all in
-    let joined : PutsNews c.args.now story seen (joins seen.members) c.args.slots.now.all mid = search rules in
-    let left : PutsNews c.args.now story seen (leaves story.members) mid c.put_left.new.slots.all = search rules in
+    let mid = c.put_joined.new.rate_limits.all in
+    let joined : PutsNews c.args.now story seen (joins seen.members) c.args.rate_limits.now.all mid = search rules in
+    let left : PutsNews c.args.now story seen (leaves story.members) mid c.put_left.new.rate_limits.all =
+    search rules in
     puts_both joined left

@@ -14,6 +14,6 @@ returns c = record {
         quiet = c.put_times.new.self.quiet;
         lag = c.put_times.new.self.lag;
         deaf = c.put_times.new.self.deaf;
-        slots = c.observe.new.slots;
+        rate_limits = c.observe.new.rate_limits;
       } in w) c.observe.ensures.observed;
 }

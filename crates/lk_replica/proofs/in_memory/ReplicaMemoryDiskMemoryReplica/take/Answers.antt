@@ -4,7 +4,7 @@ use Rattle.lk_store_format.specs.Values.{HeaderValue}
 use Rattle.lk_replica.specs.ReplicaValue.{device_of}
 use Rattle.lk_memory_disk.specs.Memory.{disk_of}
 use Rattle.lk_state.specs.Meanings.{Meaning}
-use Rattle.lk_node_interface.specs.Letters.{batch_of}
+use Rattle.lk_node_interface.specs.Envelopes.{batch_of}
 use Rattle.lk_node.specs.Calls.{NodeFits, LeavesFit}
 use Rattle.lk_node.specs.Histories.{Datagram}
 use Rattle.lk_node.specs.Keeping.{ReplicaHolds}
@@ -25,14 +25,14 @@ pub returns-in-Ok-clause-goes : goal.returns-in-Ok-clause-goes
 returns-in-Ok-clause-goes g c h n fits heard =
     let m : Meaning = g.M.Machine.meaning in
     let own = c.args.self.now in
-    let all = c.in_ok-notes.ensures.gives.letters in
+    let all = c.in_ok-notes.ensures.gives.envelopes in
     let by = c.in_ok-notes.ensures.gives.holds tt in
     let went = by.goes h n (off_device
     (λ d. NodeFits m h n (ReplicaHolds m own.node own.store h.genesis n) d) own.store fits) heard in
-    let letters : c.take.new.post.letters ≡ all = by.taken.sent.1 tt
-    ∙ ap (λ (p : MemoryPostValue). p.letters ++ by.taken.out.letters) c.empty_post-post.ensures ∙ by.taken.sent.0 in
+    let envelopes : c.take.new.post.envelopes ≡ all = by.taken.sent.1 tt
+    ∙ ap (λ (p : MemoryPostValue). p.envelopes ++ by.taken.out.envelopes) c.empty_post-post.ensures ∙ by.taken.sent.0 in
     let is : c.number-node.result ≡ n = c.number-node.ensures ∙ ap (λ (w : HeaderValue). w.node) fits.shown.whose in
-    let batch : c.in-Ok.sent.items ≡ batch_of n all = c.in-Ok.ensures.ok ∙ (λ i. batch_of (is i) (letters i)) in
+    let batch : c.in-Ok.sent.items ≡ batch_of n all = c.in-Ok.ensures.ok ∙ (λ i. batch_of (is i) (envelopes i)) in
     subst (λ (ds : List Datagram). LeavesFit m h n
     (ReplicaHolds m c.take.new.self.node c.take.new.self.store h.genesis n)
     (disk_of (device_of c.take.new.self.store)) c.in_ok-notes.notes.items ds) (sym batch)
@@ -44,12 +44,12 @@ returns-in-Ok-clause-goes g c h n fits heard =
 pub returns-in-Ok-clause-syncs : goal.returns-in-Ok-clause-syncs
 returns-in-Ok-clause-syncs g c genesis n held x shown =
     let m : Meaning = g.M.Machine.meaning in
-    let all = c.in_ok-notes.ensures.gives.letters in
+    let all = c.in_ok-notes.ensures.gives.envelopes in
     let by = c.in_ok-notes.ensures.gives.holds tt in
-    let letters : c.take.new.post.letters ≡ all = by.taken.sent.1 tt
-    ∙ ap (λ (p : MemoryPostValue). p.letters ++ by.taken.out.letters) c.empty_post-post.ensures ∙ by.taken.sent.0 in
+    let envelopes : c.take.new.post.envelopes ≡ all = by.taken.sent.1 tt
+    ∙ ap (λ (p : MemoryPostValue). p.envelopes ++ by.taken.out.envelopes) c.empty_post-post.ensures ∙ by.taken.sent.0 in
     let is : c.number-node.result ≡ n = c.number-node.ensures ∙ ap (λ (w : HeaderValue). w.node) shown.whose in
-    let batch : c.in-Ok.sent.items ≡ batch_of n all = c.in-Ok.ensures.ok ∙ (λ i. batch_of (is i) (letters i)) in
+    let batch : c.in-Ok.sent.items ≡ batch_of n all = c.in-Ok.ensures.ok ∙ (λ i. batch_of (is i) (envelopes i)) in
     λ d listed said. on_device (λ z. AllCover m genesis n z x) c.take.new.self.store
     (by.syncs genesis n x (remembered m genesis n held c.args.self.now.node c.args.self.now.store shown) d
     (subst (λ (ds : List Datagram). Contains ds d) batch listed) said)
@@ -57,11 +57,11 @@ returns-in-Ok-clause-syncs g c genesis n held x shown =
 pub returns-in-Ok-clause-exact : goal.returns-in-Ok-clause-exact
 returns-in-Ok-clause-exact g c =
     let taken = (c.in_ok-notes.ensures.gives.holds tt).taken in
-    let letters : c.take.new.post.letters ≡ taken.out.letters = taken.sent.1 tt
-    ∙ ap (λ (p : MemoryPostValue). p.letters ++ taken.out.letters) c.empty_post-post.ensures in
+    let envelopes : c.take.new.post.envelopes ≡ taken.out.envelopes = taken.sent.1 tt
+    ∙ ap (λ (p : MemoryPostValue). p.envelopes ++ taken.out.envelopes) c.empty_post-post.ensures in
     record {
-      letters = taken.out.letters;
-      batch = c.in-Ok.ensures.ok ∙ (λ i. batch_of (c.number-node.ensures i) (letters i));
+      envelopes = taken.out.envelopes;
+      batch = c.in-Ok.ensures.ok ∙ (λ i. batch_of (c.number-node.ensures i) (envelopes i));
       taken = record {
         mid = taken.mid;
         between = taken.between;

@@ -10,13 +10,13 @@ use Rattle.lk_memory_disk.specs.Memory.{disk_of}
 use Rattle.lk_disk.specs.Meters.{CallsSucceed}
 use Rattle.lk_disk.proofs.Devices.{passes_on}
 use Rattle.lk_disk.specs.declared.meter.Meter.{Meter}
-use Rattle.lk_node_interface.specs.Letters.{batch_of, LetterValue}
+use Rattle.lk_node_interface.specs.Envelopes.{batch_of, EnvelopeValue}
 use Rattle.lk_node_interface.specs.declared.input.Input.{Input}
 use Rattle.lk_node.specs.Calls.{InputFits, NodeFits}
 use Rattle.lk_node.specs.Keeping.{ReplicaHolds}
 use Rattle.lk_node.specs.Leavings.{DisksFit, AllCover}
 use Rattle.lk_node_interface.specs.Faults.{fault_number, RefusedAfter, IsNumberOfCalls}
-use Rattle.lk_replica.specs.Groups.{GroupValue, IsGroupSynced, LeavesInGroup, gather_calls, sync_calls}
+use Rattle.lk_replica.specs.Groups.{GroupValue, IsGroupSynced, LeavesInGroup, add_step_calls, sync_calls}
 use Rattle.lk_replica.specs.ReplicaValue.{ReplicaValue, device_of}
 use Rattle.lk_replica.specs.Together.{IsTogetherRefused}
 use Rattle.lk_replica.specs.declared.taken.Step.{Step}
@@ -46,71 +46,71 @@ inputs-preserved g c =
     let t = g.M.Machine.IsText in
     let own = c.args.self.now in
     let all = c.args.inputs.items in
-    let e = c.in_ok-gather.ensures in
+    let e = c.in_ok-add_step.ensures in
     let rest = c.next.new.self.rest.items in
     let was = subst (λ (l : List Input). TakenSoFar m t own all c.inputs.self c.inputs.group c.inputs.steps.items l)
     c.in-Some.ensures.steps.0 c.inputs.invariant in
-    let one = one_taken m t own all c.inputs.self c.gather.new.self c.inputs.group c.gather.new.group
+    let one = one_taken m t own all c.inputs.self c.add_step.new.self c.inputs.group c.add_step.new.group
     c.inputs.steps.items c.in-Some.input rest c.drain_step-step.result was (e.goes tt) (e.exact tt)
     c.drain_step-step.ensures.notes
     (c.drain_step-step.ensures.sends
-    ∙ ap (λ (l : List LetterValue). length c.gather.new.group.letters - length l) c.letters-before.ensures)
-    (e.keeps tt) (c.gather.ensures.disks tt) e.alive.0 in
+    ∙ ap (λ (l : List EnvelopeValue). length c.add_step.new.group.envelopes - length l) c.envelopes-before.ensures)
+    (e.keeps tt) (c.add_step.ensures.disks tt) e.alive.0 in
     subst (λ (r : ReplicaValue). TakenSoFar m t own all r c.drain_step-step.new.self c.keep.new.steps.items rest)
     (sym c.in_ok-keep.ensures.same)
-    (subst (λ (x : GroupValue). TakenSoFar m t own all c.gather.new.self x c.keep.new.steps.items rest)
+    (subst (λ (x : GroupValue). TakenSoFar m t own all c.add_step.new.self x c.keep.new.steps.items rest)
     (sym c.drain_step-step.ensures.others)
-    (subst (λ (l : List Step). TakenSoFar m t own all c.gather.new.self
-    (record c.gather.new.group { notes = [] }) l rest) (sym c.in_ok-keep.ensures.kept) one))
+    (subst (λ (l : List Step). TakenSoFar m t own all c.add_step.new.self
+    (record c.add_step.new.group { notes = [] }) l rest) (sym c.in_ok-keep.ensures.kept) one))
 
 -- ---- a step that is refused
 
-pub returns-in_err-gather-clause-ends : goal.returns-in_err-gather-clause-ends
-returns-in_err-gather-clause-ends g c h n fits heard =
+pub returns-in_err-add_step-clause-ends : goal.returns-in_err-add_step-clause-ends
+returns-in_err-add_step-clause-ends g c h n fits heard =
     let m = g.M.Machine.meaning in
     let own = c.args.self.now in
     let k = c.inputs.invariant.stays h n
     (off_device (λ d. NodeFits m h n (ReplicaHolds m own.node own.store h.genesis n) d) own.store fits) heard in
     let rest : AllByRecursion (InputFits h) (c.in-Some.input ∷ c.next.new.self.rest.items) =
     subst (λ (l : List Input). AllByRecursion (InputFits h) l) c.in-Some.ensures.steps.0 k.1 in
-    on_device (DisksFit m h n) c.gather.new.self.store ((c.gather.ensures.disks tt).ends h n k.0 rest.0)
+    on_device (DisksFit m h n) c.add_step.new.self.store ((c.add_step.ensures.disks tt).ends h n k.0 rest.0)
 
-pub returns-in_err-gather-clause-covers : goal.returns-in_err-gather-clause-covers
-returns-in_err-gather-clause-covers g c genesis n held x shown every =
+pub returns-in_err-add_step-clause-covers : goal.returns-in_err-add_step-clause-covers
+returns-in_err-add_step-clause-covers g c genesis n held x shown every =
     let m = g.M.Machine.meaning in
     let own = c.args.self.now in
     let r = remembered m genesis n held own.node own.store shown in
     let s = c.inputs.invariant in
-    on_device (λ d. AllCover m genesis n d x) c.gather.new.self.store
-    ((c.gather.ensures.disks tt).covers genesis n x (s.recalls genesis n r)
+    on_device (λ d. AllCover m genesis n d x) c.add_step.new.self.store
+    ((c.add_step.ensures.disks tt).covers genesis n x (s.recalls genesis n r)
     (s.covers genesis n x r (off_device (λ d. AllCover m genesis n d x) own.store every)))
 
-pub returns-in_err-gather-clause-room : goal.returns-in_err-gather-clause-room
-returns-in_err-gather-clause-room g c =
+pub returns-in_err-add_step-clause-room : goal.returns-in_err-add_step-clause-room
+returns-in_err-add_step-clause-room g c =
     let own = c.args.self.now in
-    on_device (λ d. StaysWithin 132704 (disk_of (device_of own.store)) d) c.gather.new.self.store
-    (on_device (λ d. StaysWithin 132704 d (disks c.gather.new.self.store)) own.store
+    on_device (λ d. StaysWithin 132704 (disk_of (device_of own.store)) d) c.add_step.new.self.store
+    (on_device (λ d. StaysWithin 132704 d (disks c.add_step.new.self.store)) own.store
     (within_first 132704 (disks own.store) (disks c.inputs.self.store)
-    (disks c.gather.new.self.store) c.inputs.invariant.room (c.gather.ensures.disks tt).room))
+    (disks c.add_step.new.self.store) c.inputs.invariant.room (c.add_step.ensures.disks tt).room))
 
-pub returns-in_err-gather-clause-calls_err : goal.returns-in_err-gather-clause-calls_err
-returns-in_err-gather-clause-calls_err g c =
-    let new = c.gather.new.self in
+pub returns-in_err-add_step-clause-calls_err : goal.returns-in_err-add_step-clause-calls_err
+returns-in_err-add_step-clause-calls_err g c =
+    let new = c.add_step.new.self in
     err_as (λ e. RefusedAfter (fault_number e) c.args.self.now.store.meter new.store.meter)
     _ _ c.from_residual.ensures.1
     (refused_further g.M.Machine.meaning g.M.Machine.IsText c.args.self.now _ c.inputs.self new
-    _ _ _ _ c.inputs.invariant (c.in_err-gather.ensures.refused.calls tt tt))
+    _ _ _ _ c.inputs.invariant (c.in_err-add_step.ensures.refused.calls tt tt))
 
-pub returns-in_err-gather-clause-refused : goal.returns-in_err-gather-clause-refused
-returns-in_err-gather-clause-refused g c =
-    let new = c.gather.new.self in
+pub returns-in_err-add_step-clause-refused : goal.returns-in_err-add_step-clause-refused
+returns-in_err-add_step-clause-refused g c =
+    let new = c.add_step.new.self in
     let all = c.args.inputs.items in
     err_as (λ e. IsNumberOfCalls (fault_number e)
     × IsTogetherRefused g.M.Machine.meaning g.M.Machine.IsText c.args.self.now all new (fault_number e))
     _ _ c.from_residual.ensures.1 (
-      c.in_err-gather.ensures.refused.told,
+      c.in_err-add_step.ensures.refused.told,
       refused_in_all g.M.Machine.meaning g.M.Machine.IsText c.args.self.now all c.inputs.self new
-          _ _ _ _ c.inputs.invariant (inl c.in_err-gather.ensures.refused),
+          _ _ _ _ c.inputs.invariant (inl c.in_err-add_step.ensures.refused),
     )
 
 -- ---- a step that was not kept
@@ -125,7 +125,7 @@ returns-in_err-keep-clause-ends g c h n fits heard =
     subst (λ (l : List Input). AllByRecursion (InputFits h) l) c.in-Some.ensures.steps.0 k.1 in
     on_device (DisksFit m h n) c.keep.new.self.store
     (subst (λ (r : ReplicaValue). DisksFit m h n (disks r.store)) (sym c.in_err-keep.ensures.refused.ends)
-    ((c.gather.ensures.disks tt).ends h n k.0 rest.0))
+    ((c.add_step.ensures.disks tt).ends h n k.0 rest.0))
 
 pub returns-in_err-keep-clause-covers : goal.returns-in_err-keep-clause-covers
 returns-in_err-keep-clause-covers g c genesis n held x shown every =
@@ -135,7 +135,7 @@ returns-in_err-keep-clause-covers g c genesis n held x shown every =
     let s = c.inputs.invariant in
     on_device (λ d. AllCover m genesis n d x) c.keep.new.self.store
     (subst (λ (r : ReplicaValue). AllCover m genesis n (disks r.store) x) (sym c.in_err-keep.ensures.refused.ends)
-    ((c.gather.ensures.disks tt).covers genesis n x (s.recalls genesis n r)
+    ((c.add_step.ensures.disks tt).covers genesis n x (s.recalls genesis n r)
     (s.covers genesis n x r (off_device (λ d. AllCover m genesis n d x) own.store every))))
 
 pub returns-in_err-keep-clause-room : goal.returns-in_err-keep-clause-room
@@ -146,17 +146,17 @@ returns-in_err-keep-clause-room g c =
     (subst (λ (r : ReplicaValue). StaysWithin 132704 (disks own.store) (disks r.store))
     (sym c.in_err-keep.ensures.refused.ends)
     (within_first 132704 (disks own.store) (disks c.inputs.self.store)
-    (disks c.gather.new.self.store) c.inputs.invariant.room (c.gather.ensures.disks tt).room)))
+    (disks c.add_step.new.self.store) c.inputs.invariant.room (c.add_step.ensures.disks tt).room)))
 
 pub returns-in_err-keep-clause-calls_err : goal.returns-in_err-keep-clause-calls_err
 returns-in_err-keep-clause-calls_err g c =
     let own = c.args.self.now in
     let s = c.inputs.invariant in
-    let exact = c.in_ok-gather.ensures.exact tt in
+    let exact = c.in_ok-add_step.ensures.exact tt in
     let room = exact.room.calls tt in
-    let made : ℕ = room.0 + gather_calls exact.out in
+    let made : ℕ = room.0 + add_step_calls exact.out in
     let passes = passes_on s.calls s.passes made
-    (passes_on room.0 room.2 (gather_calls exact.out) (exact.steps.calls tt)) in
+    (passes_on room.0 room.2 (add_step_calls exact.out) (exact.steps.calls tt)) in
     err_as (λ e. RefusedAfter (fault_number e) own.store.meter c.keep.new.self.store.meter)
     _ _ c.from_residual-in_err-keep.ensures.1
     (not_by_the_device _ own.store.meter c.keep.new.self.store.meter c.in_err-keep.ensures.refused.no_memory (
@@ -171,21 +171,21 @@ returns-in_err-keep-clause-refused g c =
     let t = g.M.Machine.IsText in
     let own = c.args.self.now in
     let all = c.args.inputs.items in
-    let e = c.in_ok-gather.ensures in
+    let e = c.in_ok-add_step.ensures in
     let rest = c.next.new.self.rest.items in
     let was = subst (λ (l : List Input). TakenSoFar m t own all c.inputs.self c.inputs.group c.inputs.steps.items l)
     c.in-Some.ensures.steps.0 c.inputs.invariant in
-    let one = one_taken m t own all c.inputs.self c.gather.new.self c.inputs.group c.gather.new.group
+    let one = one_taken m t own all c.inputs.self c.add_step.new.self c.inputs.group c.add_step.new.group
     c.inputs.steps.items c.in-Some.input rest c.drain_step-step.result was (e.goes tt) (e.exact tt)
     c.drain_step-step.ensures.notes
     (c.drain_step-step.ensures.sends
-    ∙ ap (λ (l : List LetterValue). length c.gather.new.group.letters - length l) c.letters-before.ensures)
-    (e.keeps tt) (c.gather.ensures.disks tt) e.alive.0 in
+    ∙ ap (λ (l : List EnvelopeValue). length c.add_step.new.group.envelopes - length l) c.envelopes-before.ensures)
+    (e.keeps tt) (c.add_step.ensures.disks tt) e.alive.0 in
     err_as (λ e. IsNumberOfCalls (fault_number e)
     × IsTogetherRefused m t own all c.keep.new.self (fault_number e))
     _ _ c.from_residual-in_err-keep.ensures.1 (
       inr (inl c.in_err-keep.ensures.refused.no_memory),
-      refused_in_all m t own all c.gather.new.self c.keep.new.self _ _ _ _ one
+      refused_in_all m t own all c.add_step.new.self c.keep.new.self _ _ _ _ one
           (inr (inl c.in_err-keep.ensures.refused)),
     )
 
@@ -243,7 +243,7 @@ returns-in_err-sync_group-clause-refused g c =
           _ _ _ _ c.inputs.invariant (inl c.in_err-sync_group.ensures.refused),
     )
 
--- ---- the letters that were not sent
+-- ---- the envelopes that were not sent
 
 pub returns-in-Err-clause-ends : goal.returns-in-Err-clause-ends
 returns-in-Err-clause-ends g c h n fits heard =
@@ -345,8 +345,8 @@ returns-in-Ok-clause-syncs g c genesis n held x shown =
     let r = remembered m genesis n held own.node own.store shown in
     let is_synced = subst (λ (w : Bool). IsGroupSynced ⊤ c.inputs.self w new) c.needs_sync.ensures
     (c.in_ok-sync_group.ensures.exact tt) in
-    let batch : c.in-Ok.sent.items ≡ batch_of own.node.header.node c.inputs.group.letters = c.in-Ok.ensures.ok
-    ∙ (λ i. batch_of (c.number-node.ensures i) (c.into_letters.ensures i)) in
+    let batch : c.in-Ok.sent.items ≡ batch_of own.node.header.node c.inputs.group.envelopes = c.in-Ok.ensures.ok
+    ∙ (λ i. batch_of (c.number-node.ensures i) (c.into_envelopes.ensures i)) in
     λ d listed spelled. on_device (λ z. AllCover m genesis n z x) new.store
     (covered_in_all m g.M.Machine.IsText own c.args.inputs.items c.inputs.self new _ _ _ _ c.inputs.invariant is_synced
     batch genesis n x r d listed spelled)
@@ -362,8 +362,8 @@ returns-in-Ok-clause-goes g c genesis n held shown =
     (sym c.inputs.input-iterator.rest.ok.0 ∙ c.in-None.ensures.steps.0) in
     let is_synced = subst (λ (w : Bool). IsGroupSynced ⊤ c.inputs.self w new) c.needs_sync.ensures
     (c.in_ok-sync_group.ensures.exact tt) in
-    let batch : c.in-Ok.sent.items ≡ batch_of own.node.header.node c.inputs.group.letters = c.in-Ok.ensures.ok
-    ∙ (λ i. batch_of (c.number-node.ensures i) (c.into_letters.ensures i)) in
+    let batch : c.in-Ok.sent.items ≡ batch_of own.node.header.node c.inputs.group.envelopes = c.in-Ok.ensures.ok
+    ∙ (λ i. batch_of (c.number-node.ensures i) (c.into_envelopes.ensures i)) in
     gone_in_all m g.M.Machine.IsText own c.args.inputs.items c.inputs.self new _ _ _ _ c.inputs.invariant none is_synced
     (c.sync_group.ensures.disks tt).room batch genesis n r
 
@@ -377,8 +377,8 @@ returns-in-Ok-clause-exact g c =
     (sym c.inputs.input-iterator.rest.ok.0 ∙ c.in-None.ensures.steps.0) in
     let is_synced = subst (λ (w : Bool). IsGroupSynced ⊤ c.inputs.self w new) c.needs_sync.ensures
     (c.in_ok-sync_group.ensures.exact tt) in
-    let batch : c.in-Ok.sent.items ≡ batch_of own.node.header.node c.inputs.group.letters = c.in-Ok.ensures.ok
-    ∙ (λ i. batch_of (c.number-node.ensures i) (c.into_letters.ensures i)) in
+    let batch : c.in-Ok.sent.items ≡ batch_of own.node.header.node c.inputs.group.envelopes = c.in-Ok.ensures.ok
+    ∙ (λ i. batch_of (c.number-node.ensures i) (c.into_envelopes.ensures i)) in
     taken_in_all m g.M.Machine.IsText own c.args.inputs.items c.inputs.self new _ _ _ _ c.inputs.invariant none
     is_synced
     c.in_ok-sync_group.ensures.alive batch

@@ -11,14 +11,14 @@ returns c = record {
       (λ member. has_delivered header wanted (record {
         header = c.self.inside.header;
         replica = c.self.inside.replica;
-        letters = c.self.inside.letters.items;
+        envelopes = c.self.inside.envelopes.items;
         asked = c.self.inside.asked;
       }) (record {
         header = c.self.inside.header;
         replica = c.self.inside.replica;
-        letters = c.remove-letter.new.self.items;
+        envelopes = c.remove-envelope.new.self.items;
         asked = c.self.inside.asked;
-      }) c.take.new.self c.remove-letter.result member (search rules) c.remove-letter.ensures.value
-      c.remove-letter.ensures.items refl refl
+      }) c.take.new.self c.remove-envelope.result member (search rules) c.remove-envelope.ensures.value
+      c.remove-envelope.ensures.items refl refl
       (λ sent whose becomes may. c.in_ok-take.ensures.takes header wanted sent whose becomes (search rules)));
 }

@@ -5,6 +5,6 @@ use Rattle.lk_seed.specs.declared.wanted.Wanted.{Wanted}
 use Rattle.lk_seed.proofs.sole_member.SoleMember.settle.Given as goal
 
 -- it is the member still
-abbrev pub invariant-letters : goal.invariant-letters
-invariant-letters l = (header : HeaderValue) (wanted : List Wanted) → IsMember header wanted l.fn.self
+abbrev pub invariant-envelopes : goal.invariant-envelopes
+invariant-envelopes l = (header : HeaderValue) (wanted : List Wanted) → IsMember header wanted l.fn.self
     → IsMember header wanted l.self

@@ -10,20 +10,20 @@ returns-in_ok-keep_own-in-Ok c = record {
       → MayReach header wanted sent c.args.input → HasTaken header wanted sent m (record {
         header = c.self.inside.header;
         replica = c.take.new.self;
-        letters = c.keep_own.new.letters.items;
+        envelopes = c.keep_own.new.envelopes.items;
         asked = c.self.inside.asked;
       })) c.self.view_is
       (λ is was may. has_taken header wanted sent (record {
         header = c.self.inside.header;
         replica = c.self.inside.replica;
-        letters = c.self.inside.letters.items;
+        envelopes = c.self.inside.envelopes.items;
         asked = c.self.inside.asked;
       }) (record {
         header = c.self.inside.header;
         replica = c.take.new.self;
-        letters = c.keep_own.new.letters.items;
+        envelopes = c.keep_own.new.envelopes.items;
         asked = c.self.inside.asked;
       }) c.args.input c.in-Ok.taken.notes.items c.in-Ok.taken.sent.items is was may c.in-Ok.ensures.exact
-      (subst (λ (n : ℕ). c.keep_own.new.letters.items ≡ c.self.inside.letters.items
+      (subst (λ (n : ℕ). c.keep_own.new.envelopes.items ≡ c.self.inside.envelopes.items
       ++ own_of n c.in-Ok.taken.sent.items) c.node.ensures c.in_ok-keep_own-in-Ok.ensures) refl);
 }

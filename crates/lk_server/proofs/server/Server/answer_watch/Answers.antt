@@ -9,8 +9,8 @@ returns-in-Some-hear_watch-clause-answers g c =
     let observable = g.S.DatagramSocket.is_observable in
     let mid = c.hear_watch.new.self in
     let new = c.send_notice.new.self in
-    let letter = c.in-Some-hear_watch.letter in
-    let sends : SendsNotice observable mid.addresses.seals mid.node letter (send_state_at mid.loopback mid)
+    let envelope = c.in-Some-hear_watch.envelope in
+    let sends : SendsNotice observable mid.addresses.seals mid.node envelope (send_state_at mid.loopback mid)
     (send_state_at new.loopback new) = rw (← c.self.view_is) c.send_notice.ensures.sends in
     let others : new ≡ record mid {
       sent = new.sent;
@@ -18,5 +18,5 @@ returns-in-Some-hear_watch-clause-answers g c =
       incoming = new.incoming;
     } = rw (← c.self.view_is) c.send_notice.ensures.others in
     rw c.in-Some.is
-    (answered (g.R.ServerReplica.table c.args.self.now.replica) observable c.args.speaks c.in-Some.received letter
+    (answered (g.R.ServerReplica.table c.args.self.now.replica) observable c.args.speaks c.in-Some.received envelope
     c.args.self.now mid new (search rules) c.hear_watch.ensures.others sends others)

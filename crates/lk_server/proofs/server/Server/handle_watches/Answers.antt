@@ -47,4 +47,4 @@ returns-clause-acts g c =
     subst (λ (o : Option ReceivedWatch). HandlesWatches table shows observable o c.args.self.now new) t.value
     (inr (served table shows observable _ c.look-seen.result c.moment-moment.result c.args.self.now
     c.begin_watches.new.self new new c.begin_watches.ensures c.look-seen.ensures c.moment-moment.ensures a.answers
-    a.still a.others (rw silent (record { letters = []; tells = (refl, refl); sends = refl })) (λ t. refl) refl))
+    a.still a.others (rw silent (record { envelopes = []; tells = (refl, refl); sends = refl })) (λ t. refl) refl))
