@@ -52,7 +52,7 @@ use Rattle.lk_server.specs.Probes.{RepliesToKept}
 use Rattle.lk_server.specs.Servers.{ServerValue, Turn, LastTurn, IsIdle, periods, send_state_at}
 use Rattle.lk_server_replica.specs.Showing.{IsShown}
 use Rattle.lk_node_process.specs.Turns.{DoesTurnWith, envelopes_in}
-use Rattle.lk_sim_nodes.specs.declared.seat.Life.{Life}
+use Rattle.lk_sim_nodes.specs.declared.sim_node.RunState.{RunState}
 use Rattle.lk_cluster_theorems.specs.Carrying.{HasNoKey, WasPosted, sent_since, IsBrought, Brings, posts_in, AllBrought}
 use Rattle.lk_cluster_theorems.specs.Clusters.{WasGiven, OnlyDelivers}
 use Rattle.lk_cluster_theorems.specs.Processes.{SaysIfHonest, IsMove, Move, envelopes_by, MayArrive, MayAllArrive}
@@ -428,7 +428,7 @@ module _ (Metered observable Honest : Type 0) (genesis : Genesis) (shown : obser
         subst (λ (l : List Frame). OnlyDelivers genesis sent server l) (sym opened)
         (taken_given sent posted known (filter_of server.addresses) is.no_key frames is.brought)
 
-    module _ (n : ℕ) (old new : Life (ServerValue ReplicaValue)) where
+    module _ (n : ℕ) (old new : RunState (ServerValue ReplicaValue)) where
       move_given : (does : IsMove Metered observable Honest genesis n old new)
           → Brings Metered observable Honest genesis posted does
           → MayArrive Metered observable Honest genesis OnlyDelivers sent does

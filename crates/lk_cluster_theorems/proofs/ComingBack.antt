@@ -9,7 +9,7 @@ use Rattle.lk_node.specs.Histories.{Genesis}
 use Rattle.lk_node.specs.Leavings.{header_of, DisksFit}
 use Rattle.lk_node_process.specs.Revivals.{IsRestartRefused}
 use Rattle.lk_sim.specs.Traces.{happened}
-use Rattle.lk_sim_nodes.specs.declared.seat.Life.TheVariants.{Down}
+use Rattle.lk_sim_nodes.specs.declared.sim_node.RunState.TheVariants.{Down}
 use Rattle.lk_sim.proofs.Networks.{holds_down}
 use Rattle.lk_guarantees.specs.ComingBack.{IsExcused}
 use Rattle.lk_cluster_theorems.specs.Clusters.{Cluster, Network, ServerHolds, IsReachable, server_disks}

@@ -19,8 +19,8 @@ use Rattle.lk_address_book.specs.declared.hosts.HostNews.{HostNews}
 use Rattle.lk_node_process.specs.Turns.{ActsBeside, DoesTurnWith, TellsFailure, envelopes_in}
 use Rattle.lk_sim.specs.Networks.{IsStillDown, RestsBy, Stops, nothing}
 use Rattle.lk_sim_nodes.specs.Rooms.{AreShort}
-use Rattle.lk_sim_nodes.specs.declared.seat.Life.{Life}
-use Rattle.lk_sim_nodes.specs.declared.seat.Life.TheVariants.{Up, Down}
+use Rattle.lk_sim_nodes.specs.declared.sim_node.RunState.{RunState}
+use Rattle.lk_sim_nodes.specs.declared.sim_node.RunState.TheVariants.{Up, Down}
 use Rattle.lk_sim.proofs.Networks.{at_set_here, set_twice}
 use Rattle.lk_cluster_theorems.specs.Clusters.{Cluster, Network, Says, steps_of, TracesGroup, HasStarted, server_disks}
 use Rattle.lk_cluster_theorems.specs.Clusters.{disks_in, Starts, DoesTurn}
@@ -32,11 +32,11 @@ use Rattle.lk_cluster_theorems.proofs.Saying.{turn_so}
 use Rattle.lk_cluster_theorems.proofs.Tracing.{Traced, trace_group}
 
 -- the cluster in which that node is so, and has given these envelopes to be sent, and this has joined the trace
-abbrev pub continued : Cluster → ℕ → ℕ → Life (ServerValue ReplicaValue) → List EnvelopeValue → List Note → Cluster
-continued old index n life envelopes trace =
+abbrev pub continued : Cluster → ℕ → ℕ → RunState (ServerValue ReplicaValue) → List EnvelopeValue → List Note → Cluster
+continued old index n run_state envelopes trace =
     record {
       genesis = old.genesis;
-      seats = set old.seats index (node_of n life);
+      sim_nodes = set old.sim_nodes index (node_of n run_state);
       sent = old.sent ++ batch_of n envelopes;
       trace = old.trace ++ trace;
       ended = old.ended;
@@ -68,18 +68,19 @@ module _ (May : Network) (Metered observable : Type 0) where
   reaches genesis old new all more = leads_on (nothing genesis) old new all more
 
   continues_with : (genesis : Genesis) (old : Cluster) → IsReachable May Metered observable genesis old
-      → (index n : ℕ) (life : Life (ServerValue ReplicaValue)) (envelopes : List EnvelopeValue) (notes : List Note)
-      (Adds : List Note → Type 0) → Adds notes → Leads old (continued old index n life envelopes notes)
-      → Continues May Metered observable genesis old index n life envelopes Adds
-  continues_with genesis old all index n life envelopes notes Adds adds leads =
-      let new = continued old index n life envelopes notes in
+      → (index n : ℕ) (run_state : RunState (ServerValue ReplicaValue)) (envelopes : List EnvelopeValue)
+      (notes : List Note)
+      (Adds : List Note → Type 0) → Adds notes → Leads old (continued old index n run_state envelopes notes)
+      → Continues May Metered observable genesis old index n run_state envelopes Adds
+  continues_with genesis old all index n run_state envelopes notes Adds adds leads =
+      let new = continued old index n run_state envelopes notes in
       record {
         cluster = new;
         events = leads.0;
         follows = leads.1;
         reachable = reaches genesis old new all leads;
         keeps_genesis = refl;
-        seats = refl;
+        sim_nodes = refl;
         sent = refl;
         notes = notes;
         adds = adds;
@@ -97,9 +98,9 @@ module _ (May : Network) (Metered observable : Type 0) where
       let new = continued old index n (Up server) [] is.notes in
       let starts : Starts old new = record {
         restarts = record {
-          seat = node_of n (Down device);
+          sim_node = node_of n (Down device);
           next = node_of n (Up server);
-          replaces = record { index = index; at = at; number = refl; seats = refl };
+          replaces = record { index = index; at = at; number = refl; sim_nodes = refl };
           device = device;
           down = refl;
           replica = server;
@@ -133,9 +134,9 @@ module _ (May : Network) (Metered observable : Type 0) where
   refused_start_leads old index n device at left rests =
       let new = continued old index n (Down left) [] [] in
       let stays : IsStillDown table_meaning old new = record {
-        seat = node_of n (Down device);
+        sim_node = node_of n (Down device);
         next = node_of n (Down left);
-        replaces = record { index = index; at = at; number = refl; seats = refl };
+        replaces = record { index = index; at = at; number = refl; sim_nodes = refl };
         device = device;
         down = refl;
         left = left;
@@ -154,34 +155,35 @@ module _ (May : Network) (Metered observable : Type 0) where
       (refused_start_leads old index n device at left rests)
 
   -- a stop of a node, up or down
-  pub stop_leads : (old : Cluster) (index n : ℕ) (life : Life (ServerValue ReplicaValue)) → HasNode old index n life
-      → (left : Memory) → ((s : Side) → (k : ℕ) × (disk_of left s ≡ after_stop k (disks_in life s)))
+  pub stop_leads : (old : Cluster) (index n : ℕ) (run_state : RunState (ServerValue ReplicaValue))
+      → HasNode old index n run_state
+      → (left : Memory) → ((s : Side) → (k : ℕ) × (disk_of left s ≡ after_stop k (disks_in run_state s)))
       → Leads old (continued old index n (Down left) [] [])
-  stop_leads old index n life at left kept =
+  stop_leads old index n run_state at left kept =
       let new = continued old index n (Down left) [] [] in
       let stops : Stops server_disks old new = record {
-        seat = node_of n life;
+        sim_node = node_of n run_state;
         next = node_of n (Down left);
-        replaces = record { index = index; at = at; number = refl; seats = refl };
+        replaces = record { index = index; at = at; number = refl; sim_nodes = refl };
         left = left;
         down = refl;
         was_up = λ q up s. subst
-            (λ (l : Life (ServerValue ReplicaValue)). (k : ℕ) × (disk_of left s ≡ after_stop k (disks_in l s)))
+            (λ (l : RunState (ServerValue ReplicaValue)). (k : ℕ) × (disk_of left s ≡ after_stop k (disks_in l s)))
             up (kept s);
         was_down = λ d is s. subst
-            (λ (l : Life (ServerValue ReplicaValue)). (k : ℕ) × (disk_of left s ≡ after_stop k (disks_in l s)))
+            (λ (l : RunState (ServerValue ReplicaValue)). (k : ℕ) × (disk_of left s ≡ after_stop k (disks_in l s)))
             is (kept s);
         adds = record { genesis = refl; sent = refl; trace = refl };
       } in
       by_one old new (inr (inr (inr (inr (inr (inr stops))))))
 
   pub stop_continues : (genesis : Genesis) (old : Cluster) → IsReachable May Metered observable genesis old
-      → (index n : ℕ) (life : Life (ServerValue ReplicaValue)) → HasNode old index n life
-      → (left : Memory) → ((s : Side) → (k : ℕ) × (disk_of left s ≡ after_stop k (disks_in life s)))
+      → (index n : ℕ) (run_state : RunState (ServerValue ReplicaValue)) → HasNode old index n run_state
+      → (left : Memory) → ((s : Side) → (k : ℕ) × (disk_of left s ≡ after_stop k (disks_in run_state s)))
       → Continues May Metered observable genesis old index n (Down left) [] AddsNothing
-  stop_continues genesis old all index n life at left kept =
+  stop_continues genesis old all index n run_state at left kept =
       continues_with genesis old all index n (Down left) [] [] AddsNothing refl
-      (stop_leads old index n life at left kept)
+      (stop_leads old index n run_state at left kept)
 
   -- an idle turn
   idle_leads : (old : Cluster) (index n : ℕ) (server after : ServerValue ReplicaValue)
@@ -192,7 +194,7 @@ module _ (May : Network) (Metered observable : Type 0) where
       let idles : Idles observable old new = record {
         node = node_of n (Up server);
         next = node_of n (Up after);
-        replaces = record { index = index; at = at; number = refl; seats = refl };
+        replaces = record { index = index; at = at; number = refl; sim_nodes = refl };
         server = server;
         was = refl;
         after = after;
@@ -224,9 +226,9 @@ module _ (May : Network) (Metered observable : Type 0) where
         next = node_of n (Up after);
         replaces = record {
           index = index;
-          at = at_set_here old.seats index (node_of n (Up mid)) at.0;
+          at = at_set_here old.sim_nodes index (node_of n (Up mid)) at.0;
           number = refl;
-          seats = sym (set_twice old.seats index (node_of n (Up mid)) (node_of n (Up after)));
+          sim_nodes = sym (set_twice old.sim_nodes index (node_of n (Up mid)) (node_of n (Up after)));
         };
         server = mid;
         was = refl;
@@ -253,7 +255,7 @@ module _ (May : Network) (Metered observable : Type 0) where
       let does : DoesTurn May Metered observable old new = record {
         node = node_of n (Up server);
         next = node_of n (Up after);
-        replaces = record { index = index; at = at; number = refl; seats = refl };
+        replaces = record { index = index; at = at; number = refl; sim_nodes = refl };
         server = server;
         was = refl;
         after = after;
@@ -281,7 +283,7 @@ module _ (May : Network) (Metered observable : Type 0) where
       let ends : EndsByTurn May Metered observable old new = record {
         node = node_of n (Up server);
         next = node_of n (Down left);
-        replaces = record { index = index; at = at; number = refl; seats = refl };
+        replaces = record { index = index; at = at; number = refl; sim_nodes = refl };
         server = server;
         was = refl;
         after = after;
@@ -309,7 +311,7 @@ module _ (May : Network) (Metered observable : Type 0) where
         let may_all = nudged_may old.genesis old.sent turn.timed turn.given turn.nudged
         (turn_takes May Metered observable unforged old old w n 64 server came turn.timed turn.may
         (w.loopback index node at server refl) may) in
-        trace_group old.genesis n old.seats index node at after Metered turn.given server.replica
+        trace_group old.genesis n old.sim_nodes index node at after Metered turn.given server.replica
         turn.hands_on.envelopes
         after.replica old.sent old.trace may_all
         (with_replica old w index node at server after refl) turn.hands_on.says
@@ -324,7 +326,7 @@ module _ (May : Network) (Metered observable : Type 0) where
         (turn_takes May Metered observable unforged old old w n turn.count server came turn.first.whole turn.first.may
         (w.loopback index node at server refl) may) in
         let may_all = nudged_may old.genesis old.sent turn.timed turn.given turn.nudged may_timed in
-        trace_group old.genesis n old.seats index node at after Metered turn.given server.replica
+        trace_group old.genesis n old.sim_nodes index node at after Metered turn.given server.replica
         turn.hands_on.envelopes
         after.replica old.sent old.trace may_all
         (with_replica old w index node at server after refl) turn.hands_on.says

@@ -18,10 +18,10 @@ use Rattle.lk_log.proofs.StoreLaws.{empty_image, first_stands, not_both, one_sta
 use Rattle.lk_agreement_laws.specs.Datagrams.{HasSent}
 use Rattle.lk_replica.specs.ReplicaValue.{ReplicaValue}
 use Rattle.lk_server.specs.Servers.{ServerValue}
-use Rattle.lk_sim_nodes.specs.declared.seat.Life.{Life}
-use Rattle.lk_sim_nodes.specs.declared.seat.Life.TheVariants.{Up, Down}
+use Rattle.lk_sim_nodes.specs.declared.sim_node.RunState.{RunState}
+use Rattle.lk_sim_nodes.specs.declared.sim_node.RunState.TheVariants.{Up, Down}
 use Rattle.lk_guarantees.specs.Guarantee.{MeetsGuarantee, MayRemain, MayRemainOf, Remembers, IsCovered, Says}
-use Rattle.lk_cluster_theorems.specs.Clusters.{Node, Cluster, life_of, seat_of, scene_of}
+use Rattle.lk_cluster_theorems.specs.Clusters.{Node, Cluster, run_state_of, sim_node_of, world_state_of}
 use Rattle.lk_cluster_theorems.specs.Forgetting.{HasEmptyDisks, MustBeRemembered}
 use Rattle.lk_cluster_theorems.proofs.Keeping.{in_map}
 use Rattle.lk_cluster_theorems.proofs.Mapped.{device_disks}
@@ -35,7 +35,8 @@ no_bytes s = []
 remains : (d : Disk) → d ≡ record { synced = []; unsynced = [] } → MayRemain d []
 remains d e = subst (λ (x : Disk). MayRemain x []) (sym e) (0, refl)
 
-remain : (life : Life (ServerValue ReplicaValue)) → HasEmptyDisks life → MayRemainOf (life_of life) no_bytes
+remain : (run_state : RunState (ServerValue ReplicaValue)) → HasEmptyDisks run_state
+    → MayRemainOf (run_state_of run_state) no_bytes
 remain (Up server) empty = (
   remains _ (sym (device_disks server.replica.store A) ∙ empty A),
   remains _ (sym (device_disks server.replica.store B) ∙ empty B),
@@ -75,10 +76,11 @@ forgotten memory (message.Accepted x) must fits none covered =
     not_below_all x.ballot memory.promised fits.1 none covered.0
 forgotten memory _ must fits none covered = must
 
-pub not_forgotten : (c : Cluster) → MeetsGuarantee (scene_of c) → (node : Node) → Contains c.seats node
-    → (m : NodeMessage) → MustBeRemembered m → HasSent c.genesis c.sent node.number m → HasEmptyDisks node.life → ⊥
+pub not_forgotten : (c : Cluster) → MeetsGuarantee (world_state_of c) → (node : Node) → Contains c.sim_nodes node
+    → (m : NodeMessage) → MustBeRemembered m → HasSent c.genesis c.sent node.number m → HasEmptyDisks node.run_state → ⊥
 not_forgotten c keeps node here m must sent empty =
-    let x = keeps.covered (seat_of node) (in_map seat_of c.seats node here) no_bytes (remain node.life empty) in
+    let x = keeps.covered (sim_node_of node) (in_map sim_node_of c.sim_nodes node here) no_bytes
+    (remain node.run_state empty) in
     let says : Says c.genesis c.sent node.number m =
     record { datagram = sent.datagram; is_sent = sent.listed; by_node = sent.from; in_words = sent.spelled } in
     forgotten x.0 m must sent.spelled.0.1.1 (no_promise c.genesis node.number x.0 x.1) (x.2 m says)

@@ -32,12 +32,12 @@ use Rattle.lk_server.specs.Servers.{ServerValue}
 use Rattle.lk_sim.specs.Events.{ReplacesSeat}
 use Rattle.lk_sim.specs.Networks.{MayCome, AreAsking, MayHear, RecordsReplies, GoesBy, GoesOn}
 use Rattle.lk_sim_nodes.specs.Rooms.{AreShort}
-use Rattle.lk_sim.specs.Scenes.{Scene}
-use Rattle.lk_sim_nodes.specs.Seats.{At}
+use Rattle.lk_sim.specs.WorldStates.{WorldState}
+use Rattle.lk_sim_nodes.specs.SimNodes.{At}
 use Rattle.lk_sim.specs.Traces.{asked_by, asked_in, asked_note, happened}
 use Rattle.lk_sim.specs.Worlds.{WorldInvariant}
-use Rattle.lk_sim_nodes.specs.declared.seat.Life.{Life}
-use Rattle.lk_sim_nodes.specs.declared.seat.Life.TheVariants.{Up, Down}
+use Rattle.lk_sim_nodes.specs.declared.sim_node.RunState.{RunState}
+use Rattle.lk_sim_nodes.specs.declared.sim_node.RunState.TheVariants.{Up, Down}
 use Rattle.lk_sim.proofs.Networks.{step_holds, heard, asked_maybe, at_set_here, set_twice, went_down}
 use Rattle.lk_cluster_theorems.specs.Clusters.{Node, ServerHolds, server_disks, TracesStep, TracesGroup, steps_of}
 use Rattle.lk_cluster_theorems.proofs.Mapped.{on_device}
@@ -105,10 +105,10 @@ all_hear genesis n sent trace (i ∷ is) more joins may =
     (input_fits (happened genesis sent ((trace ++ asked_note joins.3.request) ++ joins.1)) i hears, rest)
 
 -- what holds of a cluster makes its history lawful
-lawful : (genesis : Genesis) (seats : List Node) (sent : List Datagram) (trace : List Note)
-    → WorldInvariant ServerHolds server_disks table_meaning genesis seats sent trace
+lawful : (genesis : Genesis) (sim_nodes : List Node) (sent : List Datagram) (trace : List Note)
+    → WorldInvariant ServerHolds server_disks table_meaning genesis sim_nodes sent trace
     → IsLawful table_meaning (happened genesis sent trace)
-lawful genesis seats sent trace w = record {
+lawful genesis sim_nodes sent trace w = record {
   sound = w.world.sound;
   asked = w.proposed;
   parts = λ n p s.
@@ -137,34 +137,35 @@ nothing_goes h n q f = record {
     nothing_in_front zero = refl
     nothing_in_front (suc k) = refl
 
-same_down : (d e : Memory) → ◌≡◌ {A = Life (ServerValue ReplicaValue)} (Down d) (Down e) → d ≡ e
+same_down : (d e : Memory) → ◌≡◌ {A = RunState (ServerValue ReplicaValue)} (Down d) (Down e) → d ≡ e
 same_down d e p = cc p
 
 -- ---- a server in its place, with one replica after another
 
-module _ (genesis : Genesis) (n : ℕ) (seats : List Node) (index : ℕ) (node : Node) (at : At seats index node)
+module _ (genesis : Genesis) (n : ℕ) (sim_nodes : List Node) (index : ℕ) (node : Node) (at : At sim_nodes index node)
     (s : ServerValue ReplicaValue) where
   abbrev HoldsAt : List Node → List Datagram → List Note → Type 0
   HoldsAt nodes sent trace = WorldInvariant ServerHolds server_disks table_meaning genesis nodes sent trace
 
-  abbrev seat : Life (ServerValue ReplicaValue) → Node
-  seat life = record { number = n; life = life }
+  abbrev sim_node : RunState (ServerValue ReplicaValue) → Node
+  sim_node run_state = record { number = n; run_state = run_state }
 
-  abbrev seats_of : Life (ServerValue ReplicaValue) → List Node
-  seats_of life = set seats index (seat life)
+  abbrev sim_nodes_of : RunState (ServerValue ReplicaValue) → List Node
+  sim_nodes_of run_state = set sim_nodes index (sim_node run_state)
 
   abbrev serving : ReplicaValue → ServerValue ReplicaValue
   serving r = record s { replica = r }
 
   abbrev pub IsUpWith : ReplicaValue → List Datagram → List Note → Type 0
-  IsUpWith r sent trace = HoldsAt (seats_of (Up (serving r))) sent trace
+  IsUpWith r sent trace = HoldsAt (sim_nodes_of (Up (serving r))) sent trace
 
-  turns : (old new : Life (ServerValue ReplicaValue)) → ReplacesSeat (seats_of old) (seats_of new) (seat old) (seat new)
+  turns : (old new : RunState (ServerValue ReplicaValue)) → ReplacesSeat (sim_nodes_of old) (sim_nodes_of new)
+      (sim_node old) (sim_node new)
   turns old new = record {
     index = index;
-    at = at_set_here seats index (seat old) at.0;
+    at = at_set_here sim_nodes index (sim_node old) at.0;
     number = refl;
-    seats = sym (set_twice seats index (seat old) (seat new));
+    sim_nodes = sym (set_twice sim_nodes index (sim_node old) (sim_node new));
   }
 
   up_as : (q : ReplicaValue) (sent now : List Datagram) (trace since : List Note) → sent ≡ now → trace ≡ since
@@ -176,7 +177,8 @@ module _ (genesis : Genesis) (n : ℕ) (seats : List Node) (index : ℕ) (node :
       → NodeFits table_meaning (happened genesis sent trace) n
       (ReplicaHolds table_meaning r.node r.store genesis n) (disks r.store)
   fits r sent trace w =
-      let f = (w.seated index (seat (Up (serving r))) (at_set_here seats index (seat (Up (serving r))) at.0)).up
+      let f = (w.as_sim_nodes index (sim_node (Up (serving r))) (at_set_here sim_nodes index
+      (sim_node (Up (serving r))) at.0)).up
       (serving r) refl in
       record {
         lawful = lawful genesis _ sent trace w;
@@ -188,8 +190,8 @@ module _ (genesis : Genesis) (n : ℕ) (seats : List Node) (index : ℕ) (node :
 
   short : (r : ReplicaValue) (sent : List Datagram) (trace : List Note) → IsUpWith r sent trace
       → AreShort (disks r.store)
-  short r sent trace w = ((w.seated index (seat (Up (serving r)))
-      (at_set_here seats index (seat (Up (serving r))) at.0)).up (serving r) refl).room
+  short r sent trace w = ((w.as_sim_nodes index (sim_node (Up (serving r)))
+      (at_set_here sim_nodes index (sim_node (Up (serving r))) at.0)).up (serving r) refl).room
 
   pub remembers : (r : ReplicaValue) (sent : List Datagram) (trace : List Note) → IsUpWith r sent trace
       → ReplicaRemembers r.node r.store genesis n
@@ -203,19 +205,26 @@ module _ (genesis : Genesis) (n : ℕ) (seats : List Node) (index : ℕ) (node :
       → (sent : List Datagram) (trace : List Note) → MayCome genesis sent came → IsUpWith r sent trace
       → IsUpWith mid (sent ++ batch) (trace ++ ((asked_note request ++ notes) ++ told))
   goes_by r mid came request notes told batch asks tells goes sent trace may w =
-      let old : Scene (ServerValue ReplicaValue) =
-      record { genesis = genesis; seats = seats_of (Up (serving r)); sent = sent; trace = trace; ended = None } in
-      let new : Scene (ServerValue ReplicaValue) =
+      let old : WorldState (ServerValue ReplicaValue) =
       record {
         genesis = genesis;
-        seats = seats_of (Up (serving mid));
+        sim_nodes = sim_nodes_of (Up (serving r));
+        sent = sent;
+        trace =
+            trace;
+        ended = None;
+      } in
+      let new : WorldState (ServerValue ReplicaValue) =
+      record {
+        genesis = genesis;
+        sim_nodes = sim_nodes_of (Up (serving mid));
         sent = sent ++ batch;
         trace = trace ++ ((asked_note request ++ notes) ++ told);
         ended = None;
       } in
       let goes_on : GoesOn ServerHolds server_disks table_meaning old new = record {
-        seat = seat (Up (serving r));
-        next = seat (Up (serving mid));
+        sim_node = sim_node (Up (serving r));
+        next = sim_node (Up (serving mid));
         replaces = turns (Up (serving r)) (Up (serving mid));
         before = serving r;
         was = refl;
@@ -308,7 +317,7 @@ module _ (genesis : Genesis) (n : ℕ) (seats : List Node) (index : ℕ) (node :
       subst (λ (l : List Note). IsUpWith r sent l) (sym (ap (λ (l : List Note). trace ++ l) joins ∙ append-nil trace)) w
   all_asked (o ∷ given) more joins r sent trace w =
       let asked = asked_maybe ServerHolds server_disks table_meaning genesis
-      (seats_of (Up (serving r))) sent trace w joins.3.request in
+      (sim_nodes_of (Up (serving r))) sent trace w joins.3.request in
       let first = subst (λ (l : List Note). IsUpWith r sent (trace ++ l))
       (sym (silent_here genesis.cluster n o joins.0 joins.3)) asked in
       let rest = all_asked given joins.1 joins.4 r sent (trace ++ joins.0) first in
@@ -319,11 +328,13 @@ module _ (genesis : Genesis) (n : ℕ) (seats : List Node) (index : ℕ) (node :
   goes_down : (r : ReplicaValue) (left : Memory) (sent : List Datagram) (trace : List Note)
       → DisksFit table_meaning (happened genesis sent trace) n (disk_of left)
       → AreShort (disk_of left) → IsUpWith r sent trace
-      → HoldsAt (seats_of (Down left)) sent trace
+      → HoldsAt (sim_nodes_of (Down left)) sent trace
   goes_down r left sent trace fit short w =
-      subst (λ (l : List Node). HoldsAt l sent trace) (set_twice seats index (seat (Up (serving r))) (seat (Down left)))
-      (went_down ServerHolds server_disks table_meaning genesis (seats_of (Up (serving r))) sent trace w index
-      (seat (Up (serving r))) (seat (Down left)) (at_set_here seats index (seat (Up (serving r))) at.0) refl (record {
+      subst (λ (l : List Node). HoldsAt l sent trace) (set_twice sim_nodes index (sim_node (Up (serving r)))
+      (sim_node (Down left)))
+      (went_down ServerHolds server_disks table_meaning genesis (sim_nodes_of (Up (serving r))) sent trace w index
+      (sim_node (Up (serving r))) (sim_node (Down left)) (at_set_here sim_nodes index (sim_node (Up (serving r))) at.0)
+      refl (record {
         up = λ p is. absurd (cc is);
         down = λ d is. subst (λ (z : Memory). DisksFit table_meaning (happened genesis sent trace) n (disk_of z))
             (same_down left d is) fit;
@@ -333,7 +344,7 @@ module _ (genesis : Genesis) (n : ℕ) (seats : List Node) (index : ℕ) (node :
   -- how a group leaves the node: up, or down on the disks that it has left
   pub record Leaves (sent : List Datagram) (trace : List Note) (q : ReplicaValue) : Type 0 where
     pub up : q.failed ≡ false → IsUpWith q sent trace
-    pub down : q.failed ≡ true → HoldsAt (seats_of (Down (device_of q.store))) sent trace
+    pub down : q.failed ≡ true → HoldsAt (sim_nodes_of (Down (device_of q.store))) sent trace
 
   module _ (Metered : Type 0) (given : List (Option (List ℕ))) (r : ReplicaValue) (envelopes : List EnvelopeValue)
       (q : ReplicaValue) (says : SaysOf table_meaning IsTableText Metered r given envelopes q) (more : List Note)
@@ -368,7 +379,8 @@ module _ (genesis : Genesis) (n : ℕ) (seats : List Node) (index : ℕ) (node :
         (on_device (λ d. AreShort d) q.store room) asked in
         record {
           up = λ is. absurd (let both : false ≡ true = sym is ∙ silent.ended in cc both);
-          down = λ is. subst (λ (l : List Datagram). HoldsAt (seats_of (Down (device_of q.store))) l (trace ++ more))
+          down = λ is. subst (λ (l : List Datagram). HoldsAt (sim_nodes_of (Down (device_of q.store))) l
+              (trace ++ more))
               (sym (ap (λ (ls : List EnvelopeValue). sent ++ batch_of n ls) silent.none ∙ append-nil sent)) down;
         }
 

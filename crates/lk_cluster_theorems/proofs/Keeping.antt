@@ -36,10 +36,10 @@ use Rattle.lk_pacing.specs.declared.pace.Pace.TheVariants.{Datagrams, Clock}
 use Rattle.lk_sim.specs.Events.{ReplacesSeat, Adds}
 use Rattle.lk_sim.specs.Networks.{MayCome, Steps, Appears, IsStillDown, Stops, nothing}
 use Rattle.lk_sim_nodes.specs.Rooms.{AreShort}
-use Rattle.lk_sim_nodes.specs.Seats.{At, UpFits}
+use Rattle.lk_sim_nodes.specs.SimNodes.{At, UpFits}
 use Rattle.lk_sim.specs.Traces.{happened}
 use Rattle.lk_sim.specs.Worlds.{WorldInvariant}
-use Rattle.lk_sim_nodes.specs.declared.seat.Life.TheVariants.{Up, Down}
+use Rattle.lk_sim_nodes.specs.declared.sim_node.RunState.TheVariants.{Up, Down}
 use Rattle.lk_sim.proofs.Networks.{step_holds, at_set, at_set_here, at_push, nothing_holds, set_twice, went_down}
 use Rattle.lk_cluster_theorems.specs.Clusters.{Node, Cluster, Network, ForgesNothing, ServerHolds, server_disks, Says}
 use Rattle.lk_cluster_theorems.specs.Clusters.{Starts}
@@ -101,8 +101,8 @@ pub record IsKept (sent : List Datagram) (n : ℕ) (q : ServerValue ReplicaValue
   pub loopback : (l : EnvelopeValue) → Contains q.loopback l → Contains sent (datagram_of n l)
 
 abbrev pub OwnOf : List Node → List Datagram → Type 0
-OwnOf seats sent =
-    (k : ℕ) (s : Node) → At seats k s → (q : ServerValue ReplicaValue) → s.life ≡ Up q → IsKept sent s.number q
+OwnOf sim_nodes sent =
+    (k : ℕ) (s : Node) → At sim_nodes k s → (q : ServerValue ReplicaValue) → s.run_state ≡ Up q → IsKept sent s.number q
 
 own_later : (sent now : List Datagram) (n : ℕ) (q : ServerValue ReplicaValue)
     → ((d : Datagram) → Contains sent d → Contains now d) → IsKept sent n q → IsKept now n q
@@ -115,12 +115,13 @@ own_later sent now n q among k = record {
 pub same_up : (p q : ServerValue ReplicaValue) → Up p ≡ Up q → p ≡ q
 same_up p q e = cc e
 
-own_set : (seats : List Node) (index : ℕ) (next : Node) (sent now : List Datagram) → OwnOf seats sent
+own_set : (sim_nodes : List Node) (index : ℕ) (next : Node) (sent now : List Datagram) → OwnOf sim_nodes sent
     → ((d : Datagram) → Contains sent d → Contains now d)
-    → ((q : ServerValue ReplicaValue) → next.life ≡ Up q → IsKept now next.number q) → OwnOf (set seats index next) now
-own_set seats index next sent now old among mine k s at q up = elim (at_set seats index next k s at) [
+    → ((q : ServerValue ReplicaValue) → next.run_state ≡ Up q → IsKept now next.number q)
+    → OwnOf (set sim_nodes index next) now
+own_set sim_nodes index next sent now old among mine k s at q up = elim (at_set sim_nodes index next k s at) [
   | inl here ↦
-      subst (λ (z : Node). (p : ServerValue ReplicaValue) → z.life ≡ Up p → IsKept now z.number p) here.1 mine q up
+      subst (λ (z : Node). (p : ServerValue ReplicaValue) → z.run_state ≡ Up p → IsKept now z.number p) here.1 mine q up
   | inr other ↦ own_later sent now s.number q among (old k s other.1 q up)
 ]
 
@@ -229,8 +230,8 @@ module _ (genesis : Genesis) (sent : List Datagram) where
 -- ---- what holds of a cluster
 
 pub record IsSound (c : Cluster) : Type 0 where
-  pub holds : WorldInvariant ServerHolds server_disks table_meaning c.genesis c.seats c.sent c.trace
-  pub loopback : OwnOf c.seats c.sent
+  pub holds : WorldInvariant ServerHolds server_disks table_meaning c.genesis c.sim_nodes c.sent c.trace
+  pub loopback : OwnOf c.sim_nodes c.sent
 
 -- nothing has happened yet
 pub begun : (genesis : Genesis) → IsSound (nothing genesis)
@@ -252,20 +253,24 @@ module _ (old : Cluster) (w : IsSound old) where
       λ j x said. heard_was_sent old.genesis old.sent w.holds.world.sound (datagram_of n l) (k.loopback l c) j x said
 
   -- a server with another one's replica, in its place
-  pub with_replica : (index : ℕ) (node : Node) → At old.seats index node
-      → (server other : ServerValue ReplicaValue) → node.life ≡ Up server
+  pub with_replica : (index : ℕ) (node : Node) → At old.sim_nodes index node
+      → (server other : ServerValue ReplicaValue) → node.run_state ≡ Up server
       → WorldInvariant ServerHolds server_disks table_meaning old.genesis
-      (set old.seats index (record { number = node.number; life = Up (record other { replica = server.replica }) }))
+      (set old.sim_nodes index (record {
+        number = node.number;
+        run_state =
+            Up (record other { replica = server.replica });
+      }))
       old.sent old.trace
   with_replica index node at server other was =
       let h = happened old.genesis old.sent old.trace in
       let v = w.holds.states node.number in
       let q : ServerValue ReplicaValue = record other { replica = server.replica } in
-      let f = (w.holds.seated index node at).up server was in
+      let f = (w.holds.as_sim_nodes index node at).up server was in
       let fits : UpFits ServerHolds server_disks table_meaning h v node.number q =
       record { holding = f.holding; paxos = f.paxos; shown = f.shown; fits = f.fits; left = f.left; room = f.room } in
-      went_down ServerHolds server_disks table_meaning old.genesis old.seats old.sent old.trace w.holds index node
-      (record { number = node.number; life = Up q }) at refl (record {
+      went_down ServerHolds server_disks table_meaning old.genesis old.sim_nodes old.sent old.trace w.holds index node
+      (record { number = node.number; run_state = Up q }) at refl (record {
         up = λ p up. subst (λ (z : ServerValue ReplicaValue). UpFits ServerHolds server_disks table_meaning h v
             node.number z) (same_up q p up) fits;
         down = λ d is. absurd (cc is);
@@ -387,33 +392,34 @@ at_rest_by server after (inr a) =
 module _ (May : Network) (Metered observable : Type 0) (unforged : Unforged May) where
   module _ (old new : Cluster) (w : IsSound old) where
     by_step : Steps ServerHolds server_disks table_meaning old new
-        → WorldInvariant ServerHolds server_disks table_meaning new.genesis new.seats new.sent new.trace
+        → WorldInvariant ServerHolds server_disks table_meaning new.genesis new.sim_nodes new.sent new.trace
     by_step s = step_holds ServerHolds server_disks table_meaning old new w.holds s
 
     among_more : (more : List Datagram) → new.sent ≡ old.sent ++ more → (d : Datagram)
         → Contains old.sent d → Contains new.sent d
     among_more more e d c = subst (λ (l : List Datagram). Contains l d) (sym e) (Contains-append_left old.sent more d c)
 
-    own_moved : (s t : Node) (turns : ReplacesSeat old.seats new.seats s t) (more : List Datagram)
-        → new.sent ≡ old.sent ++ more → ((q : ServerValue ReplicaValue) → t.life ≡ Up q → IsKept new.sent t.number q)
-        → OwnOf new.seats new.sent
+    own_moved : (s t : Node) (turns : ReplacesSeat old.sim_nodes new.sim_nodes s t) (more : List Datagram)
+        → new.sent ≡ old.sent ++ more → ((q : ServerValue ReplicaValue) → t.run_state ≡ Up q
+        → IsKept new.sent t.number q)
+        → OwnOf new.sim_nodes new.sent
     own_moved s t turns more e mine =
-        subst (λ (l : List Node). OwnOf l new.sent) (sym turns.seats)
-        (own_set old.seats turns.index t old.sent new.sent w.loopback (among_more more e) mine)
+        subst (λ (l : List Node). OwnOf l new.sent) (sym turns.sim_nodes)
+        (own_set old.sim_nodes turns.index t old.sent new.sent w.loopback (among_more more e) mine)
 
-    no_up : (t : Node) (d : Memory) → t.life ≡ Down d → (q : ServerValue ReplicaValue) → t.life ≡ Up q
+    no_up : (t : Node) (d : Memory) → t.run_state ≡ Down d → (q : ServerValue ReplicaValue) → t.run_state ≡ Up q
         → IsKept new.sent t.number q
     no_up t d down q up = absurd (cc (down, up))
 
     appears : Appears old new → IsSound new
     appears a = record {
       holds = by_step (inl a);
-      loopback = subst (λ (l : List Node). OwnOf l new.sent) (sym a.seats)
-          (λ k s at q up. elim (at_push old.seats a.seat k s at) [
+      loopback = subst (λ (l : List Node). OwnOf l new.sent) (sym a.sim_nodes)
+          (λ k s at q up. elim (at_push old.sim_nodes a.sim_node k s at) [
             | inl before ↦ own_later old.sent new.sent s.number q (among_more [] a.adds.sent)
                 (w.loopback k s before q up)
             | inr here ↦ absurd (let same : Up q ≡ Down a.device = sym up
-                ∙ ap (λ (z : Node). z.life) (sym here.1) ∙ a.down in cc same)
+                ∙ ap (λ (z : Node). z.run_state) (sym here.1) ∙ a.down in cc same)
           ]);
     }
 
@@ -422,7 +428,7 @@ module _ (May : Network) (Metered observable : Type 0) (unforged : Unforged May)
         let r = a.restarts in
         record {
           holds = by_step (inr (inl r));
-          loopback = own_moved r.seat r.next r.replaces [] r.adds.sent (λ q up.
+          loopback = own_moved r.sim_node r.next r.replaces [] r.adds.sent (λ q up.
               subst (λ (z : ServerValue ReplicaValue). IsKept new.sent r.next.number z)
               (same_up r.replica q (sym r.up ∙ up))
               (record {
@@ -438,25 +444,25 @@ module _ (May : Network) (Metered observable : Type 0) (unforged : Unforged May)
     rests : IsStillDown table_meaning old new → IsSound new
     rests a = record {
       holds = by_step (inr (inr (inl a)));
-      loopback = own_moved a.seat a.next a.replaces [] a.adds.sent (no_up a.next a.left a.still);
+      loopback = own_moved a.sim_node a.next a.replaces [] a.adds.sent (no_up a.next a.left a.still);
     }
 
     stops : Stops server_disks old new → IsSound new
     stops a = record {
       holds = by_step (inr (inr (inr (inr (inr a)))));
-      loopback = own_moved a.seat a.next a.replaces [] a.adds.sent (no_up a.next a.left a.down);
+      loopback = own_moved a.sim_node a.next a.replaces [] a.adds.sent (no_up a.next a.left a.down);
     }
 
-    moved : (seats : List Node) (notes : List Note) (batch : List Datagram) → new.seats ≡ seats
+    moved : (sim_nodes : List Node) (notes : List Note) (batch : List Datagram) → new.sim_nodes ≡ sim_nodes
         → Adds old new notes batch
-        → WorldInvariant ServerHolds server_disks table_meaning old.genesis seats (old.sent ++ batch) (old.trace
+        → WorldInvariant ServerHolds server_disks table_meaning old.genesis sim_nodes (old.sent ++ batch) (old.trace
         ++ notes)
-        → WorldInvariant ServerHolds server_disks table_meaning new.genesis new.seats new.sent new.trace
-    moved seats notes batch same a h =
-        subst (λ g. WorldInvariant ServerHolds server_disks table_meaning g new.seats new.sent new.trace)
+        → WorldInvariant ServerHolds server_disks table_meaning new.genesis new.sim_nodes new.sent new.trace
+    moved sim_nodes notes batch same a h =
+        subst (λ g. WorldInvariant ServerHolds server_disks table_meaning g new.sim_nodes new.sent new.trace)
         (sym a.genesis)
         (subst (λ z. WorldInvariant ServerHolds server_disks table_meaning old.genesis z new.sent new.trace) (sym same)
-        (subst₂ (λ x y. WorldInvariant ServerHolds server_disks table_meaning old.genesis seats x y)
+        (subst₂ (λ x y. WorldInvariant ServerHolds server_disks table_meaning old.genesis sim_nodes x y)
         (sym a.sent) (sym a.trace) h))
 
     -- what a server takes in a turn of what waits and comes
@@ -473,17 +479,18 @@ module _ (May : Network) (Metered observable : Type 0) (unforged : Unforged May)
         let n : ℕ = a.node.number in
         let kept = w.loopback a.replaces.index a.node a.replaces.at a.server a.was in
         let envelopes : List EnvelopeValue = a.turn.hands_on.envelopes in
-        let left = group_leaves old.genesis n old.seats a.replaces.index a.node a.replaces.at a.after Metered
+        let left = group_leaves old.genesis n old.sim_nodes a.replaces.index a.node a.replaces.at a.after Metered
         a.turn.given
         a.server.replica envelopes a.after.replica a.turn.hands_on.says a.trace old.sent old.trace
         (nudged_may old.genesis old.sent a.turn.timed a.turn.given a.turn.nudged
         (turn_takes n 64 a.server a.came a.turn.timed a.turn.may kept a.may))
         (with_replica old w a.replaces.index a.node a.replaces.at a.server a.after a.was) a.traces in
         record {
-          holds = moved (set old.seats a.replaces.index a.next) a.trace (batch_of n envelopes) a.replaces.seats a.adds
+          holds = moved (set old.sim_nodes a.replaces.index a.next) a.trace (batch_of n envelopes)
+              a.replaces.sim_nodes a.adds
               (subst (λ (z : Node). WorldInvariant ServerHolds server_disks table_meaning old.genesis
-              (set old.seats a.replaces.index z) (old.sent ++ batch_of n envelopes) (old.trace ++ a.trace))
-              (λ i. record { number = sym a.replaces.number i; life = sym a.up i }) (left.up a.alive));
+              (set old.sim_nodes a.replaces.index z) (old.sent ++ batch_of n envelopes) (old.trace ++ a.trace))
+              (λ i. record { number = sym a.replaces.number i; run_state = sym a.up i }) (left.up a.alive));
           loopback = own_moved a.node a.next a.replaces (batch_of n envelopes) a.adds.sent (λ q up.
               subst (λ (z : ServerValue ReplicaValue). IsKept new.sent a.next.number z)
               (same_up a.after q (sym a.up ∙ up))
@@ -508,13 +515,13 @@ module _ (May : Network) (Metered observable : Type 0) (unforged : Unforged May)
               (kept.loopback l (subst (λ (ls : List EnvelopeValue). Contains ls l) waits c));
         } in
         record {
-          holds = moved (set old.seats a.replaces.index a.next) [] [] a.replaces.seats a.adds
+          holds = moved (set old.sim_nodes a.replaces.index a.next) [] [] a.replaces.sim_nodes a.adds
               (subst₂ (λ (x : List Datagram) (y : List Note). WorldInvariant ServerHolds server_disks table_meaning
               old.genesis
-              (set old.seats a.replaces.index a.next) x y) (sym (append-nil old.sent)) (sym (append-nil old.trace))
+              (set old.sim_nodes a.replaces.index a.next) x y) (sym (append-nil old.sent)) (sym (append-nil old.trace))
               (subst (λ (z : Node). WorldInvariant ServerHolds server_disks table_meaning old.genesis
-              (set old.seats a.replaces.index z) old.sent old.trace)
-              (λ i. record { number = sym a.replaces.number i; life = (ap Up mine ∙ sym a.up) i })
+              (set old.sim_nodes a.replaces.index z) old.sent old.trace)
+              (λ i. record { number = sym a.replaces.number i; run_state = (ap Up mine ∙ sym a.up) i })
               (with_replica old w a.replaces.index a.node a.replaces.at a.server a.after a.was)));
           loopback = own_moved a.node a.next a.replaces [] a.adds.sent (λ q up.
               subst (λ (z : ServerValue ReplicaValue). IsKept new.sent a.next.number z)
@@ -537,35 +544,35 @@ module _ (May : Network) (Metered observable : Type 0) (unforged : Unforged May)
         (turn_takes n a.turn.count a.server a.came a.turn.first.whole a.turn.first.may kept a.may) in
         let may = nudged_may old.genesis old.sent a.turn.timed a.turn.given a.turn.nudged timed in
         let device : Memory = device_of a.after.replica.store in
-        let seat : Node = record { number = n; life = Down device } in
-        let next : Node = record { number = n; life = Down a.left } in
-        let left = group_leaves old.genesis n old.seats a.replaces.index a.node a.replaces.at a.after Metered
+        let sim_node : Node = record { number = n; run_state = Down device } in
+        let next : Node = record { number = n; run_state = Down a.left } in
+        let left = group_leaves old.genesis n old.sim_nodes a.replaces.index a.node a.replaces.at a.after Metered
         a.turn.given
         a.server.replica a.turn.hands_on.envelopes a.after.replica a.turn.hands_on.says a.trace old.sent old.trace may
         (with_replica old w a.replaces.index a.node a.replaces.at a.server a.after a.was) a.traces in
         let first : Cluster = record {
           genesis = old.genesis;
-          seats = set old.seats a.replaces.index seat;
+          sim_nodes = set old.sim_nodes a.replaces.index sim_node;
           sent = old.sent ++ batch;
           trace = old.trace ++ a.trace;
           ended = None;
         } in
         let last : Cluster = record {
           genesis = old.genesis;
-          seats = set old.seats a.replaces.index next;
+          sim_nodes = set old.sim_nodes a.replaces.index next;
           sent = old.sent ++ batch;
           trace = old.trace ++ a.trace;
           ended = None;
         } in
         let path = other_device a.after a.left a.same in
         let rests : IsStillDown table_meaning first last = record {
-          seat = seat;
+          sim_node = sim_node;
           next = next;
           replaces = record {
             index = a.replaces.index;
-            at = at_set_here old.seats a.replaces.index seat a.replaces.at.0;
+            at = at_set_here old.sim_nodes a.replaces.index sim_node a.replaces.at.0;
             number = refl;
-            seats = sym (set_twice old.seats a.replaces.index seat next);
+            sim_nodes = sym (set_twice old.sim_nodes a.replaces.index sim_node next);
           };
           device = device;
           down = refl;
@@ -584,10 +591,10 @@ module _ (May : Network) (Metered observable : Type 0) (unforged : Unforged May)
         let then_holds = step_holds ServerHolds server_disks table_meaning first last (left.down a.ended)
         (inr (inr (inl rests))) in
         record {
-          holds = moved (set old.seats a.replaces.index a.next) a.trace batch a.replaces.seats a.adds
+          holds = moved (set old.sim_nodes a.replaces.index a.next) a.trace batch a.replaces.sim_nodes a.adds
               (subst (λ (z : Node). WorldInvariant ServerHolds server_disks table_meaning old.genesis
-              (set old.seats a.replaces.index z) (old.sent ++ batch) (old.trace ++ a.trace))
-              (λ i. record { number = sym a.replaces.number i; life = sym a.down i }) then_holds);
+              (set old.sim_nodes a.replaces.index z) (old.sent ++ batch) (old.trace ++ a.trace))
+              (λ i. record { number = sym a.replaces.number i; run_state = sym a.down i }) then_holds);
           loopback = own_moved a.node a.next a.replaces batch a.adds.sent (no_up a.next a.left a.down);
         }
 

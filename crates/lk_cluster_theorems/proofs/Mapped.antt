@@ -16,13 +16,13 @@ use Rattle.lk_node.specs.Leavings.{DisksFit}
 use Rattle.lk_replica.specs.ReplicaValue.{ReplicaValue, device_of}
 use Rattle.lk_server.specs.Servers.{ServerValue}
 use Rattle.lk_sim_nodes.specs.Rooms.{AreShort}
-use Rattle.lk_sim_nodes.specs.Seats.{At, UpFits, SeatFits}
+use Rattle.lk_sim_nodes.specs.SimNodes.{At, UpFits, SimNodeFits}
 use Rattle.lk_sim.specs.Traces.{happened}
 use Rattle.lk_sim.specs.Worlds.{WorldInvariant}
-use Rattle.lk_sim_nodes.specs.declared.seat.Life.{Life}
-use Rattle.lk_sim_nodes.specs.declared.seat.Life.TheVariants.{Up, Down}
-use Rattle.lk_sim_nodes.specs.declared.seat.Seat.{Seat}
-use Rattle.lk_cluster_theorems.specs.Clusters.{Node, seat_of, life_of, ServerHolds, server_disks}
+use Rattle.lk_sim_nodes.specs.declared.sim_node.RunState.{RunState}
+use Rattle.lk_sim_nodes.specs.declared.sim_node.RunState.TheVariants.{Up, Down}
+use Rattle.lk_sim_nodes.specs.declared.sim_node.SimNode.{SimNode}
+use Rattle.lk_cluster_theorems.specs.Clusters.{Node, sim_node_of, run_state_of, ServerHolds, server_disks}
 
 -- ---- lists
 
@@ -70,46 +70,46 @@ module _ (h : History) (v : PaxosState) where
   same_up : (r q : ReplicaValue) → Up q ≡ Up r → q ≡ r
   same_up r q e = cc e
 
-  fits_by : (t : Node) (life : Life (ServerValue ReplicaValue)) → t.life ≡ life
-      → SeatFits ServerHolds server_disks table_meaning h v t
-      → SeatFits ReplicaStands replica_disks table_meaning h v (seat_of t)
+  fits_by : (t : Node) (run_state : RunState (ServerValue ReplicaValue)) → t.run_state ≡ run_state
+      → SimNodeFits ServerHolds server_disks table_meaning h v t
+      → SimNodeFits ReplicaStands replica_disks table_meaning h v (sim_node_of t)
   fits_by t (Up q) is f = record {
     up = λ r up. subst (λ z. UpFits ReplicaStands replica_disks table_meaning h v t.number z)
-        (same_up r q.replica (sym (ap life_of is) ∙ up)) (up_fits t.number q (f.up q is));
-    down = λ d down. absurd (cc (sym (ap life_of is) ∙ down));
-    room = λ d down. absurd (cc (sym (ap life_of is) ∙ down));
+        (same_up r q.replica (sym (ap run_state_of is) ∙ up)) (up_fits t.number q (f.up q is));
+    down = λ d down. absurd (cc (sym (ap run_state_of is) ∙ down));
+    room = λ d down. absurd (cc (sym (ap run_state_of is) ∙ down));
   }
   fits_by t (Down e) is f = record {
-    up = λ r up. absurd (cc (sym (ap life_of is) ∙ up));
-    down = λ d down. f.down d (is ∙ same_down d e (sym (ap life_of is) ∙ down));
-    room = λ d down. f.room d (is ∙ same_down d e (sym (ap life_of is) ∙ down));
+    up = λ r up. absurd (cc (sym (ap run_state_of is) ∙ up));
+    down = λ d down. f.down d (is ∙ same_down d e (sym (ap run_state_of is) ∙ down));
+    room = λ d down. f.room d (is ∙ same_down d e (sym (ap run_state_of is) ∙ down));
   }
     where
-      same_down : (d e : Memory) → ◌≡◌ {A = Life ReplicaValue} (Down e) (Down d)
-          → ◌≡◌ {A = Life (ServerValue ReplicaValue)} (Down e) (Down d)
+      same_down : (d e : Memory) → ◌≡◌ {A = RunState ReplicaValue} (Down e) (Down d)
+          → ◌≡◌ {A = RunState (ServerValue ReplicaValue)} (Down e) (Down d)
       same_down d e p = let same : e ≡ d = cc p in ap Down same
 
-  pub seat_fits : (t : Node) → SeatFits ServerHolds server_disks table_meaning h v t
-      → SeatFits ReplicaStands replica_disks table_meaning h v (seat_of t)
-  seat_fits t f = fits_by t t.life refl f
+  pub sim_node_fits : (t : Node) → SimNodeFits ServerHolds server_disks table_meaning h v t
+      → SimNodeFits ReplicaStands replica_disks table_meaning h v (sim_node_of t)
+  sim_node_fits t f = fits_by t t.run_state refl f
 
 -- so with all of it
-pub mapped : (genesis : Genesis) (seats : List Node) (sent : List Datagram) (trace : List Note)
-    → WorldInvariant ServerHolds server_disks table_meaning genesis seats sent trace
-    → WorldInvariant ReplicaStands replica_disks table_meaning genesis (map seat_of seats) sent trace
-mapped genesis seats sent trace w = record {
+pub mapped : (genesis : Genesis) (sim_nodes : List Node) (sent : List Datagram) (trace : List Note)
+    → WorldInvariant ServerHolds server_disks table_meaning genesis sim_nodes sent trace
+    → WorldInvariant ReplicaStands replica_disks table_meaning genesis (map sim_node_of sim_nodes) sent trace
+mapped genesis sim_nodes sent trace w = record {
   states = w.states;
   world = w.world;
-  seated = λ k s c. let a = at_map seat_of seats k s c in
-      subst (λ (z : Seat ReplicaValue). SeatFits ReplicaStands replica_disks table_meaning
+  as_sim_nodes = λ k s c. let a = at_map sim_node_of sim_nodes k s c in
+      subst (λ (z : SimNode ReplicaValue). SimNodeFits ReplicaStands replica_disks table_meaning
       (happened genesis sent trace) (w.states z.number) z) (sym a.2)
-      (seat_fits (happened genesis sent trace) (w.states a.0.number) a.0 (w.seated k a.0 a.1));
+      (sim_node_fits (happened genesis sent trace) (w.states a.0.number) a.0 (w.as_sim_nodes k a.0 a.1));
   apart = λ i j s t c d same.
-      let a = at_map seat_of seats i s c in
-      let b = at_map seat_of seats j t d in
+      let a = at_map sim_node_of sim_nodes i s c in
+      let b = at_map sim_node_of sim_nodes j t d in
       w.apart i j a.0 b.0 a.1 b.1
-      (sym (ap (λ (z : Seat ReplicaValue). z.number) a.2) ∙ same ∙ ap (λ (z : Seat ReplicaValue). z.number) b.2);
-  known = λ n x h. let a = w.known n x h in (a.0, seat_of a.1, to_map seat_of seats a.0 a.1 a.2, a.3);
+      (sym (ap (λ (z : SimNode ReplicaValue). z.number) a.2) ∙ same ∙ ap (λ (z : SimNode ReplicaValue). z.number) b.2);
+  known = λ n x h. let a = w.known n x h in (a.0, sim_node_of a.1, to_map sim_node_of sim_nodes a.0 a.1 a.2, a.3);
   requests = w.requests;
   proposed = w.proposed;
   list = w.list;

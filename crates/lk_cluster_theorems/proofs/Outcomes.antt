@@ -13,8 +13,8 @@ use Rattle.lk_server.specs.Servers.{ServerValue}
 use Rattle.lk_program_fault.specs.declared.fault.ProgramFault.{ProgramFault}
 use Rattle.lk_node_process.specs.Revivals.{IsRefusedWith, StartsOn, Surroundings}
 use Rattle.lk_node_process.specs.Turns.{RunsTurns, EndsEarly, EndsEarlyByStranger}
-use Rattle.lk_sim_nodes.specs.declared.seat.Life.{Life}
-use Rattle.lk_sim_nodes.specs.declared.seat.Life.TheVariants.{Up, Down}
+use Rattle.lk_sim_nodes.specs.declared.sim_node.RunState.{RunState}
+use Rattle.lk_sim_nodes.specs.declared.sim_node.RunState.TheVariants.{Up, Down}
 use Rattle.lk_cluster_theorems.specs.Clusters.{Cluster, ForgesNothing, IsReachable}
 use Rattle.lk_cluster_theorems.specs.Continuing.{node_of}
 use Rattle.lk_cluster_theorems.specs.Processes.{SaysIfHonest, Move, RunTo, Fit, GoOn}
@@ -43,7 +43,7 @@ abbrev pub SealedGoOn : (Metered observable Honest : Type 0) → Honest → Gene
 SealedGoOn Metered observable Honest honest genesis old =
     IsReachable IsSealed Metered observable genesis old
     → (moves : List (Move Metered observable Honest old.genesis))
-    → Fit Metered observable Honest old.genesis old.seats moves
+    → Fit Metered observable Honest old.genesis old.sim_nodes moves
     → AllMoveSealed Metered observable Honest old.genesis old.sent moves
     → GoOn Metered observable Honest old.genesis honest IsSealed genesis old moves
 
@@ -52,27 +52,27 @@ module _ (Metered observable Honest : Type 0) (honest : Honest) (genesis : Genes
     (sealed : SealedGoOn Metered observable Honest honest genesis old) (index n : ℕ) (disks : Side → Disk)
     (at : IsDownOn old index n disks) (given : Surroundings) (header : HeaderValue)
     (whose : header ≡ header_of old.genesis n) where
-  among : (own : List (Move Metered observable Honest old.genesis)) (life : Life (ServerValue ReplicaValue))
-      → RunTo Metered observable Honest old.genesis index (node_of n (Down at.device)) own (node_of n life)
-      → ContinuesAmong Metered observable Honest honest genesis old index n disks at given own life
-  among own life run =
+  among : (own : List (Move Metered observable Honest old.genesis)) (run_state : RunState (ServerValue ReplicaValue))
+      → RunTo Metered observable Honest old.genesis index (node_of n (Down at.device)) own (node_of n run_state)
+      → ContinuesAmong Metered observable Honest honest genesis old index n disks at given own run_state
+  among own run_state run =
       let node = node_of n (Down at.device) in
       record {
         run = run;
         go_on = λ moves mix may. (
           moves_go_on Metered observable Honest honest ForgesNothing forges_nothing genesis old
-              all moves (mixed_fit Metered observable Honest old.genesis old.seats moves
-              (mixed_with Metered observable Honest old.genesis old.seats index node at.down own
-              moves (node_of n life) run mix)) may,
-          run_leaves Metered observable Honest old.genesis moves old.seats index node at.down own
-              (node_of n life) run mix.are_own,
+              all moves (mixed_fit Metered observable Honest old.genesis old.sim_nodes moves
+              (mixed_with Metered observable Honest old.genesis old.sim_nodes index node at.down own
+              moves (node_of n run_state) run mix)) may,
+          run_leaves Metered observable Honest old.genesis moves old.sim_nodes index node at.down own
+              (node_of n run_state) run mix.are_own,
         );
         go_on_sealed = λ reached moves mix only. (
-          sealed reached moves (mixed_fit Metered observable Honest old.genesis old.seats moves
-              (mixed_with Metered observable Honest old.genesis old.seats index node at.down own
-              moves (node_of n life) run mix)) only,
-          run_leaves Metered observable Honest old.genesis moves old.seats index node at.down own
-              (node_of n life) run mix.are_own,
+          sealed reached moves (mixed_fit Metered observable Honest old.genesis old.sim_nodes moves
+              (mixed_with Metered observable Honest old.genesis old.sim_nodes index node at.down own
+              moves (node_of n run_state) run mix)) only,
+          run_leaves Metered observable Honest old.genesis moves old.sim_nodes index node at.down own
+              (node_of n run_state) run mix.are_own,
         );
       }
 

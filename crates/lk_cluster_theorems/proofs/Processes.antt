@@ -12,10 +12,10 @@ use Rattle.lk_replica.specs.ReplicaValue.{ReplicaValue}
 use Rattle.lk_server.specs.Servers.{ServerValue, Turn, LastTurn, IsIdle}
 use Rattle.lk_node_process.specs.Turns.{HasFollowedNoStranger, HasFollowedStranger, envelopes_in}
 use Rattle.lk_sim.specs.Networks.{Appears}
-use Rattle.lk_sim_nodes.specs.Seats.{At}
+use Rattle.lk_sim_nodes.specs.SimNodes.{At}
 use Rattle.lk_sim_nodes.specs.declared.end.End.{End}
-use Rattle.lk_sim_nodes.specs.declared.seat.Life.{Life}
-use Rattle.lk_sim_nodes.specs.declared.seat.Life.TheVariants.{Up, Down}
+use Rattle.lk_sim_nodes.specs.declared.sim_node.RunState.{RunState}
+use Rattle.lk_sim_nodes.specs.declared.sim_node.RunState.TheVariants.{Up, Down}
 use Rattle.lk_sim.proofs.Networks.{at_set, at_set_here, set_twice}
 use Rattle.lk_cluster_theorems.specs.Clusters.{Node, Cluster, Network, Says, IsReachable}
 use Rattle.lk_cluster_theorems.specs.Continuing.{node_of, HasNode, Continues}
@@ -23,7 +23,7 @@ use Rattle.lk_cluster_theorems.specs.Processes.{SaysIfHonest, StartsNode, StartI
 use Rattle.lk_cluster_theorems.specs.Processes.{StopsNode}
 use Rattle.lk_cluster_theorems.specs.Processes.{IsMove, Move, envelopes_by, MayArrive, TracesTurn, Traces, TraceAll}
 use Rattle.lk_cluster_theorems.specs.Processes.{Fit}
-use Rattle.lk_cluster_theorems.specs.Processes.{MayAllArrive, sent_by, RunTo, HasRun, seats_after, AreOwn, MixRuns}
+use Rattle.lk_cluster_theorems.specs.Processes.{MayAllArrive, sent_by, RunTo, HasRun, sim_nodes_after, AreOwn, MixRuns}
 use Rattle.lk_cluster_theorems.specs.Processes.{MixWith, LeadOn, GoOn, AreNewAfter, all_envelopes}
 use Rattle.lk_cluster_theorems.specs.Processes.{new_cluster}
 use Rattle.lk_cluster_theorems.proofs.Continuing.{continued, Leads, leads_on, reaches, start_leads, refused_start_leads}
@@ -60,17 +60,17 @@ module _ (Metered observable Honest : Type 0) (honest : Honest) where
     of_traces genesis n came frames old new (inl turn) notes traces = traces
     of_traces genesis n came frames old new (inr idle) notes traces = traces
 
-    module _ (old : Cluster) (index n : ℕ) (before after : Life (ServerValue ReplicaValue))
+    module _ (old : Cluster) (index n : ℕ) (before after : RunState (ServerValue ReplicaValue))
         (at : HasNode old index n before) where
-      is_now : (life : Life (ServerValue ReplicaValue)) → before ≡ life → HasNode old index n life
-      is_now life was = subst (λ (l : Life (ServerValue ReplicaValue)). HasNode old index n l) was at
+      is_now : (run_state : RunState (ServerValue ReplicaValue)) → before ≡ run_state → HasNode old index n run_state
+      is_now run_state was = subst (λ (l : RunState (ServerValue ReplicaValue)). HasNode old index n l) was at
 
-      and_is : (life : Life (ServerValue ReplicaValue)) (envelopes : List EnvelopeValue) (notes : List Note)
-          → after ≡ life
-          → Leads May Metered observable old (continued old index n life envelopes notes)
+      and_is : (run_state : RunState (ServerValue ReplicaValue)) (envelopes : List EnvelopeValue) (notes : List Note)
+          → after ≡ run_state
+          → Leads May Metered observable old (continued old index n run_state envelopes notes)
           → Leads May Metered observable old (continued old index n after envelopes notes)
-      and_is life envelopes notes now leads =
-          subst (λ (l : Life (ServerValue ReplicaValue)). Leads May Metered observable old
+      and_is run_state envelopes notes now leads =
+          subst (λ (l : RunState (ServerValue ReplicaValue)). Leads May Metered observable old
           (continued old index n l envelopes notes)) (sym now) leads
 
       starts_lead : (x : StartsNode Metered observable Honest old.genesis n before after) (notes : List Note)
@@ -165,35 +165,35 @@ module _ (Metered observable Honest : Type 0) (honest : Honest) where
 
     module _ (genesis first : Genesis) where
       abbrev cluster_of : List Node → List Datagram → List Note → Option End → Cluster
-      cluster_of seats sent trace ended =
-          record { genesis = first; seats = seats; sent = sent; trace = trace; ended = ended }
+      cluster_of sim_nodes sent trace ended =
+          record { genesis = first; sim_nodes = sim_nodes; sent = sent; trace = trace; ended = ended }
 
-      moves_lead : (moves : List (Move Metered observable Honest first)) (seats : List Node) (sent : List Datagram)
+      moves_lead : (moves : List (Move Metered observable Honest first)) (sim_nodes : List Node) (sent : List Datagram)
           (trace : List Note) (ended : Option End)
-          → IsReachable May Metered observable genesis (cluster_of seats sent trace ended)
-          → Fit Metered observable Honest first seats moves
+          → IsReachable May Metered observable genesis (cluster_of sim_nodes sent trace ended)
+          → Fit Metered observable Honest first sim_nodes moves
           → MayAllArrive Metered observable Honest first May sent moves → (notes : List Note)
           → TraceAll Metered observable Honest first honest moves notes
-          → LeadOn Metered observable Honest first May genesis (cluster_of seats sent trace ended) moves notes
-      moves_lead [] seats sent trace ended all fit may notes traces =
+          → LeadOn Metered observable Honest first May genesis (cluster_of sim_nodes sent trace ended) moves notes
+      moves_lead [] sim_nodes sent trace ended all fit may notes traces =
           record {
-            cluster = cluster_of seats sent trace ended;
+            cluster = cluster_of sim_nodes sent trace ended;
             events = [];
             follows = refl;
             reachable = all;
             keeps_genesis = refl;
-            seats = refl;
+            sim_nodes = refl;
             sent = sym (append-nil sent);
             trace = sym (append-nil trace) ∙ ap (λ (l : List Note). trace ++ l) (sym traces);
           }
-      moves_lead (m ∷ moves) seats sent trace ended all fit may notes traces =
-          let old = cluster_of seats sent trace ended in
+      moves_lead (m ∷ moves) sim_nodes sent trace ended all fit may notes traces =
+          let old = cluster_of sim_nodes sent trace ended in
           let envelopes = envelopes_by Metered observable Honest first m.does in
           let batch = batch_of m.number envelopes in
           let next = continued old m.index m.number m.after envelopes traces.0 in
           let leads : Leads May Metered observable old next =
           move_leads old m.index m.number m.before m.after fit.0 m.does may.0 traces.0 traces.3 in
-          let rest = moves_lead moves (set seats m.index (node_of m.number m.after)) (sent ++ batch)
+          let rest = moves_lead moves (set sim_nodes m.index (node_of m.number m.after)) (sent ++ batch)
           (trace ++ traces.0) ended (reaches May Metered observable genesis old next all leads) fit.1 may.1
           traces.1 traces.4 in
           let on = leads_on May Metered observable old next rest.cluster leads (rest.events, rest.follows) in
@@ -203,28 +203,28 @@ module _ (Metered observable Honest : Type 0) (honest : Honest) where
             follows = on.1;
             reachable = rest.reachable;
             keeps_genesis = rest.keeps_genesis;
-            seats = rest.seats;
+            sim_nodes = rest.sim_nodes;
             sent = rest.sent ∙ append_assoc sent batch (sent_by Metered observable Honest first moves);
             trace = rest.trace ∙ append_assoc trace traces.0 traces.1
                 ∙ ap (λ (l : List Note). trace ++ l) (sym traces.2);
           }
 
-      moves_trace : Unforged May → (moves : List (Move Metered observable Honest first)) (seats : List Node)
+      moves_trace : Unforged May → (moves : List (Move Metered observable Honest first)) (sim_nodes : List Node)
           (sent : List Datagram) (trace : List Note) (ended : Option End)
-          → IsReachable May Metered observable genesis (cluster_of seats sent trace ended)
-          → Fit Metered observable Honest first seats moves
+          → IsReachable May Metered observable genesis (cluster_of sim_nodes sent trace ended)
+          → Fit Metered observable Honest first sim_nodes moves
           → MayAllArrive Metered observable Honest first May sent moves
           → (notes : List Note) × TraceAll Metered observable Honest first honest moves notes
-      moves_trace unforged [] seats sent trace ended all fit may = ([], refl)
-      moves_trace unforged (m ∷ moves) seats sent trace ended all fit may =
-          let old = cluster_of seats sent trace ended in
+      moves_trace unforged [] sim_nodes sent trace ended all fit may = ([], refl)
+      moves_trace unforged (m ∷ moves) sim_nodes sent trace ended all fit may =
+          let old = cluster_of sim_nodes sent trace ended in
           let envelopes = envelopes_by Metered observable Honest first m.does in
           let t = move_traces old m.index m.number m.before m.after fit.0 unforged
           (reachable_sound May Metered observable unforged genesis old all) m.does may.0 in
           let next = continued old m.index m.number m.after envelopes t.0 in
           let leads : Leads May Metered observable old next =
           move_leads old m.index m.number m.before m.after fit.0 m.does may.0 t.0 t.1 in
-          let rest = moves_trace unforged moves (set seats m.index (node_of m.number m.after))
+          let rest = moves_trace unforged moves (set sim_nodes m.index (node_of m.number m.after))
           (sent ++ batch_of m.number envelopes) (trace ++ t.0) ended
           (reaches May Metered observable genesis old next all leads) fit.1 may.1 in
           (t.0 ++ rest.0, (t.0, rest.0, refl, t.1, rest.1))
@@ -232,15 +232,15 @@ module _ (Metered observable Honest : Type 0) (honest : Honest) where
     pub moves_go_on : Unforged May → (genesis : Genesis) (old : Cluster)
         → IsReachable May Metered observable genesis old
         → (moves : List (Move Metered observable Honest old.genesis))
-        → Fit Metered observable Honest old.genesis old.seats moves
+        → Fit Metered observable Honest old.genesis old.sim_nodes moves
         → MayAllArrive Metered observable Honest old.genesis May old.sent moves
         → GoOn Metered observable Honest old.genesis honest May genesis old moves
     moves_go_on unforged genesis old all moves fit may =
-        let t = moves_trace genesis old.genesis unforged moves old.seats old.sent old.trace old.ended all fit may in
+        let t = moves_trace genesis old.genesis unforged moves old.sim_nodes old.sent old.trace old.ended all fit may in
         record {
           notes = t.0;
           traces = t.1;
-          lead = moves_lead genesis old.genesis moves old.seats old.sent old.trace old.ended all fit may;
+          lead = moves_lead genesis old.genesis moves old.sim_nodes old.sent old.trace old.ended all fit may;
         }
 
 -- ---- runs that are mixed
@@ -260,12 +260,14 @@ at_other xs i y j x ne at =
     (subst (λ l. j < l) (sym (length-set xs i y)) at.0, get_or-set_other xs i j y x ne ∙ at.1)
 
 module _ (Metered observable Honest : Type 0) (genesis : Genesis) where
-  still_placed : (seats : List Node) (index : ℕ) (node : Node) (moves : List (Move Metered observable Honest genesis))
-      → AllByRecursion (λ (m : Move Metered observable Honest genesis). m.index < length seats) moves
-      → AllByRecursion (λ (m : Move Metered observable Honest genesis). m.index < length (set seats index node)) moves
-  still_placed seats index node moves placed =
+  still_placed : (sim_nodes : List Node) (index : ℕ) (node : Node)
+      (moves : List (Move Metered observable Honest genesis))
+      → AllByRecursion (λ (m : Move Metered observable Honest genesis). m.index < length sim_nodes) moves
+      → AllByRecursion (λ (m : Move Metered observable Honest genesis). m.index < length
+      (set sim_nodes index node)) moves
+  still_placed sim_nodes index node moves placed =
       subst (λ (l : ℕ). AllByRecursion (λ (m : Move Metered observable Honest genesis). m.index < l) moves)
-      (sym (length-set seats index node)) placed
+      (sym (length-set sim_nodes index node)) placed
 
   -- its first move is the first of them
   first_own : (node : Node) (m : Move Metered observable Honest genesis)
@@ -291,18 +293,19 @@ module _ (Metered observable Honest : Type 0) (genesis : Genesis) where
   other_own index node m moves ne own last run (inr other) =
       record { own = own; last = last; run = run; are = other.1 }
 
-  pub mixed_fit : (seats : List Node) (moves : List (Move Metered observable Honest genesis))
-      → MixRuns Metered observable Honest genesis seats moves → Fit Metered observable Honest genesis seats moves
-  mixed_fit seats [] mix = tt
-  mixed_fit seats (m ∷ moves) mix =
-      let there = at_some seats m.index mix.placed.0 in
+  pub mixed_fit : (sim_nodes : List Node) (moves : List (Move Metered observable Honest genesis))
+      → MixRuns Metered observable Honest genesis sim_nodes moves → Fit Metered observable Honest genesis
+      sim_nodes moves
+  mixed_fit sim_nodes [] mix = tt
+  mixed_fit sim_nodes (m ∷ moves) mix =
+      let there = at_some sim_nodes m.index mix.placed.0 in
       let its = mix.runs m.index there.0 there.1 in
       let mine = first_own there.0 m moves its.own its.last its.run its.are in
       let next = node_of m.number m.after in
-      let now = set seats m.index next in
+      let now = set sim_nodes m.index next in
       let rest : MixRuns Metered observable Honest genesis now moves = record {
-        placed = still_placed seats m.index next moves mix.placed.1;
-        runs = λ index node at. elim (at_set seats m.index next index node at) [
+        placed = still_placed sim_nodes m.index next moves mix.placed.1;
+        runs = λ index node at. elim (at_set sim_nodes m.index next index node at) [
           | inl here ↦ subst₂ (λ (k : ℕ) (s : Node). HasRun Metered observable Honest genesis k s moves)
               (sym here.0) here.1 mine.1
           | inr other ↦
@@ -310,42 +313,44 @@ module _ (Metered observable Honest : Type 0) (genesis : Genesis) where
               other_own index node m moves other.0 r.own r.last r.run r.are
         ];
       } in
-      (subst (λ (s : Node). At seats m.index s) mine.0 there.1, mixed_fit now moves rest)
+      (subst (λ (s : Node). At sim_nodes m.index s) mine.0 there.1, mixed_fit now moves rest)
 
   -- after its run, and those of the others, a node is as its run has left it
-  pub run_leaves : (moves : List (Move Metered observable Honest genesis)) (seats : List Node) (index : ℕ) (node : Node)
-      → At seats index node → (own : List (Move Metered observable Honest genesis)) (last : Node)
+  pub run_leaves : (moves : List (Move Metered observable Honest genesis)) (sim_nodes : List Node) (index : ℕ)
+      (node : Node)
+      → At sim_nodes index node → (own : List (Move Metered observable Honest genesis)) (last : Node)
       → RunTo Metered observable Honest genesis index node own last
       → AreOwn Metered observable Honest genesis index own moves
-      → At (seats_after Metered observable Honest genesis seats moves) index last
-  run_leaves [] seats index node at own last run are =
+      → At (sim_nodes_after Metered observable Honest genesis sim_nodes moves) index last
+  run_leaves [] sim_nodes index node at own last run are =
       let is : last ≡ node = subst (λ (l : List (Move Metered observable Honest genesis)).
       RunTo Metered observable Honest genesis index node l last) are run in
-      subst (λ (s : Node). At seats index s) (sym is) at
-  run_leaves (m ∷ moves) seats index node at own last run (inl here) =
+      subst (λ (s : Node). At sim_nodes index s) (sym is) at
+  run_leaves (m ∷ moves) sim_nodes index node at own last run (inl here) =
       let r = subst (λ (l : List (Move Metered observable Honest genesis)).
       RunTo Metered observable Honest genesis index node l last) here.2 run in
       let next = node_of m.number m.after in
-      run_leaves moves (set seats m.index next) index next
-      (subst (λ (k : ℕ). At (set seats k next) index next) (sym here.0) (at_set_here seats index next at.0)) here.1
+      run_leaves moves (set sim_nodes m.index next) index next
+      (subst (λ (k : ℕ). At (set sim_nodes k next) index next) (sym here.0) (at_set_here sim_nodes index next
+      at.0)) here.1
       last r.2 here.3
-  run_leaves (m ∷ moves) seats index node at own last run (inr other) =
+  run_leaves (m ∷ moves) sim_nodes index node at own last run (inr other) =
       let next = node_of m.number m.after in
-      run_leaves moves (set seats m.index next) index node
-      (at_other seats m.index next index node (λ e. other.0 (sym e)) at) own last run other.1
+      run_leaves moves (set sim_nodes m.index next) index node
+      (at_other sim_nodes m.index next index node (λ e. other.0 (sym e)) at) own last run other.1
 
   -- a run of one node among those of the others
-  pub mixed_with : (seats : List Node) (index : ℕ) (node : Node) → At seats index node
+  pub mixed_with : (sim_nodes : List Node) (index : ℕ) (node : Node) → At sim_nodes index node
       → (own moves : List (Move Metered observable Honest genesis)) (last : Node)
       → RunTo Metered observable Honest genesis index node own last
-      → MixWith Metered observable Honest genesis seats index own moves
-      → MixRuns Metered observable Honest genesis seats moves
-  mixed_with seats index node at own moves last run mix = record {
+      → MixWith Metered observable Honest genesis sim_nodes index own moves
+      → MixRuns Metered observable Honest genesis sim_nodes moves
+  mixed_with sim_nodes index node at own moves last run mix = record {
     placed = mix.placed;
     runs = λ k other there. elim (cases_eq k index) [
       | inl same ↦
-          let is : node ≡ other = at_same seats index node other at
-          (subst (λ (j : ℕ). At seats j other) same there) in
+          let is : node ≡ other = at_same sim_nodes index node other at
+          (subst (λ (j : ℕ). At sim_nodes j other) same there) in
           let its : HasRun Metered observable Honest genesis index node moves =
           record { own = own; last = last; run = run; are = mix.are_own } in
           subst₂ (λ (j : ℕ) (s : Node). HasRun Metered observable Honest genesis j s moves) (sym same) is its
@@ -355,15 +360,17 @@ module _ (Metered observable Honest : Type 0) (genesis : Genesis) where
 
   -- ---- one run alone
 
-  alone_fit : (index : ℕ) (own : List (Move Metered observable Honest genesis)) (seats : List Node) (node last : Node)
-      → At seats index node → RunTo Metered observable Honest genesis index node own last
-      → Fit Metered observable Honest genesis seats own
-  alone_fit index [] seats node last at run = tt
-  alone_fit index (m ∷ own) seats node last at run =
+  alone_fit : (index : ℕ) (own : List (Move Metered observable Honest genesis)) (sim_nodes : List Node)
+      (node last : Node)
+      → At sim_nodes index node → RunTo Metered observable Honest genesis index node own last
+      → Fit Metered observable Honest genesis sim_nodes own
+  alone_fit index [] sim_nodes node last at run = tt
+  alone_fit index (m ∷ own) sim_nodes node last at run =
       let next = node_of m.number m.after in (
-        subst₂ (λ (k : ℕ) (s : Node). At seats k s) (sym run.0) run.1 at,
-        alone_fit index own (set seats m.index next) next last
-            (subst (λ (k : ℕ). At (set seats k next) index next) (sym run.0) (at_set_here seats index next at.0))
+        subst₂ (λ (k : ℕ) (s : Node). At sim_nodes k s) (sym run.0) run.1 at,
+        alone_fit index own (set sim_nodes m.index next) next last
+            (subst (λ (k : ℕ). At (set sim_nodes k next) index next) (sym run.0)
+            (at_set_here sim_nodes index next at.0))
             run.2,
       )
 
@@ -372,16 +379,18 @@ module _ (Metered observable Honest : Type 0) (genesis : Genesis) where
   same_again (y ∷ xs) zero x at = λ i. at.1 i ∷ xs
   same_again (y ∷ xs) (suc index) x at = ap (λ l. y ∷ l) (same_again xs index x (omega (arith, at.0), at.1))
 
-  alone_seats : (index : ℕ) (own : List (Move Metered observable Honest genesis)) (seats : List Node) (node last : Node)
-      → At seats index node → RunTo Metered observable Honest genesis index node own last
-      → seats_after Metered observable Honest genesis seats own ≡ set seats index last
-  alone_seats index [] seats node last at run =
-      same_again seats index last (subst (λ (s : Node). At seats index s) (sym run) at)
-  alone_seats index (m ∷ own) seats node last at run =
+  alone_sim_nodes : (index : ℕ) (own : List (Move Metered observable Honest genesis)) (sim_nodes : List Node)
+      (node last : Node)
+      → At sim_nodes index node → RunTo Metered observable Honest genesis index node own last
+      → sim_nodes_after Metered observable Honest genesis sim_nodes own ≡ set sim_nodes index last
+  alone_sim_nodes index [] sim_nodes node last at run =
+      same_again sim_nodes index last (subst (λ (s : Node). At sim_nodes index s) (sym run) at)
+  alone_sim_nodes index (m ∷ own) sim_nodes node last at run =
       let next = node_of m.number m.after in
-      alone_seats index own (set seats m.index next) next last
-      (subst (λ (k : ℕ). At (set seats k next) index next) (sym run.0) (at_set_here seats index next at.0)) run.2
-      ∙ ap (λ (k : ℕ). set (set seats k next) index last) run.0 ∙ set_twice seats index next last
+      alone_sim_nodes index own (set sim_nodes m.index next) next last
+      (subst (λ (k : ℕ). At (set sim_nodes k next) index next) (sym run.0) (at_set_here sim_nodes index
+      next at.0)) run.2
+      ∙ ap (λ (k : ℕ). set (set sim_nodes k next) index last) run.0 ∙ set_twice sim_nodes index next last
 
   alone_sent : (index : ℕ) (own : List (Move Metered observable Honest genesis)) (node last : Node)
       → RunTo Metered observable Honest genesis index node own last
@@ -398,16 +407,17 @@ module _ (Metered observable Honest : Type 0) (genesis : Genesis) where
 
 pub alone_continues : (Metered observable Honest : Type 0) (honest : Honest) (May : Network) → Unforged May
     → (genesis : Genesis) (old : Cluster) → IsReachable May Metered observable genesis old
-    → (index n : ℕ) (life last : Life (ServerValue ReplicaValue)) → HasNode old index n life
+    → (index n : ℕ) (run_state last : RunState (ServerValue ReplicaValue)) → HasNode old index n run_state
     → (own : List (Move Metered observable Honest old.genesis))
-    → RunTo Metered observable Honest old.genesis index (node_of n life) own (node_of n last)
+    → RunTo Metered observable Honest old.genesis index (node_of n run_state) own (node_of n last)
     → MayAllArrive Metered observable Honest old.genesis May old.sent own
     → Continues May Metered observable genesis old index n last
     (all_envelopes Metered observable Honest old.genesis own)
     (TraceAll Metered observable Honest old.genesis honest own)
-alone_continues Metered observable Honest honest May unforged genesis old all index n life last at own run may =
+alone_continues Metered observable Honest honest May unforged genesis old all index n run_state last at own run may =
     let g = moves_go_on Metered observable Honest honest May unforged genesis old all own
-    (alone_fit Metered observable Honest old.genesis index own old.seats (node_of n life) (node_of n last) at run) may
+    (alone_fit Metered observable Honest old.genesis index own old.sim_nodes (node_of n run_state)
+    (node_of n last) at run) may
     in
     let on = g.lead g.notes g.traces in
     record {
@@ -416,10 +426,11 @@ alone_continues Metered observable Honest honest May unforged genesis old all in
       follows = on.follows;
       reachable = on.reachable;
       keeps_genesis = on.keeps_genesis;
-      seats = on.seats ∙ alone_seats Metered observable Honest old.genesis index own old.seats (node_of n life)
+      sim_nodes = on.sim_nodes ∙ alone_sim_nodes Metered observable Honest old.genesis index own old.sim_nodes
+          (node_of n run_state)
           (node_of n last) at run;
       sent = on.sent ∙ ap (λ (l : List Datagram). old.sent ++ l)
-          (alone_sent Metered observable Honest old.genesis index own (node_of n life) (node_of n last) run);
+          (alone_sent Metered observable Honest old.genesis index own (node_of n run_state) (node_of n last) run);
       notes = g.notes;
       adds = g.traces;
       trace = on.trace;
@@ -435,12 +446,12 @@ module _ (May : Network) (Metered observable : Type 0) (genesis : Genesis) where
   new_appear earlier (node ∷ nodes) new =
       let next = earlier ++ node ∷ [] in
       let appears : Appears (new_cluster genesis earlier) (new_cluster genesis next) = record {
-        seat = node;
+        sim_node = node;
         unused = new.3;
         device = new.0;
         down = new.1;
         empty = new.2;
-        seats = refl;
+        sim_nodes = refl;
         adds = record { genesis = refl; sent = refl; trace = refl };
       } in
       let rest = new_appear next nodes new.4 in

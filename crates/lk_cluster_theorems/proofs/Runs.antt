@@ -10,7 +10,7 @@ use Rattle.lk_program_fault.specs.declared.fault.ProgramFault.{ProgramFault}
 use Rattle.lk_transport.specs.Chains.{Chain}
 use Rattle.lk_node_process.specs.Revivals.{Surroundings}
 use Rattle.lk_node_process.specs.Turns.{DoesTurn}
-use Rattle.lk_sim_nodes.specs.declared.seat.Life.TheVariants.{Up, Down}
+use Rattle.lk_sim_nodes.specs.declared.sim_node.RunState.TheVariants.{Up, Down}
 use Rattle.lk_cluster_theorems.specs.Clusters.{Node, server_disks}
 use Rattle.lk_cluster_theorems.specs.Continuing.{node_of}
 use Rattle.lk_cluster_theorems.specs.Processes.{SaysIfHonest, Move, RunTo}

@@ -23,7 +23,7 @@ use Rattle.lk_server.specs.Servers.{ServerValue}
 use Rattle.lk_transport.specs.Chains.{Chain}
 use Rattle.lk_node_process.specs.Turns.{DoesTurn as ServerTurn}
 use Rattle.lk_sim.specs.Networks.{MayCome, nothing}
-use Rattle.lk_sim_nodes.specs.declared.seat.Life.{Life}
+use Rattle.lk_sim_nodes.specs.declared.sim_node.RunState.{RunState}
 use Rattle.lk_cluster_theorems.specs.Clusters.{Cluster, Network, ForgesNothing, WasGiven, OnlyDelivers, DoesTurn}
 use Rattle.lk_cluster_theorems.specs.Clusters.{EndsByTurn, Happens}
 use Rattle.lk_cluster_theorems.specs.Clusters.{HappenAll}
@@ -99,7 +99,7 @@ module _ (Metered observable Honest : Type 0) (genesis : Genesis) where
   so_sealed sent server frames came opened takes =
       record { frames = frames; opened = opened; has_key = takes.0; only_nodes_seal = takes.1 }
 
-  move_sealed : (n : ℕ) (old new : Life (ServerValue ReplicaValue)) (sent : List Datagram)
+  move_sealed : (n : ℕ) (old new : RunState (ServerValue ReplicaValue)) (sent : List Datagram)
       (does : IsMove Metered observable Honest genesis n old new)
       → MovesSealed Metered observable Honest genesis sent does
       → MayArrive Metered observable Honest genesis IsSealed sent does

@@ -3,8 +3,8 @@ use Rattle.std.proofs.Common.{◌≡◌, ◌≢◌, ◌<◌, ℕ, zero, suc, Lis
 use Rattle.lk_types.specs.declared.genesis.Genesis.{Genesis}
 use Rattle.lk_replica.specs.ReplicaValue.{ReplicaValue}
 use Rattle.lk_server.specs.Servers.{ServerValue}
-use Rattle.lk_sim_nodes.specs.Seats.{At, HasNo}
-use Rattle.lk_sim_nodes.specs.declared.seat.Life.TheVariants.{Up, Down}
+use Rattle.lk_sim_nodes.specs.SimNodes.{At, HasNo}
+use Rattle.lk_sim_nodes.specs.declared.sim_node.RunState.TheVariants.{Up, Down}
 use Rattle.lk_cluster_theorems.specs.Clusters.{Node}
 use Rattle.lk_cluster_theorems.specs.Continuing.{node_of}
 use Rattle.lk_cluster_theorems.specs.Processes.{Move, AreOwn, HasRun, MixRuns, AreNew}

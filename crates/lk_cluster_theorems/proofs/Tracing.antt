@@ -14,7 +14,7 @@ use Rattle.lk_replica.specs.ReplicaValue.{ReplicaValue}
 use Rattle.lk_server_replica.specs.Sayings.{SaysByGroup, IsSilenced, SaysOf}
 use Rattle.lk_server.specs.Servers.{ServerValue}
 use Rattle.lk_sim.specs.Networks.{MayCome, RecordsReplies}
-use Rattle.lk_sim_nodes.specs.Seats.{At}
+use Rattle.lk_sim_nodes.specs.SimNodes.{At}
 use Rattle.lk_sim.specs.Traces.{asked_note, happened}
 use Rattle.lk_sim.proofs.Networks.{heard, asked_maybe}
 use Rattle.lk_cluster_theorems.specs.Clusters.{Node, ServerHolds, server_disks, TracesStep, TracesGroup, steps_of}
@@ -43,19 +43,20 @@ module _ (genesis : Genesis) (n : ℕ) where
       record { request = asks.0; asks = asks.1; told = []; tells_of = refl; trace_is = refl } in
       (((asked_note asks.0 ++ []) ++ []) ++ rest.0, ((asked_note asks.0 ++ []) ++ [], rest.0, refl, j, rest.1))
 
-  module _ (seats : List Node) (index : ℕ) (node : Node) (at : At seats index node) (s : ServerValue ReplicaValue) where
+  module _ (sim_nodes : List Node) (index : ℕ) (node : Node) (at : At sim_nodes index node)
+      (s : ServerValue ReplicaValue) where
     -- what a step gives to be sent reads
     step_tells : (r mid : ReplicaValue) (i : Input) (step : StepSaid)
-        → StepGoes genesis n seats index node at s r i mid step → (sent : List Datagram) (trace : List Note)
+        → StepGoes genesis n sim_nodes index node at s r i mid step → (sent : List Datagram) (trace : List Note)
         → MayCome genesis sent (heard_by i)
-        → IsUpWith genesis n seats index node at s r sent trace → (told : List Note)
+        → IsUpWith genesis n sim_nodes index node at s r sent trace → (told : List Note)
         × RecordsReplies (batch_of n step.1) told
     step_tells r mid i step goes sent trace may w =
         let asks = asks_something genesis.cluster (heard_by i) in
         let since = asked_maybe ServerHolds server_disks table_meaning genesis _ sent trace w asks.0 in
         let h = happened genesis sent (trace ++ asked_note asks.0) in
         let hears = heard genesis sent trace (heard_by i) asks.0 may asks.1 in
-        let g = goes.0 h (fits genesis n seats index node at s r sent (trace ++ asked_note asks.0) since)
+        let g = goes.0 h (fits genesis n sim_nodes index node at s r sent (trace ++ asked_note asks.0) since)
         (input_fits h i hears) step.1 (λ l c. c) in
         tells_something (batch_of n step.1) (λ d c. let p = g.may d c in (said_by genesis n p.message, p.spelled))
 
@@ -75,14 +76,14 @@ module _ (genesis : Genesis) (n : ℕ) where
     trace_through : (is : List Input) (r q : ReplicaValue) (said : List StepSaid)
         → GoesThrough table_meaning n r is q said → (sent : List Datagram) (trace : List Note)
         → AllMay genesis sent (map heard_by is)
-        → IsUpWith genesis n seats index node at s r sent trace → Traced (map heard_by is) said
+        → IsUpWith genesis n sim_nodes index node at s r sent trace → Traced (map heard_by is) said
     trace_through [] r q said goes sent trace may w = ([], refl)
     trace_through (i ∷ is) r q said goes sent trace may w =
         let mid : ReplicaValue = goes.0 in
         let step : StepSaid = (goes.1, goes.2) in
         let told = step_tells r mid i step (goes.5, goes.6) sent trace may.0 w in
         let here = (asked_note (asks_something genesis.cluster (heard_by i)).0 ++ step.0) ++ told.0 in
-        let first = step_on genesis n seats index node at s r mid i step (goes.5, goes.6) here
+        let first = step_on genesis n sim_nodes index node at s r mid i step (goes.5, goes.6) here
         (step_joins i step told) sent trace may.0 w in
         let rest = trace_through is mid q goes.3 goes.7 (sent ++ batch_of n step.1) (trace ++ here)
         (all_later genesis sent (batch_of n step.1) (map heard_by is) may.1) first in
@@ -92,12 +93,12 @@ module _ (genesis : Genesis) (n : ℕ) where
     module _ (Metered : Type 0) (given : List (Option (List ℕ))) (r : ReplicaValue)
         (envelopes : List EnvelopeValue) (q : ReplicaValue)
         (sent : List Datagram) (trace : List Note) (may : AllMay genesis sent given)
-        (w : IsUpWith genesis n seats index node at s r sent trace) where
+        (w : IsUpWith genesis n sim_nodes index node at s r sent trace) where
       trace_by : (comes : SaysByGroup table_meaning IsTableText Metered r given envelopes q ⊎ IsSilenced envelopes q)
           → Traced given (steps_of Metered comes)
       trace_by (inl group) =
           let m = subst (λ (g : List (Option (List ℕ))). AllMay genesis sent g) (sym group.are_given) may in
-          let through = group.goes genesis n (remembers genesis n seats index node at s r sent trace w) n in
+          let through = group.goes genesis n (remembers genesis n sim_nodes index node at s r sent trace w) n in
           subst (λ (g : List (Option (List ℕ))). Traced g group.said) group.are_given
           (trace_through group.inputs r q group.said through sent trace m w)
       trace_by (inr silent) = trace_refused given

@@ -9,7 +9,7 @@ use Rattle.lk_auth.specs.Seals.{key_list}
 use Rattle.lk_auth.specs.declared.seals.Seals.{Seals}
 use Rattle.lk_server.specs.Premises.{IsNoNodeMessage}
 use Rattle.lk_server.specs.Servers.{ServerValue}
-use Rattle.lk_sim_nodes.specs.declared.seat.Life.{Life}
+use Rattle.lk_sim_nodes.specs.declared.sim_node.RunState.{RunState}
 use Rattle.lk_cluster_theorems.specs.Processes.{IsMove, Move}
 
 -- no key is given: neither for nodes nor for clients
@@ -34,7 +34,7 @@ pub record IsBrought (posted : List (SocketAddr × List ℕ)) (server : ServerVa
 -- `Metered` says that the devices count their calls, `observable` that the sockets reveal what they send, and `Honest`
 -- that the devices are honest
 module _ (Metered observable Honest : Type 0) (genesis : Genesis) where
-  module _ {n : ℕ} {old new : Life (ServerValue ReplicaValue)} where
+  module _ {n : ℕ} {old new : RunState (ServerValue ReplicaValue)} where
     -- so are the frames that come in this move, where these datagrams have been sent
     abbrev pub Brings : List (SocketAddr × List ℕ) → IsMove Metered observable Honest genesis n old new → Type 0
     Brings posted (inl starts) = Unit {0}

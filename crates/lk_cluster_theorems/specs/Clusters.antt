@@ -30,31 +30,38 @@ use Rattle.lk_transport.specs.declared.received_watch.ReceivedWatch.{ReceivedWat
 use Rattle.lk_sim.specs.Events.{ReplacesSeat, Adds}
 use Rattle.lk_sim.specs.Networks.{MayCome, AreAsking, RecordsReplies, RestartsBy, Appears, Restarts, IsStillDown, Stops}
 use Rattle.lk_sim.specs.Networks.{nothing}
-use Rattle.lk_sim.specs.Scenes.{Scene}
+use Rattle.lk_sim.specs.WorldStates.{WorldState}
 use Rattle.lk_sim.specs.Traces.{asked_note}
-use Rattle.lk_sim_nodes.specs.declared.seat.Life.{Life}
-use Rattle.lk_sim_nodes.specs.declared.seat.Life.TheVariants.{Up, Down}
-use Rattle.lk_sim_nodes.specs.declared.seat.Seat.{Seat}
+use Rattle.lk_sim_nodes.specs.declared.sim_node.RunState.{RunState}
+use Rattle.lk_sim_nodes.specs.declared.sim_node.RunState.TheVariants.{Up, Down}
+use Rattle.lk_sim_nodes.specs.declared.sim_node.SimNode.{SimNode}
 
 -- a node: its number, and that it is up as a server, or down with its disks
 abbrev pub Node : Type 0
-Node = Seat (ServerValue ReplicaValue)
+Node = SimNode (ServerValue ReplicaValue)
 
 -- the genesis of a cluster, its nodes, all datagrams that they have produced, in order, including those to themselves
 -- and those whose send has failed, and its trace
 abbrev pub Cluster : Type 0
-Cluster = Scene (ServerValue ReplicaValue)
+Cluster = WorldState (ServerValue ReplicaValue)
 
 -- the same life, node and cluster with the replica of each server in its place: the guarantee is stated for these
-abbrev pub life_of : Life (ServerValue ReplicaValue) → Life ReplicaValue
-life_of (Up s) = Up s.replica
-life_of (Down d) = Down d
+abbrev pub run_state_of : RunState (ServerValue ReplicaValue) → RunState ReplicaValue
+run_state_of (Up s) = Up s.replica
+run_state_of (Down d) = Down d
 
-abbrev pub seat_of : Node → Seat ReplicaValue
-seat_of s = record { number = s.number; life = life_of s.life }
+abbrev pub sim_node_of : Node → SimNode ReplicaValue
+sim_node_of s = record { number = s.number; run_state = run_state_of s.run_state }
 
-abbrev pub scene_of : Cluster → Scene ReplicaValue
-scene_of c = record { genesis = c.genesis; seats = map seat_of c.seats; sent = c.sent; trace = c.trace; ended = None }
+abbrev pub world_state_of : Cluster → WorldState ReplicaValue
+world_state_of c = record {
+  genesis = c.genesis;
+  sim_nodes = map sim_node_of c.sim_nodes;
+  sent = c.sent;
+  trace =
+      c.trace;
+  ended = None;
+}
 
 -- what a server holds, and what its disks hold
 abbrev pub ServerHolds : ServerValue ReplicaValue → Genesis → ℕ → Holding → Type 0
@@ -64,7 +71,7 @@ abbrev pub server_disks : ServerValue ReplicaValue → Side → Disk
 server_disks s = disks s.replica.store
 
 -- the two disks of a node, up or down
-abbrev pub disks_in : Life (ServerValue ReplicaValue) → Side → Disk
+abbrev pub disks_in : RunState (ServerValue ReplicaValue) → Side → Disk
 disks_in (Up server) = server_disks server
 disks_in (Down device) = disk_of device
 
@@ -148,11 +155,11 @@ pub record Starts (old new : Cluster) : Type 0 where
 pub record Idles (observable : Type 0) (old new : Cluster) : Type 0 where
   pub node : Node
   pub next : Node
-  pub replaces : ReplacesSeat old.seats new.seats node next
+  pub replaces : ReplacesSeat old.sim_nodes new.sim_nodes node next
   pub server : ServerValue ReplicaValue
-  pub was : node.life ≡ Up server
+  pub was : node.run_state ≡ Up server
   pub after : ServerValue ReplicaValue
-  pub up : next.life ≡ Up after
+  pub up : next.run_state ≡ Up after
   pub idle : ((frames : List (SocketAddr × List ℕ)) × IsIdle observable frames server after)
       ⊎ ((news : HostNews) × (asked : Option ReceivedProbe) × (reported : Option Reported)
       × (watched : Option ReceivedWatch) × ActsBeside observable news asked reported watched server after)
@@ -167,11 +174,11 @@ module _ (May : Network) (Metered observable : Type 0) where
   pub record DoesTurn (old new : Cluster) : Type 0 where
     pub node : Node
     pub next : Node
-    pub replaces : ReplacesSeat old.seats new.seats node next
+    pub replaces : ReplacesSeat old.sim_nodes new.sim_nodes node next
     pub server : ServerValue ReplicaValue
-    pub was : node.life ≡ Up server
+    pub was : node.run_state ≡ Up server
     pub after : ServerValue ReplicaValue
-    pub up : next.life ≡ Up after
+    pub up : next.run_state ≡ Up after
     pub came : List (SocketAddr × List ℕ)
     pub may : May old.genesis old.sent server came
     pub turn : Turn (Says Metered) observable came server after
@@ -185,12 +192,12 @@ module _ (May : Network) (Metered observable : Type 0) where
   pub record EndsByTurn (old new : Cluster) : Type 0 where
     pub node : Node
     pub next : Node
-    pub replaces : ReplacesSeat old.seats new.seats node next
+    pub replaces : ReplacesSeat old.sim_nodes new.sim_nodes node next
     pub server : ServerValue ReplicaValue
-    pub was : node.life ≡ Up server
+    pub was : node.run_state ≡ Up server
     pub after : ServerValue ReplicaValue
     pub left : Memory
-    pub down : next.life ≡ Down left
+    pub down : next.run_state ≡ Down left
     pub same : (s : Side) → disk_of left s ≡ server_disks after s
     pub came : List (SocketAddr × List ℕ)
     pub may : May old.genesis old.sent server came

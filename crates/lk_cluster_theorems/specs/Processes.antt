@@ -22,9 +22,9 @@ use Rattle.lk_program_fault.specs.declared.fault.ProgramFault.{ProgramFault}
 use Rattle.lk_node_process.specs.Revivals.{IsServerStarted, IsRefusedWith}
 use Rattle.lk_node_process.specs.Turns.{DoesTurnWith, HasFollowedNoStranger, HasFollowedStranger, TellsFailure}
 use Rattle.lk_node_process.specs.Turns.{envelopes_in}
-use Rattle.lk_sim_nodes.specs.Seats.{At, HasNo}
-use Rattle.lk_sim_nodes.specs.declared.seat.Life.{Life}
-use Rattle.lk_sim_nodes.specs.declared.seat.Life.TheVariants.{Up, Down}
+use Rattle.lk_sim_nodes.specs.SimNodes.{At, HasNo}
+use Rattle.lk_sim_nodes.specs.declared.sim_node.RunState.{RunState}
+use Rattle.lk_sim_nodes.specs.declared.sim_node.RunState.TheVariants.{Up, Down}
 use Rattle.lk_cluster_theorems.specs.Clusters.{Node, Cluster, Network, Says, TracesGroup, steps_of, server_disks}
 use Rattle.lk_cluster_theorems.specs.Clusters.{disks_in, HappenAll, IsReachable}
 use Rattle.lk_cluster_theorems.specs.Continuing.{node_of}
@@ -39,7 +39,7 @@ SaysIfHonest Metered Honest old given envelopes new = Honest → Says Metered ol
 module _ (Metered observable Honest : Type 0) (genesis : Genesis) where
   -- ---- the moves of the node of this number in a cluster of this genesis, from one state to another
 
-  module _ (n : ℕ) (old new : Life (ServerValue ReplicaValue)) where
+  module _ (n : ℕ) (old new : RunState (ServerValue ReplicaValue)) where
     -- it was down, and has been started from what its disks had
     pub record StartsNode : Type 0 where
       pub device : Memory
@@ -103,11 +103,11 @@ module _ (Metered observable Honest : Type 0) (genesis : Genesis) where
   pub record Move : Type 0 where
     pub index : ℕ
     pub number : ℕ
-    pub before : Life (ServerValue ReplicaValue)
-    pub after : Life (ServerValue ReplicaValue)
+    pub before : RunState (ServerValue ReplicaValue)
+    pub after : RunState (ServerValue ReplicaValue)
     pub does : IsMove number before after
 
-  module _ {n : ℕ} {old new : Life (ServerValue ReplicaValue)} where
+  module _ {n : ℕ} {old new : RunState (ServerValue ReplicaValue)} where
     -- the envelopes that it gives to be sent
     abbrev pub envelopes_by : IsMove n old new → List EnvelopeValue
     envelopes_by (inl starts) = []
@@ -136,7 +136,7 @@ module _ (Metered observable Honest : Type 0) (genesis : Genesis) where
     TracesTurn n (inr idle) notes = notes ≡ []
 
     -- what a move adds to it
-    abbrev pub Traces : {n : ℕ} {old new : Life (ServerValue ReplicaValue)} → IsMove n old new → List Note → Type 0
+    abbrev pub Traces : {n : ℕ} {old new : RunState (ServerValue ReplicaValue)} → IsMove n old new → List Note → Type 0
     Traces {n = n} (inl starts) notes = notes ≡ (starts.starts_as.comes_up honest).notes
     Traces {n = n} (inr (inl refused)) notes = notes ≡ []
     Traces {n = n} (inr (inr (inl turns))) notes = TracesTurn n turns.turn.turn notes
@@ -155,14 +155,14 @@ module _ (Metered observable Honest : Type 0) (genesis : Genesis) where
 
   -- each begins in the state that the node at its place is in then
   abbrev pub Fit : List Node → List Move → Type 0
-  Fit seats [] = Unit {0}
-  Fit seats (m ∷ moves) =
-      At seats m.index (node_of m.number m.before) × Fit (set seats m.index (node_of m.number m.after)) moves
+  Fit sim_nodes [] = Unit {0}
+  Fit sim_nodes (m ∷ moves) =
+      At sim_nodes m.index (node_of m.number m.before) × Fit (set sim_nodes m.index (node_of m.number m.after)) moves
 
   -- the nodes after them
-  abbrev pub seats_after : List Node → List Move → List Node
-  seats_after seats [] = seats
-  seats_after seats (m ∷ moves) = seats_after (set seats m.index (node_of m.number m.after)) moves
+  abbrev pub sim_nodes_after : List Node → List Move → List Node
+  sim_nodes_after sim_nodes [] = sim_nodes
+  sim_nodes_after sim_nodes (m ∷ moves) = sim_nodes_after (set sim_nodes m.index (node_of m.number m.after)) moves
 
   -- the datagrams that they give to be sent, in order
   abbrev pub sent_by : List Move → List Datagram
@@ -202,15 +202,15 @@ module _ (Metered observable Honest : Type 0) (genesis : Genesis) where
 
   -- these moves mix runs of the nodes in any order: each is made at a place of the cluster, and those of each node
   -- follow one another from the state that it is in
-  pub record MixRuns (seats : List Node) (moves : List Move) : Type 0 where
-    pub placed : AllByRecursion (λ (m : Move). m.index < length seats) moves
-    pub runs : (index : ℕ) (node : Node) → At seats index node → HasRun index node moves
+  pub record MixRuns (sim_nodes : List Node) (moves : List Move) : Type 0 where
+    pub placed : AllByRecursion (λ (m : Move). m.index < length sim_nodes) moves
+    pub runs : (index : ℕ) (node : Node) → At sim_nodes index node → HasRun index node moves
 
   -- these moves mix this run of the node at that place with runs of the others
-  pub record MixWith (seats : List Node) (index : ℕ) (own : List Move) (moves : List Move) : Type 0 where
-    pub placed : AllByRecursion (λ (m : Move). m.index < length seats) moves
+  pub record MixWith (sim_nodes : List Node) (index : ℕ) (own : List Move) (moves : List Move) : Type 0 where
+    pub placed : AllByRecursion (λ (m : Move). m.index < length sim_nodes) moves
     pub are_own : AreOwn index own moves
-    pub others : (k : ℕ) (node : Node) → k ≢ index → At seats k node → HasRun k node moves
+    pub others : (k : ℕ) (node : Node) → k ≢ index → At sim_nodes k node → HasRun k node moves
 
   -- these moves lead on from a cluster to a reachable one: the nodes have made them, what they gave to be sent has
   -- joined what has been sent, and these notes the trace
@@ -221,7 +221,7 @@ module _ (Metered observable Honest : Type 0) (genesis : Genesis) where
     pub follows : HappenAll May Metered observable old events cluster
     pub reachable : IsReachable May Metered observable first cluster
     pub keeps_genesis : cluster.genesis ≡ old.genesis
-    pub seats : cluster.seats ≡ seats_after old.seats moves
+    pub sim_nodes : cluster.sim_nodes ≡ sim_nodes_after old.sim_nodes moves
     pub sent : cluster.sent ≡ old.sent ++ sent_by moves
     pub trace : cluster.trace ≡ old.trace ++ notes
 
@@ -237,7 +237,7 @@ module _ (Metered observable Honest : Type 0) (genesis : Genesis) where
 abbrev pub AreNewAfter : List Node → List Node → Type 0
 AreNewAfter earlier [] = Unit {0}
 AreNewAfter earlier (node ∷ nodes) =
-    (device : Memory) × (node.life ≡ Down device)
+    (device : Memory) × (node.run_state ≡ Down device)
     × ((s : Side) → disk_of device s ≡ record { synced = []; unsynced = [] }) × HasNo earlier node.number
     × AreNewAfter (earlier ++ node ∷ []) nodes
 
@@ -246,4 +246,4 @@ AreNew nodes = AreNewAfter [] nodes
 
 -- the cluster of these nodes, in which nothing has happened
 abbrev pub new_cluster : Genesis → List Node → Cluster
-new_cluster genesis nodes = record { genesis = genesis; seats = nodes; sent = []; trace = []; ended = None }
+new_cluster genesis nodes = record { genesis = genesis; sim_nodes = nodes; sent = []; trace = []; ended = None }

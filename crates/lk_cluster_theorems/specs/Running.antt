@@ -8,12 +8,12 @@ use Rattle.lk_replica.specs.ReplicaValue.{ReplicaValue}
 use Rattle.lk_server.specs.Servers.{ServerValue}
 use Rattle.lk_program_fault.specs.declared.fault.ProgramFault.{ProgramFault}
 use Rattle.lk_node_process.specs.Revivals.{Surroundings}
-use Rattle.lk_sim_nodes.specs.Seats.{At}
-use Rattle.lk_sim_nodes.specs.declared.seat.Life.{Life}
-use Rattle.lk_sim_nodes.specs.declared.seat.Life.TheVariants.{Up, Down}
+use Rattle.lk_sim_nodes.specs.SimNodes.{At}
+use Rattle.lk_sim_nodes.specs.declared.sim_node.RunState.{RunState}
+use Rattle.lk_sim_nodes.specs.declared.sim_node.RunState.TheVariants.{Up, Down}
 use Rattle.lk_cluster_theorems.specs.Clusters.{Cluster, ForgesNothing, IsReachable, server_disks}
 use Rattle.lk_cluster_theorems.specs.Continuing.{node_of, HasNode}
-use Rattle.lk_cluster_theorems.specs.Processes.{Move, RunTo, MixWith, MayAllArrive, GoOn, seats_after}
+use Rattle.lk_cluster_theorems.specs.Processes.{Move, RunTo, MixWith, MayAllArrive, GoOn, sim_nodes_after}
 use Rattle.lk_cluster_theorems.specs.Sealing.{IsSealed, AllMoveSealed}
 use Rattle.lk_cluster_theorems.specs.NodeRuns.{NodeRun, BrokenNodeRun, LedNodeRun, RefusedStart, run_moves}
 use Rattle.lk_cluster_theorems.specs.NodeRuns.{broken_run_moves, led_run_moves, refused_moves}
@@ -33,19 +33,19 @@ module _ (Metered observable Honest : Type 0) (honest : Honest) (genesis : Genes
   -- of them is forged, given what any node has sent before; or whatever arrives, if the nodes have had a key from the
   -- beginning, under which only they have sealed
   pub record ContinuesAmong (own : List (Move Metered observable Honest old.genesis))
-      (life : Life (ServerValue ReplicaValue)) : Type 0 where
-    pub run : RunTo Metered observable Honest old.genesis index (node_of n (Down at.device)) own (node_of n life)
+      (run_state : RunState (ServerValue ReplicaValue)) : Type 0 where
+    pub run : RunTo Metered observable Honest old.genesis index (node_of n (Down at.device)) own (node_of n run_state)
     pub go_on : (moves : List (Move Metered observable Honest old.genesis))
-        → MixWith Metered observable Honest old.genesis old.seats index own moves
+        → MixWith Metered observable Honest old.genesis old.sim_nodes index own moves
         → MayAllArrive Metered observable Honest old.genesis ForgesNothing old.sent moves
         → GoOn Metered observable Honest old.genesis honest ForgesNothing genesis old moves
-        × At (seats_after Metered observable Honest old.genesis old.seats moves) index (node_of n life)
+        × At (sim_nodes_after Metered observable Honest old.genesis old.sim_nodes moves) index (node_of n run_state)
     pub go_on_sealed : IsReachable IsSealed Metered observable genesis old
         → (moves : List (Move Metered observable Honest old.genesis))
-        → MixWith Metered observable Honest old.genesis old.seats index own moves
+        → MixWith Metered observable Honest old.genesis old.sim_nodes index own moves
         → AllMoveSealed Metered observable Honest old.genesis old.sent moves
         → GoOn Metered observable Honest old.genesis honest IsSealed genesis old moves
-        × At (seats_after Metered observable Honest old.genesis old.seats moves) index (node_of n life)
+        × At (sim_nodes_after Metered observable Honest old.genesis old.sim_nodes moves) index (node_of n run_state)
 
   -- it has done this many turns, and is the server that the program has returned
   pub record RunsIn (count : ℕ) (ended : ServerValue ReplicaValue) : Type 0 where

@@ -12,7 +12,7 @@ use Rattle.lk_auth.specs.declared.seals.Seals.{Seals}
 use Rattle.lk_address_book.specs.Addresses.{filter_of}
 use Rattle.lk_address_book.specs.Filters.{all_filtered, is_beside_protocol}
 use Rattle.lk_server.specs.Servers.{ServerValue}
-use Rattle.lk_sim_nodes.specs.declared.seat.Life.{Life}
+use Rattle.lk_sim_nodes.specs.declared.sim_node.RunState.{RunState}
 use Rattle.lk_cluster_theorems.specs.Clusters.{WasGiven}
 use Rattle.lk_cluster_theorems.specs.Processes.{IsMove, Move, envelopes_by}
 
@@ -49,7 +49,7 @@ TakesSealed sent server frames =
 -- that the devices are honest
 module _ (Metered observable Honest : Type 0) (genesis : Genesis) where
   -- so it is in this move
-  abbrev pub MovesSealed : {n : ℕ} {old new : Life (ServerValue ReplicaValue)} → List Datagram
+  abbrev pub MovesSealed : {n : ℕ} {old new : RunState (ServerValue ReplicaValue)} → List Datagram
       → IsMove Metered observable Honest genesis n old new → Type 0
   MovesSealed sent (inl starts) = Unit {0}
   MovesSealed sent (inr (inl refused)) = Unit {0}

@@ -7,7 +7,7 @@ use Rattle.lk_memory_disk.specs.Memory.{Memory, disk_of}
 use Rattle.lk_replica.specs.ReplicaValue.{ReplicaValue}
 use Rattle.lk_server.specs.Servers.{ServerValue}
 use Rattle.lk_node_process.specs.Revivals.{Surroundings}
-use Rattle.lk_sim_nodes.specs.declared.seat.Life.TheVariants.{Down}
+use Rattle.lk_sim_nodes.specs.declared.sim_node.RunState.TheVariants.{Down}
 use Rattle.lk_cluster_theorems.specs.Carrying.{AllBrought}
 use Rattle.lk_cluster_theorems.specs.Clusters.{Node}
 use Rattle.lk_cluster_theorems.specs.Continuing.{node_of}

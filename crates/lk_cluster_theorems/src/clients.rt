@@ -5,7 +5,7 @@ ghost use Rattle.std.specs.declared.net.socket_addr.SocketAddr.{SocketAddr};
 ghost use Rattle.lk_types.specs.declared.answer.Answer.{Answer};
 ghost use Rattle.lk_node_interface.specs.declared.note.Note.{Note};
 ghost use Rattle.lk_replica.specs.ReplicaValue.{ReplicaValue};
-ghost use Rattle.lk_sim.specs.Scenes.{Scene};
+ghost use Rattle.lk_sim.specs.WorldStates.{WorldState};
 ghost use Rattle.lk_client.specs.Rules.{SendsOnly};
 ghost use Rattle.lk_client.specs.declared.question.Question.{Question};
 ghost use Rattle.lk_guarantees.specs.ExactlyOnce.{FollowsRule};
@@ -32,7 +32,8 @@ pub fn runs_follow_the_rule()
 /// The answer that a run returns was given to its request by a node, if what reaches the client is not forged. So the
 /// next run may ask.
 pub fn a_run_returns_a_given_answer()
-    ensures { (world : Scene ReplicaValue) → MeetsGuarantee world → (q : Question) → q.cluster ≡ world.genesis.cluster
+    ensures { (world : WorldState ReplicaValue) → MeetsGuarantee world → (q : Question) → q.cluster
+        ≡ world.genesis.cluster
         → (d : SocketAddr × List ℕ) (answer : Answer) → BringsAnswer q d answer → MayReach world.genesis world.sent q d
         → HasAnswer world.trace q.request answer }
 {}

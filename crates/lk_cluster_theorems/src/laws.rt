@@ -25,22 +25,22 @@ ghost use Rattle.lk_transport.specs.Chains.{Chain};
 ghost use Rattle.lk_node_process.specs.Revivals.{IsRestartRefused, IsRefusedWith, Surroundings};
 ghost use Rattle.lk_node_process.specs.Turns.{DoesTurn, TellsFailure};
 ghost use Rattle.lk_sim.specs.Networks.{MayCome};
-ghost use Rattle.lk_sim_nodes.specs.Seats.{At};
-ghost use Rattle.lk_sim_nodes.specs.declared.seat.Life.{Life};
-ghost use Rattle.lk_sim_nodes.specs.declared.seat.Life.TheVariants.{Up, Down};
+ghost use Rattle.lk_sim_nodes.specs.SimNodes.{At};
+ghost use Rattle.lk_sim_nodes.specs.declared.sim_node.RunState.{RunState};
+ghost use Rattle.lk_sim_nodes.specs.declared.sim_node.RunState.TheVariants.{Up, Down};
 ghost use Rattle.lk_guarantees.specs.ComingBack.{IsExcused};
 ghost use Rattle.lk_guarantees.specs.Converging.{Converges};
 ghost use Rattle.lk_guarantees.specs.ExactlyOnce.{AreExactlyOnce};
 ghost use Rattle.lk_guarantees.specs.Linear.{IsLinearizable};
 ghost use Rattle.lk_guarantees.specs.Guarantee.{MeetsGuarantee};
 ghost use Rattle.lk_cluster_theorems.specs.Clusters.{Node, Cluster, IsReachable, ForgesNothing, HasStarted, Says};
-ghost use Rattle.lk_cluster_theorems.specs.Clusters.{OnlyDelivers, TracesGroup, steps_of, scene_of, server_disks};
+ghost use Rattle.lk_cluster_theorems.specs.Clusters.{OnlyDelivers, TracesGroup, steps_of, world_state_of, server_disks};
 ghost use Rattle.lk_cluster_theorems.specs.Clusters.{disks_in};
 ghost use Rattle.lk_cluster_theorems.specs.Continuing.{Continues, AddsNothing, HasNode, node_of};
 ghost use Rattle.lk_cluster_theorems.specs.Forgetting.{HasEmptyDisks, MustBeRemembered};
 ghost use Rattle.lk_cluster_theorems.specs.Processes.{SaysIfHonest};
 ghost use Rattle.lk_cluster_theorems.specs.Processes.{Move, Fit, MayAllArrive, RunTo, HasRun, MixRuns};
-ghost use Rattle.lk_cluster_theorems.specs.Processes.{all_envelopes, seats_after, TraceAll, GoOn, AreNew};
+ghost use Rattle.lk_cluster_theorems.specs.Processes.{all_envelopes, sim_nodes_after, TraceAll, GoOn, AreNew};
 ghost use Rattle.lk_cluster_theorems.specs.NodeRuns.{ForEachDown, ForEachUp, NodeRun, BrokenNodeRun, LedNodeRun};
 ghost use Rattle.lk_cluster_theorems.specs.NodeRuns.{RefusedStart, run_moves, broken_run_moves, led_run_moves};
 ghost use Rattle.lk_cluster_theorems.specs.NodeRuns.{refused_moves};
@@ -64,7 +64,8 @@ use lk_transport::socket::DatagramSocket;
 /// processes that people run meet the guarantee of a world of replicas (after IronFleet: Hawblitzel et al., 2015).
 pub fn a_cluster_meets_the_guarantee<D: LogDisk, S: DatagramSocket>()
     ensures { (genesis : GenesisValue) (cluster : Cluster)
-        → IsReachable ForgesNothing D.is_metered S.is_observable genesis cluster → MeetsGuarantee (scene_of cluster) }
+        → IsReachable ForgesNothing D.is_metered S.is_observable genesis cluster → MeetsGuarantee
+        (world_state_of cluster) }
 {}
 
 /// The history that clients of such a cluster see is linearizable (Herlihy and Wing, 1990).
@@ -90,7 +91,7 @@ pub fn a_cluster_executes_exactly_once<D: LogDisk, S: DatagramSocket>()
 /// Nodes of such a cluster that have executed as many commands keep the same, to the byte.
 pub fn a_cluster_converges<D: LogDisk, S: DatagramSocket>()
     ensures { (genesis : GenesisValue) (cluster : Cluster)
-        → IsReachable ForgesNothing D.is_metered S.is_observable genesis cluster → Converges (scene_of cluster) }
+        → IsReachable ForgesNothing D.is_metered S.is_observable genesis cluster → Converges (world_state_of cluster) }
 {
     a_cluster_meets_the_guarantee::<D, S>();
     nodes_converge();
@@ -121,7 +122,7 @@ pub fn a_sealed_cluster_forges_nothing<D: LogDisk, S: DatagramSocket>()
 /// So a cluster whose nodes share such a key meets the guarantee.
 pub fn a_sealed_cluster_meets_the_guarantee<D: LogDisk, S: DatagramSocket>()
     ensures { (genesis : GenesisValue) (cluster : Cluster)
-        → IsReachable IsSealed D.is_metered S.is_observable genesis cluster → MeetsGuarantee (scene_of cluster) }
+        → IsReachable IsSealed D.is_metered S.is_observable genesis cluster → MeetsGuarantee (world_state_of cluster) }
 {
     a_sealed_cluster_forges_nothing::<D, S>();
     a_cluster_meets_the_guarantee::<D, S>();
@@ -202,8 +203,8 @@ pub fn a_last_turn_continues_a_cluster<D: LogDisk, S: DatagramSocket>()
 pub fn a_stop_continues_a_cluster<D: LogDisk, S: DatagramSocket>()
     ensures { (genesis : GenesisValue) (cluster : Cluster)
         → IsReachable ForgesNothing D.is_metered S.is_observable genesis cluster
-        → (index n : ℕ) (life : Life (ServerValue ReplicaValue)) → HasNode cluster index n life
-        → (left : Memory) → ((s : Side) → (k : ℕ) × (disk_of left s ≡ after_stop k (disks_in life s)))
+        → (index n : ℕ) (run_state : RunState (ServerValue ReplicaValue)) → HasNode cluster index n run_state
+        → (left : Memory) → ((s : Side) → (k : ℕ) × (disk_of left s ≡ after_stop k (disks_in run_state s)))
         → Continues ForgesNothing D.is_metered S.is_observable genesis cluster index n (Down left) [] AddsNothing }
 {}
 
@@ -224,7 +225,7 @@ pub fn processes_continue_a_cluster<D: LogDisk, S: DatagramSocket>()
     ensures { (honest : D.is_honest) (genesis : GenesisValue) (cluster : Cluster)
         → IsReachable ForgesNothing D.is_metered S.is_observable genesis cluster
         → (moves : List (Move D.is_metered S.is_observable D.is_honest cluster.genesis))
-        → Fit D.is_metered S.is_observable D.is_honest cluster.genesis cluster.seats moves
+        → Fit D.is_metered S.is_observable D.is_honest cluster.genesis cluster.sim_nodes moves
         → MayAllArrive D.is_metered S.is_observable D.is_honest cluster.genesis ForgesNothing cluster.sent moves
         → GoOn D.is_metered S.is_observable D.is_honest cluster.genesis honest ForgesNothing genesis cluster moves }
 {}
@@ -234,7 +235,7 @@ pub fn sealed_processes_continue_a_cluster<D: LogDisk, S: DatagramSocket>()
     ensures { (honest : D.is_honest) (genesis : GenesisValue) (cluster : Cluster)
         → IsReachable IsSealed D.is_metered S.is_observable genesis cluster
         → (moves : List (Move D.is_metered S.is_observable D.is_honest cluster.genesis))
-        → Fit D.is_metered S.is_observable D.is_honest cluster.genesis cluster.seats moves
+        → Fit D.is_metered S.is_observable D.is_honest cluster.genesis cluster.sim_nodes moves
         → AllMoveSealed D.is_metered S.is_observable D.is_honest cluster.genesis cluster.sent moves
         → GoOn D.is_metered S.is_observable D.is_honest cluster.genesis honest IsSealed genesis cluster moves }
 {
@@ -289,15 +290,15 @@ pub fn a_node_run_is_made_of_moves<D: LogDisk, S: DatagramSocket>()
 
 /// Runs of the nodes of a cluster that are mixed in any order fit it, and leave each node as its own run has left it.
 pub fn mixed_runs_fit<D: LogDisk, S: DatagramSocket>()
-    ensures fit { (genesis : GenesisValue) (seats : List Node)
+    ensures fit { (genesis : GenesisValue) (sim_nodes : List Node)
         (moves : List (Move D.is_metered S.is_observable D.is_honest genesis))
-        → MixRuns D.is_metered S.is_observable D.is_honest genesis seats moves
-        → Fit D.is_metered S.is_observable D.is_honest genesis seats moves }
-    ensures leave { (genesis : GenesisValue) (seats : List Node)
+        → MixRuns D.is_metered S.is_observable D.is_honest genesis sim_nodes moves
+        → Fit D.is_metered S.is_observable D.is_honest genesis sim_nodes moves }
+    ensures leave { (genesis : GenesisValue) (sim_nodes : List Node)
         (moves : List (Move D.is_metered S.is_observable D.is_honest genesis))
-        (index : ℕ) (node : Node) → At seats index node
+        (index : ℕ) (node : Node) → At sim_nodes index node
         → (has : HasRun D.is_metered S.is_observable D.is_honest genesis index node moves)
-        → At (seats_after D.is_metered S.is_observable D.is_honest genesis seats moves) index has.last }
+        → At (sim_nodes_after D.is_metered S.is_observable D.is_honest genesis sim_nodes moves) index has.last }
 {}
 
 /// The run of one node continues its cluster, where no other node moves: the node is then as its run has left it, its
@@ -305,9 +306,10 @@ pub fn mixed_runs_fit<D: LogDisk, S: DatagramSocket>()
 pub fn a_process_continues_a_cluster<D: LogDisk, S: DatagramSocket>()
     ensures { (honest : D.is_honest) (genesis : GenesisValue) (cluster : Cluster)
         → IsReachable ForgesNothing D.is_metered S.is_observable genesis cluster
-        → (index n : ℕ) (life last : Life (ServerValue ReplicaValue)) → HasNode cluster index n life
+        → (index n : ℕ) (run_state last : RunState (ServerValue ReplicaValue)) → HasNode cluster index n run_state
         → (own : List (Move D.is_metered S.is_observable D.is_honest cluster.genesis))
-        → RunTo D.is_metered S.is_observable D.is_honest cluster.genesis index (node_of n life) own (node_of n last)
+        → RunTo D.is_metered S.is_observable D.is_honest cluster.genesis index (node_of n run_state) own
+        (node_of n last)
         → MayAllArrive D.is_metered S.is_observable D.is_honest cluster.genesis ForgesNothing cluster.sent own
         → Continues ForgesNothing D.is_metered S.is_observable genesis cluster index n last
         (all_envelopes D.is_metered S.is_observable D.is_honest cluster.genesis own)
@@ -415,9 +417,9 @@ pub fn a_restart_comes_back<D: LogDisk, S: DatagramSocket>()
 pub fn no_node_forgets<D: LogDisk, S: DatagramSocket>()
     ensures { (genesis : GenesisValue) (cluster : Cluster)
         → IsReachable ForgesNothing D.is_metered S.is_observable genesis cluster
-        → (node : Node) → Contains cluster.seats node
+        → (node : Node) → Contains cluster.sim_nodes node
         → (m : NodeMessage) → MustBeRemembered m → HasSent cluster.genesis cluster.sent node.number m
-        → HasEmptyDisks node.life → ⊥ }
+        → HasEmptyDisks node.run_state → ⊥ }
 {
     a_cluster_meets_the_guarantee::<D, S>();
 }

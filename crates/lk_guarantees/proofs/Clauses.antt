@@ -27,14 +27,14 @@ use Rattle.lk_sim.specs.Packed.{LeavesPackedState}
 use Rattle.lk_sim.specs.Guarantees.{WorldGuarantee}
 use Rattle.lk_sim.specs.Guarantees as world
 use Rattle.lk_sim.specs.Runs.{Runs}
-use Rattle.lk_sim.specs.Scenes.{Scene}
-use Rattle.lk_sim_nodes.specs.Seats.{At}
+use Rattle.lk_sim.specs.WorldStates.{WorldState}
+use Rattle.lk_sim_nodes.specs.SimNodes.{At}
 use Rattle.lk_sim.specs.States.{SumsUpChosen}
 use Rattle.lk_sim.specs.declared.end.RunEnd.{RunEnd}
 use Rattle.lk_sim.specs.declared.event.Event.{Event}
 use Rattle.lk_sim.specs.declared.event.Event.TheVariants as event
 use Rattle.lk_sim_nodes.specs.declared.refused.Refused.{Refused}
-use Rattle.lk_sim_nodes.specs.declared.seat.Seat.{Seat}
+use Rattle.lk_sim_nodes.specs.declared.sim_node.SimNode.{SimNode}
 use Rattle.lk_guarantees.proofs.Doing.{is_done, refused, runs}
 use Rattle.lk_guarantees.proofs.Executing.{has_executed, is_part}
 use Rattle.lk_guarantees.proofs.Falling.{ends_by_device, runs_end}
@@ -105,19 +105,19 @@ locks_behave = record {
   Compacts = λ old new came. CompactsTo table_meaning old new came;
 }
 
-executed : (genesis : Genesis) (seats : List (Seat ReplicaValue)) (sent : List Datagram)
-    → ((k : ℕ) (s : Seat ReplicaValue) → At seats k s
+executed : (genesis : Genesis) (sim_nodes : List (SimNode ReplicaValue)) (sent : List Datagram)
+    → ((k : ℕ) (s : SimNode ReplicaValue) → At sim_nodes k s
     → SumsUpChosen (λ r. r.node.learner.whole) (disks_by locks_behave) table_meaning genesis sent s)
-    → HaveExecuted genesis seats sent
-executed genesis seats sent all s here r up =
+    → HaveExecuted genesis sim_nodes sent
+executed genesis sim_nodes sent all s here r up =
     let e = (all here.0 s (here.1, here.2)).executed r up in
     has_executed genesis sent r e.0 e.1 e.2
 
-snapshots : (genesis : Genesis) (seats : List (Seat ReplicaValue)) (sent : List Datagram)
-    → ((k : ℕ) (s : Seat ReplicaValue) → At seats k s
+snapshots : (genesis : Genesis) (sim_nodes : List (SimNode ReplicaValue)) (sent : List Datagram)
+    → ((k : ℕ) (s : SimNode ReplicaValue) → At sim_nodes k s
     → SumsUpChosen (λ r. r.node.learner.whole) (disks_by locks_behave) table_meaning genesis sent s)
-    → HaveSnapshots genesis seats sent
-snapshots genesis seats sent all s here = has_snapshots genesis sent s (all here.0 s (here.1, here.2))
+    → HaveSnapshots genesis sim_nodes sent
+snapshots genesis sim_nodes sent all s here = has_snapshots genesis sent s (all here.0 s (here.1, here.2))
 
 asked : (genesis : Genesis) (sent : List Datagram) (trace : List Note)
     → ((L : List Command) → Chosen genesis sent L → (r : RequestValue) → Contains L (Request r)
@@ -135,24 +135,24 @@ used_once genesis sent u = record {
 }
 
 -- what is guaranteed of a world is the guarantee
-pub guaranteed : (w : Scene ReplicaValue)
+pub guaranteed : (w : WorldState ReplicaValue)
     → WorldGuarantee locks_behave (λ r. r.node.learner.whole) table_meaning w → MeetsGuarantee w
 guaranteed w p = record {
   explained = explained w.genesis w.sent w.trace p.explained;
   asked = asked w.genesis w.sent w.trace p.asked;
   agree = agreed w.genesis w.sent p.agree;
   ballots = used_once w.genesis w.sent p.ballots;
-  executed = executed w.genesis w.seats w.sent p.states;
+  executed = executed w.genesis w.sim_nodes w.sent p.states;
   told = told w.sent w.trace p.told;
   order = ordered w.genesis w.sent w.trace p.order;
   told_in_time = p.told_in_time;
-  kept = kept w.genesis w.seats w.sent p.kept;
-  covered = covered w.genesis w.seats w.sent p.covered;
-  snapshots = snapshots w.genesis w.seats w.sent p.states;
-  room = short w.seats p.room;
+  kept = kept w.genesis w.sim_nodes w.sent p.kept;
+  covered = covered w.genesis w.sim_nodes w.sent p.covered;
+  snapshots = snapshots w.genesis w.sim_nodes w.sent p.states;
+  room = short w.sim_nodes p.room;
 }
 
-pub compacts : (e : Event) (w : Scene ReplicaValue)
+pub compacts : (e : Event) (w : WorldState ReplicaValue)
     → LeavesPackedState (λ r. r.node.learner.whole) (disks_by locks_behave) table_meaning e w → Compacts e w
 compacts (event.Start n) w k = tt
 compacts (event.Restart n) w k = tt
@@ -175,22 +175,22 @@ pub if_err : {A E : Type 0} (P Q : E → Type 0) (r : Result A E) → ((e : E) �
 if_err P Q (Ok x) f p = tt
 if_err P Q (Err e) f p = f e p
 
-pub done : (old new : Scene ReplicaValue) (e : Event) → IsExecuted locks_behave old e new → IsDone old e new
+pub done : (old new : WorldState ReplicaValue) (e : Event) → IsExecuted locks_behave old e new → IsDone old e new
 done = is_done locks_behave (λ r. refl) (λ t r. refl) (λ r o q came k. k) (λ r given q came k. k)
     (λ device whose came k. k)
 
-pub ends : (old new : Scene ReplicaValue) (e : Event) → IsExecuted locks_behave old e new → EndsByDevice new.ended
+pub ends : (old new : WorldState ReplicaValue) (e : Event) → IsExecuted locks_behave old e new → EndsByDevice new.ended
 ends old new e d = ends_by_device old new locks_behave e d.1
 
-pub runs_end_so : (old : Scene ReplicaValue) (events : List Event) (how : RunEnd) (new : Scene ReplicaValue)
+pub runs_end_so : (old : WorldState ReplicaValue) (events : List Event) (how : RunEnd) (new : WorldState ReplicaValue)
     → Runs locks_behave old events how new → EndsByDevice old.ended → EndsByDevice new.ended
 runs_end_so = runs_end locks_behave
 
-pub not_done : (old new : Scene ReplicaValue) (e : Event) (r : Refused)
+pub not_done : (old new : WorldState ReplicaValue) (e : Event) (r : Refused)
     → doing.IsRefused locks_behave old e r new → IsRefused old e r new
 not_done = refused locks_behave (λ r. refl) (λ t r. refl) (λ r o q came k. k) (λ r given q came k. k)
     (λ device whose came k. k)
 
-pub ran : (old : Scene ReplicaValue) (events : List Event) (how : RunEnd) (new : Scene ReplicaValue)
+pub ran : (old : WorldState ReplicaValue) (events : List Event) (how : RunEnd) (new : WorldState ReplicaValue)
     → Runs locks_behave old events how new → IsRun old events how new
 ran = runs locks_behave (λ r. refl) (λ t r. refl) (λ r o q came k. k) (λ r given q came k. k) (λ device whose came k. k)

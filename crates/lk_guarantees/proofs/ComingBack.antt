@@ -16,20 +16,20 @@ use Rattle.lk_log.specs.Images.{seen}
 use Rattle.lk_node_interface.specs.Faults.{RefusedAfter}
 use Rattle.lk_recovery.specs.Revivals.{IsLastOld}
 use Rattle.lk_replica.specs.ReplicaValue.{ReplicaValue}
-use Rattle.lk_sim.specs.Scenes.{Scene}
+use Rattle.lk_sim.specs.WorldStates.{WorldState}
 use Rattle.lk_sim_nodes.specs.declared.end.End.TheVariants.{Fault}
 use Rattle.lk_sim.specs.declared.event.Event.TheVariants as event
 use Rattle.lk_sim_nodes.specs.declared.refused.Refused.{Refused}
 use Rattle.lk_sim_nodes.specs.declared.refused.Refused.TheVariants.{NoSuchNode, NotUp, AlreadyUp, NoSuchDatagram}
 use Rattle.lk_sim_nodes.specs.declared.refused.Refused.TheVariants.{Forged, WorldFull, WorldMemory}
-use Rattle.lk_sim_nodes.specs.declared.seat.Seat.{Seat}
-use Rattle.lk_sim_nodes.specs.declared.seat.Life.{Life}
-use Rattle.lk_sim_nodes.specs.declared.seat.Life.TheVariants.{Down}
+use Rattle.lk_sim_nodes.specs.declared.sim_node.SimNode.{SimNode}
+use Rattle.lk_sim_nodes.specs.declared.sim_node.RunState.{RunState}
+use Rattle.lk_sim_nodes.specs.declared.sim_node.RunState.TheVariants.{Down}
 use Rattle.lk_guarantees.specs.ComingBack.{IsQuiet, IsBack, ComesBack}
 use Rattle.lk_guarantees.specs.Events.{HasCause, IsUp, EndsOn, IsRestarted, IsNotRestarted, IsDone, IsReachable}
 use Rattle.lk_guarantees.specs.Guarantee.{MeetsGuarantee}
 use Rattle.lk_guarantees.proofs.Restoring.{is_excused}
-use Rattle.lk_guarantees.proofs.Apart.{Apart, one_seat, read_there, not_up, reachable_apart}
+use Rattle.lk_guarantees.proofs.Apart.{Apart, one_sim_node, read_there, not_up, reachable_apart}
 
 -- ---- a device that nothing makes fail
 
@@ -92,17 +92,17 @@ not_stopping m q = ap (λ (t : Trap). if m.sprung then armed_for t else None) q.
 
 -- ---- a world
 
-module _ (world : Scene ReplicaValue) (fits : IsGenesis world.genesis) (p : MeetsGuarantee world)
-    (apart : Apart world.seats) (n : ℕ) (device : Memory)
-    (down : Contains world.seats (record { number = n; life = Down device })) where
-  abbrev seat : Seat ReplicaValue
-  seat = record { number = n; life = Down device }
+module _ (world : WorldState ReplicaValue) (fits : IsGenesis world.genesis) (p : MeetsGuarantee world)
+    (apart : Apart world.sim_nodes) (n : ℕ) (device : Memory)
+    (down : Contains world.sim_nodes (record { number = n; run_state = Down device })) where
+  abbrev sim_node : SimNode ReplicaValue
+  sim_node = record { number = n; run_state = Down device }
 
   only_memory : (why : Refused) → HasCause world (event.Restart n) why → why ≡ WorldMemory
-  only_memory NoSuchNode cause = absurd (cause.2 (seat, down, sym cause.1))
+  only_memory NoSuchNode cause = absurd (cause.2 (sim_node, down, sym cause.1))
   only_memory NotUp cause = absurd cause
   only_memory AlreadyUp cause =
-      absurd (not_up world.seats apart n down.0 device (read_there world.seats seat down) cause)
+      absurd (not_up world.sim_nodes apart n down.0 device (read_there world.sim_nodes sim_node down) cause)
   only_memory NoSuchDatagram cause = absurd cause
   only_memory Forged cause = absurd cause
   only_memory WorldFull cause = absurd cause
@@ -110,18 +110,18 @@ module _ (world : Scene ReplicaValue) (fits : IsGenesis world.genesis) (p : Meet
 
   -- it is this device from which the node restarts
   same_device : (index : ℕ) (other : Memory)
-      → slice_get world.seats index ≡ Some (record { number = n; life = Down other }) → other ≡ device
+      → slice_get world.sim_nodes index ≡ Some (record { number = n; run_state = Down other }) → other ≡ device
   same_device index other here =
-      lives other device (ap (λ (s : Seat ReplicaValue). s.life)
-      (one_seat world.seats apart index down.0 (record { number = n; life = Down other }) seat here
-      (read_there world.seats seat down) refl))
+      lives other device (ap (λ (s : SimNode ReplicaValue). s.run_state)
+      (one_sim_node world.sim_nodes apart index down.0 (record { number = n; run_state = Down other }) sim_node here
+      (read_there world.sim_nodes sim_node down) refl))
     where
-      lives : (other device : Memory) → ◌≡◌ {A = Life ReplicaValue} (Down other) (Down device) → other ≡ device
+      lives : (other device : Memory) → ◌≡◌ {A = RunState ReplicaValue} (Down other) (Down device) → other ≡ device
       lives other device e = cc e
 
-  module _ (new : Scene ReplicaValue) (done : IsDone world (event.Restart n) new) where
-    is_up : IsRestarted world n new → IsUp new.seats n
-    is_up r = let up = done.up r.none_ended in subst (IsUp new.seats) up.1 up.2
+  module _ (new : WorldState ReplicaValue) (done : IsDone world (event.Restart n) new) where
+    is_up : IsRestarted world n new → IsUp new.sim_nodes n
+    is_up r = let up = done.up r.none_ended in subst (IsUp new.sim_nodes) up.1 up.2
 
     module _ (f : IsNotRestarted world n new) where
       quiet_left : IsQuiet device.meter → (f.number ≡ 7 → ⊥) × IsQuiet f.left.meter
@@ -135,7 +135,11 @@ module _ (world : Scene ReplicaValue) (fits : IsGenesis world.genesis) (p : Meet
       by_number : new.ended ≡ Some (Fault n f.number) → IsBack n device new
       by_number ended =
           let x = is_excused world fits p n f.device
-          (subst (λ (d : Memory). Contains world.seats (record { number = n; life = Down d })) (sym of_device) down)
+          (subst (λ (d : Memory). Contains world.sim_nodes (record {
+            number = n;
+            run_state =
+                Down d;
+          })) (sym of_device) down)
           f.number f.left f.fails in
           elim x.excused [
             | inl seven ↦ inr (inl (
@@ -161,7 +165,7 @@ module _ (world : Scene ReplicaValue) (fits : IsGenesis world.genesis) (p : Meet
     is_back : IsBack n device new
     is_back = elim done.restarts [ inl r ↦ inl (is_up r) | inr f ↦ by_end f (stopping f.left.meter) refl f.ends ]
 
-pub comes_back : (genesis : Genesis) (world : Scene ReplicaValue) → IsGenesis world.genesis
+pub comes_back : (genesis : Genesis) (world : WorldState ReplicaValue) → IsGenesis world.genesis
     → IsReachable genesis world → MeetsGuarantee world → ComesBack world
 comes_back genesis world fits reached p =
     let apart = reachable_apart genesis world reached in

@@ -9,7 +9,7 @@ use Rattle.lk_types.specs.declared.genesis.Genesis.{Genesis}
 use Rattle.lk_types.specs.declared.member.Member.{Member}
 use Rattle.lk_agreement_laws.proofs.Histories.{cons_cases, contains_more}
 use Rattle.lk_replica.specs.ReplicaValue.{ReplicaValue}
-use Rattle.lk_sim.specs.Scenes.{Scene}
+use Rattle.lk_sim.specs.WorldStates.{WorldState}
 use Rattle.lk_state.specs.declared.session.Session.{Session}
 use Rattle.lk_guarantees.specs.Converging.{Converges}
 use Rattle.lk_guarantees.specs.Disks.{kept_text, IsSnapshot}
@@ -180,7 +180,7 @@ pub one_snapshot : (genesis : Genesis) (L : List Command) (a b : List ℕ) → I
 one_snapshot genesis L a b x y = x.2 ∙ ap kept_text (one_kept genesis L x.0 y.0 x.1 y.1) ∙ sym y.2
 
 -- chosen lists of one length are one
-module _ (world : Scene ReplicaValue) (p : MeetsGuarantee world) where
+module _ (world : WorldState ReplicaValue) (p : MeetsGuarantee world) where
   one_list : (K L : List Command) → IsChosen world.genesis world.sent K → IsChosen world.genesis world.sent L
       → length K ≡ length L → K ≡ L
   one_list K L k l e = elim (p.agree K L k l) [

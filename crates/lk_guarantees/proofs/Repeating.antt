@@ -10,16 +10,17 @@ use Rattle.lk_node_interface.specs.declared.note.Note.{Note}
 use Rattle.lk_node.specs.Leavings.{header_of}
 use Rattle.lk_replica.specs.ReplicaValue.{ReplicaValue, device_of}
 use Rattle.lk_replica.specs.Revived.{RevivesTo}
-use Rattle.lk_sim.specs.Scenes.{Scene}
+use Rattle.lk_sim.specs.WorldStates.{WorldState}
 use Rattle.lk_sim.specs.declared.event.Event.TheVariants as event
-use Rattle.lk_sim_nodes.specs.declared.seat.Seat.{Seat}
-use Rattle.lk_sim_nodes.specs.declared.seat.Life.{Life}
-use Rattle.lk_sim_nodes.specs.declared.seat.Life.TheVariants.{Up, Down}
+use Rattle.lk_sim_nodes.specs.declared.sim_node.SimNode.{SimNode}
+use Rattle.lk_sim_nodes.specs.declared.sim_node.RunState.{RunState}
+use Rattle.lk_sim_nodes.specs.declared.sim_node.RunState.TheVariants.{Up, Down}
 use Rattle.lk_sim.proofs.Networks.{set_twice}
 use Rattle.lk_guarantees.specs.Events.{remaining, IsStopped, IsRestarted, IsNotRestarted, IsUp, IsDone, AreDone}
 use Rattle.lk_guarantees.specs.Events.{IsReachable}
 use Rattle.lk_guarantees.specs.Restarting.{ComesUp, IsLeftBy, FindsFormatTwo, stops_and_restarts, as_often, IsTheSame}
-use Rattle.lk_guarantees.proofs.Apart.{Apart, is_there, get_set_here, set_same, one_place, one_seat, not_up, done_apart}
+use Rattle.lk_guarantees.proofs.Apart.{Apart, is_there, get_set_here, set_same, one_place, one_sim_node, not_up}
+use Rattle.lk_guarantees.proofs.Apart.{done_apart}
 use Rattle.lk_guarantees.proofs.Apart.{reachable_apart}
 use Rattle.lk_guarantees.proofs.Restarting.{Stands, first_stands, now, same_node, same_notes, same_file, still_today}
 
@@ -27,43 +28,44 @@ module _ (genesis : Genesis) (n : ℕ) where
   abbrev header : HeaderValue
   header = header_of genesis n
 
-  abbrev up : ReplicaValue → Seat ReplicaValue
-  up replica = record { number = n; life = Up replica }
+  abbrev up : ReplicaValue → SimNode ReplicaValue
+  up replica = record { number = n; run_state = Up replica }
 
-  abbrev down : Memory → Seat ReplicaValue
-  down device = record { number = n; life = Down device }
+  abbrev down : Memory → SimNode ReplicaValue
+  down device = record { number = n; run_state = Down device }
 
   same_up : (q r : ReplicaValue) → up q ≡ up r → q ≡ r
-  same_up q r e = lives (ap (λ (s : Seat ReplicaValue). s.life) e)
+  same_up q r e = lives (ap (λ (s : SimNode ReplicaValue). s.run_state) e)
     where
-      lives : ◌≡◌ {A = Life ReplicaValue} (Up q) (Up r) → q ≡ r
+      lives : ◌≡◌ {A = RunState ReplicaValue} (Up q) (Up r) → q ≡ r
       lives e = cc e
 
   same_down : (c d : Memory) → down c ≡ down d → c ≡ d
-  same_down c d e = lives (ap (λ (s : Seat ReplicaValue). s.life) e)
+  same_down c d e = lives (ap (λ (s : SimNode ReplicaValue). s.run_state) e)
     where
-      lives : ◌≡◌ {A = Life ReplicaValue} (Down c) (Down d) → c ≡ d
+      lives : ◌≡◌ {A = RunState ReplicaValue} (Down c) (Down d) → c ≡ d
       lives e = cc e
 
   up_not_down : (r : ReplicaValue) (d : Memory) → up r ≡ down d → ⊥
-  up_not_down r d e = lives (ap (λ (s : Seat ReplicaValue). s.life) e)
+  up_not_down r d e = lives (ap (λ (s : SimNode ReplicaValue). s.run_state) e)
     where
-      lives : ◌≡◌ {A = Life ReplicaValue} (Up r) (Down d) → ⊥
+      lives : ◌≡◌ {A = RunState ReplicaValue} (Up r) (Down d) → ⊥
       lives e = cc e
 
   -- the node has restarted, and is up at this place
-  record IsAt (world : Scene ReplicaValue) (index : ℕ) (replica : ReplicaValue) (notes : List Note) : Type 0 where
-    apart : Apart world.seats
+  record IsAt (world : WorldState ReplicaValue) (index : ℕ) (replica : ReplicaValue) (notes : List Note) : Type 0 where
+    apart : Apart world.sim_nodes
     begun : world.genesis ≡ genesis
-    here : slice_get world.seats index ≡ Some (up replica)
+    here : slice_get world.sim_nodes index ≡ Some (up replica)
     stands : Stands header replica notes
 
   -- it is the same after what the notes say
-  record Comes (world : Scene ReplicaValue) (index : ℕ) (replica : ReplicaValue) (notes : List Note) (all : List Note)
-      (last : Scene ReplicaValue) : Type 0 where
+  record Comes (world : WorldState ReplicaValue) (index : ℕ) (replica : ReplicaValue) (notes : List Note)
+      (all : List Note)
+      (last : WorldState ReplicaValue) : Type 0 where
     again : ReplicaValue
     is_at : IsAt last index again notes
-    seats : last.seats ≡ set world.seats index (up again)
+    sim_nodes : last.sim_nodes ≡ set world.sim_nodes index (up again)
     node : again.node ≡ replica.node
     file : again.store.live_disk ≡ replica.store.live_disk
     trace : last.trace ≡ world.trace ++ all
@@ -71,7 +73,7 @@ module _ (genesis : Genesis) (n : ℕ) where
 
   -- ---- a stop and a restart
 
-  module _ (world mid next : Scene ReplicaValue) (index : ℕ) (replica : ReplicaValue) (notes : List Note)
+  module _ (world mid next : WorldState ReplicaValue) (index : ℕ) (replica : ReplicaValue) (notes : List Note)
       (w : IsAt world index replica notes) (x y : ℕ)
       (stop : IsDone world (event.Stop n x y) mid) (restart : IsDone mid (event.Restart n) next) where
     abbrev stopped : IsStopped world mid n x y
@@ -79,11 +81,13 @@ module _ (genesis : Genesis) (n : ℕ) where
 
     at_place : stopped.index ≡ index
     at_place =
-        one_place world.seats w.apart stopped.index index (up stopped.replica) (up replica) stopped.was_up w.here refl
+        one_place world.sim_nodes w.apart stopped.index index (up stopped.replica) (up replica)
+        stopped.was_up w.here refl
 
     of_replica : stopped.replica ≡ replica
     of_replica = same_up stopped.replica replica
-        (one_seat world.seats w.apart stopped.index index (up stopped.replica) (up replica) stopped.was_up w.here refl)
+        (one_sim_node world.sim_nodes w.apart stopped.index index (up stopped.replica) (up replica)
+        stopped.was_up w.here refl)
 
     left : IsLeftBy replica stopped.device
     left = (
@@ -93,29 +97,31 @@ module _ (genesis : Genesis) (n : ℕ) where
       stopped.disk_b ∙ ap (λ (r : ReplicaValue). remaining y (device_of r.store).b) of_replica,
     )
 
-    mid_seats : mid.seats ≡ set world.seats index (down stopped.device)
-    mid_seats = stopped.is_down ∙ ap (λ (k : ℕ). set world.seats k (down stopped.device)) at_place
+    mid_sim_nodes : mid.sim_nodes ≡ set world.sim_nodes index (down stopped.device)
+    mid_sim_nodes = stopped.is_down ∙ ap (λ (k : ℕ). set world.sim_nodes k (down stopped.device)) at_place
 
-    mid_apart : Apart mid.seats
+    mid_apart : Apart mid.sim_nodes
     mid_apart = done_apart world mid (event.Stop n x y) stop w.apart
 
-    mid_here : slice_get mid.seats index ≡ Some (down stopped.device)
-    mid_here = ap (λ (l : List (Seat ReplicaValue)). slice_get l index) mid_seats
-        ∙ get_set_here world.seats index (up replica) (down stopped.device) w.here
+    mid_here : slice_get mid.sim_nodes index ≡ Some (down stopped.device)
+    mid_here = ap (λ (l : List (SimNode ReplicaValue)). slice_get l index) mid_sim_nodes
+        ∙ get_set_here world.sim_nodes index (up replica) (down stopped.device) w.here
 
     mid_begun : mid.genesis ≡ genesis
     mid_begun = stop.grows.2 ∙ w.begun
 
-    next_apart : Apart next.seats
+    next_apart : Apart next.sim_nodes
     next_apart = done_apart mid next (event.Restart n) restart mid_apart
 
     module _ (r : IsRestarted mid n next) where
       there : r.index ≡ index
-      there = one_place mid.seats mid_apart r.index index (down r.device) (down stopped.device) r.was_down mid_here refl
+      there = one_place mid.sim_nodes mid_apart r.index index (down r.device) (down stopped.device) r.was_down
+          mid_here refl
 
       of_device : r.device ≡ stopped.device
       of_device = same_down r.device stopped.device
-          (one_seat mid.seats mid_apart r.index index (down r.device) (down stopped.device) r.was_down mid_here refl)
+          (one_sim_node mid.sim_nodes mid_apart r.index index (down r.device) (down stopped.device) r.was_down
+          mid_here refl)
 
       comes_up : ComesUp header stopped.device r.replica r.notes
       comes_up =
@@ -126,11 +132,11 @@ module _ (genesis : Genesis) (n : ℕ) where
       noted_same : r.notes ≡ notes
       noted_same = same_notes header replica notes w.stands stopped.device left r.replica r.notes comes_up
 
-      next_seats : next.seats ≡ set world.seats index (up r.replica)
-      next_seats =
-          r.is_up ∙ ap (λ (k : ℕ). set mid.seats k (up r.replica)) there
-          ∙ ap (λ (l : List (Seat ReplicaValue)). set l index (up r.replica)) mid_seats
-          ∙ set_twice world.seats index (down stopped.device) (up r.replica)
+      next_sim_nodes : next.sim_nodes ≡ set world.sim_nodes index (up r.replica)
+      next_sim_nodes =
+          r.is_up ∙ ap (λ (k : ℕ). set mid.sim_nodes k (up r.replica)) there
+          ∙ ap (λ (l : List (SimNode ReplicaValue)). set l index (up r.replica)) mid_sim_nodes
+          ∙ set_twice world.sim_nodes index (down stopped.device) (up r.replica)
 
       round : Comes world index replica notes notes next
       round = record {
@@ -138,12 +144,12 @@ module _ (genesis : Genesis) (n : ℕ) where
         is_at = record {
           apart = next_apart;
           begun = restart.grows.2 ∙ mid_begun;
-          here = ap (λ (l : List (Seat ReplicaValue)). slice_get l index) next_seats
-              ∙ get_set_here world.seats index (up replica) (up r.replica) w.here;
+          here = ap (λ (l : List (SimNode ReplicaValue)). slice_get l index) next_sim_nodes
+              ∙ get_set_here world.sim_nodes index (up replica) (up r.replica) w.here;
           stands = subst (λ (l : List Note). Stands header r.replica l) noted_same
               (now header replica notes w.stands stopped.device left r.replica r.notes comes_up);
         };
-        seats = next_seats;
+        sim_nodes = next_sim_nodes;
         node = same_node header replica notes w.stands stopped.device left r.replica r.notes comes_up;
         file = same_file header replica notes w.stands stopped.device left r.replica r.notes comes_up;
         trace = r.noted ∙ ap (λ (l : List Note). l ++ r.notes) stopped.nothing_noted
@@ -154,51 +160,53 @@ module _ (genesis : Genesis) (n : ℕ) where
   -- ---- however often
 
   -- a node that is down is not stopped, so it is not up in the end
-  never_up : (more : List (ℕ × ℕ)) (world last : Scene ReplicaValue) → Apart world.seats
-      → (index : ℕ) (device : Memory) → slice_get world.seats index ≡ Some (down device)
-      → AreDone (stops_and_restarts n more) world last → IsUp last.seats n → ⊥
+  never_up : (more : List (ℕ × ℕ)) (world last : WorldState ReplicaValue) → Apart world.sim_nodes
+      → (index : ℕ) (device : Memory) → slice_get world.sim_nodes index ≡ Some (down device)
+      → AreDone (stops_and_restarts n more) world last → IsUp last.sim_nodes n → ⊥
   never_up [] world last apart index device here same is_up =
-      not_up world.seats apart n index device here (subst (λ (w : Scene ReplicaValue). IsUp w.seats n) same is_up)
+      not_up world.sim_nodes apart n index device here (subst (λ (w : WorldState ReplicaValue). IsUp w.sim_nodes
+      n) same is_up)
   never_up (most ∷ more) world last apart index device here all is_up =
       let k : IsStopped world all.0 n most.0 most.1 = all.1.stops in
       up_not_down k.replica device
-      (one_seat world.seats apart k.index index (up k.replica) (down device) k.was_up here refl)
+      (one_sim_node world.sim_nodes apart k.index index (up k.replica) (down device) k.was_up here refl)
 
   -- nothing has happened yet
-  still : (world last : Scene ReplicaValue) (index : ℕ) (replica : ReplicaValue) (notes : List Note)
+  still : (world last : WorldState ReplicaValue) (index : ℕ) (replica : ReplicaValue) (notes : List Note)
       → IsAt world index replica notes → last ≡ world → Comes world index replica notes [] last
   still world last index replica notes w same = record {
     again = replica;
-    is_at = subst (λ (s : Scene ReplicaValue). IsAt s index replica notes) (sym same) w;
-    seats = ap (λ (s : Scene ReplicaValue). s.seats) same ∙ sym (set_same world.seats index (up replica) w.here);
+    is_at = subst (λ (s : WorldState ReplicaValue). IsAt s index replica notes) (sym same) w;
+    sim_nodes = ap (λ (s : WorldState ReplicaValue). s.sim_nodes) same
+        ∙ sym (set_same world.sim_nodes index (up replica) w.here);
     node = refl;
     file = refl;
-    trace = ap (λ (s : Scene ReplicaValue). s.trace) same ∙ sym (append-nil world.trace);
-    sent = ap (λ (s : Scene ReplicaValue). s.sent) same;
+    trace = ap (λ (s : WorldState ReplicaValue). s.trace) same ∙ sym (append-nil world.trace);
+    sent = ap (λ (s : WorldState ReplicaValue). s.sent) same;
   }
 
-  after : (world mid last : Scene ReplicaValue) (index : ℕ) (replica : ReplicaValue) (notes front back : List Note)
+  after : (world mid last : WorldState ReplicaValue) (index : ℕ) (replica : ReplicaValue) (notes front back : List Note)
       (c : Comes world index replica notes front mid)
       → Comes mid index c.again notes back last → Comes world index replica notes (front ++ back) last
   after world mid last index replica notes front back c d = record {
     again = d.again;
     is_at = d.is_at;
-    seats = d.seats ∙ ap (λ (l : List (Seat ReplicaValue)). set l index (up d.again)) c.seats
-        ∙ set_twice world.seats index (up c.again) (up d.again);
+    sim_nodes = d.sim_nodes ∙ ap (λ (l : List (SimNode ReplicaValue)). set l index (up d.again)) c.sim_nodes
+        ∙ set_twice world.sim_nodes index (up c.again) (up d.again);
     node = d.node ∙ c.node;
     file = d.file ∙ c.file;
     trace = d.trace ∙ ap (λ (l : List Note). l ++ back) c.trace ∙ append_assoc world.trace front back;
     sent = d.sent ∙ c.sent;
   }
 
-  comes : (more : List (ℕ × ℕ)) (world last : Scene ReplicaValue) (index : ℕ) (replica : ReplicaValue)
+  comes : (more : List (ℕ × ℕ)) (world last : WorldState ReplicaValue) (index : ℕ) (replica : ReplicaValue)
       (notes : List Note) → IsAt world index replica notes
-      → AreDone (stops_and_restarts n more) world last → IsUp last.seats n
+      → AreDone (stops_and_restarts n more) world last → IsUp last.sim_nodes n
       → Comes world index replica notes (as_often more notes) last
   comes [] world last index replica notes w same is_up = still world last index replica notes w same
   comes (most ∷ more) world last index replica notes w all is_up =
-      let mid : Scene ReplicaValue = all.0 in
-      let next : Scene ReplicaValue = all.2.0 in
+      let mid : WorldState ReplicaValue = all.0 in
+      let next : WorldState ReplicaValue = all.2.0 in
       let stop : IsDone world (event.Stop n most.0 most.1) mid = all.1 in
       let restart : IsDone mid (event.Restart n) next = all.2.1 in
       elim restart.restarts [
@@ -210,26 +218,26 @@ module _ (genesis : Genesis) (n : ℕ) where
         | inr f ↦ absurd
             (never_up more next last
             (next_apart world mid next index replica notes w most.0 most.1 stop restart) f.index f.rest
-            (ap (λ (l : List (Seat ReplicaValue)). slice_get l f.index) f.is_down
-            ∙ get_set_here mid.seats f.index (down f.device) (down f.rest) f.was_down) all.2.2 is_up)
+            (ap (λ (l : List (SimNode ReplicaValue)). slice_get l f.index) f.is_down
+            ∙ get_set_here mid.sim_nodes f.index (down f.device) (down f.rest) f.was_down) all.2.2 is_up)
       ]
 
 -- ---- in a world
 
-module _ (world first last : Scene ReplicaValue) (n : ℕ) (more : List (ℕ × ℕ)) (apart : Apart world.seats)
+module _ (world first last : WorldState ReplicaValue) (n : ℕ) (more : List (ℕ × ℕ)) (apart : Apart world.sim_nodes)
     (today : FindsFormatTwo world n)
     (restart : IsDone world (event.Restart n) first) (all : AreDone (stops_and_restarts n more) first last)
-    (is_up : IsUp last.seats n) where
-  first_apart : Apart first.seats
+    (is_up : IsUp last.sim_nodes n) where
+  first_apart : Apart first.sim_nodes
   first_apart = done_apart world first (event.Restart n) restart apart
 
   module _ (r : IsRestarted world n first) where
-    abbrev seat : Seat ReplicaValue
-    seat = record { number = n; life = Down r.device }
+    abbrev sim_node : SimNode ReplicaValue
+    sim_node = record { number = n; run_state = Down r.device }
 
-    here : slice_get first.seats r.index ≡ Some (record { number = n; life = Up r.replica })
-    here = ap (λ (l : List (Seat ReplicaValue)). slice_get l r.index) r.is_up
-        ∙ get_set_here world.seats r.index seat (record { number = n; life = Up r.replica }) r.was_down
+    here : slice_get first.sim_nodes r.index ≡ Some (record { number = n; run_state = Up r.replica })
+    here = ap (λ (l : List (SimNode ReplicaValue)). slice_get l r.index) r.is_up
+        ∙ get_set_here world.sim_nodes r.index sim_node (record { number = n; run_state = Up r.replica }) r.was_down
 
     starts : IsAt world.genesis n first r.index r.replica r.notes
     starts = record {
@@ -237,7 +245,7 @@ module _ (world first last : Scene ReplicaValue) (n : ℕ) (more : List (ℕ × 
       begun = restart.grows.2;
       here = here;
       stands = first_stands (header_of world.genesis n) r.device r.replica r.notes
-          (today r.device (is_there world.seats r.index seat r.was_down)) r.revives;
+          (today r.device (is_there world.sim_nodes r.index sim_node r.was_down)) r.revives;
     }
 
     is_the_same : IsTheSame n world first more last
@@ -249,7 +257,7 @@ module _ (world first last : Scene ReplicaValue) (n : ℕ) (more : List (ℕ × 
           once = r.replica;
           again = c.again;
           was_up = here;
-          is_up = c.seats;
+          is_up = c.sim_nodes;
           same_node = c.node;
           same_file = c.file;
           format_two =
@@ -263,16 +271,16 @@ module _ (world first last : Scene ReplicaValue) (n : ℕ) (more : List (ℕ × 
   not_down : IsNotRestarted world n first → ⊥
   not_down f =
       never_up world.genesis n more first last first_apart f.index f.rest
-      (ap (λ (l : List (Seat ReplicaValue)). slice_get l f.index) f.is_down
-      ∙ get_set_here world.seats f.index (record { number = n; life = Down f.device })
-      (record { number = n; life = Down f.rest }) f.was_down) all is_up
+      (ap (λ (l : List (SimNode ReplicaValue)). slice_get l f.index) f.is_down
+      ∙ get_set_here world.sim_nodes f.index (record { number = n; run_state = Down f.device })
+      (record { number = n; run_state = Down f.rest }) f.was_down) all is_up
 
   comes_the_same : IsTheSame n world first more last
   comes_the_same = elim restart.restarts [ inl r ↦ is_the_same r | inr f ↦ absurd (not_down f) ]
 
-pub comes_back_the_same : (genesis : Genesis) (world first last : Scene ReplicaValue) (n : ℕ) (more : List (ℕ × ℕ))
+pub comes_back_the_same : (genesis : Genesis) (world first last : WorldState ReplicaValue) (n : ℕ) (more : List (ℕ × ℕ))
     → IsReachable genesis world → FindsFormatTwo world n
-    → IsDone world (event.Restart n) first → AreDone (stops_and_restarts n more) first last → IsUp last.seats n
+    → IsDone world (event.Restart n) first → AreDone (stops_and_restarts n more) first last → IsUp last.sim_nodes n
     → IsTheSame n world first more last
 comes_back_the_same genesis world first last n more reached today restart all is_up =
     comes_the_same world first last n more (reachable_apart genesis world reached) today restart all is_up

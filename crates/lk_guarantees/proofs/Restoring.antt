@@ -35,8 +35,8 @@ use Rattle.lk_node.proofs.Nodes.{window_is}
 use Rattle.lk_recovery.specs.Revivals.{MayRevive, NoneRevives}
 use Rattle.lk_replica.specs.ReplicaValue.{ReplicaValue}
 use Rattle.lk_replica.specs.Revived.{RevivesTo}
-use Rattle.lk_sim.specs.Scenes.{Scene}
-use Rattle.lk_sim_nodes.specs.declared.seat.Life.TheVariants.{Down}
+use Rattle.lk_sim.specs.WorldStates.{WorldState}
+use Rattle.lk_sim_nodes.specs.declared.sim_node.RunState.TheVariants.{Down}
 use Rattle.lk_guarantees.specs.ComingBack.{IsExcused, IsExcusedOn}
 use Rattle.lk_guarantees.specs.Disks.{Remembers, HasSnapshot, IsNear}
 use Rattle.lk_guarantees.specs.Guarantee.{MeetsGuarantee}
@@ -85,8 +85,8 @@ executed_is : (genesis : Genesis) (L : List Command)
 unfolding whole_after roster_after
 executed_is genesis L = refl
 
-module _ (world : Scene ReplicaValue) (fits : IsGenesis world.genesis) (p : MeetsGuarantee world) (n : ℕ)
-    (device : Memory) (down : Contains world.seats (record { number = n; life = Down device })) where
+module _ (world : WorldState ReplicaValue) (fits : IsGenesis world.genesis) (p : MeetsGuarantee world) (n : ℕ)
+    (device : Memory) (down : Contains world.sim_nodes (record { number = n; run_state = Down device })) where
   abbrev genesis : Genesis
   genesis = world.genesis
 
@@ -97,7 +97,7 @@ module _ (world : Scene ReplicaValue) (fits : IsGenesis world.genesis) (p : Meet
   image = seen (disk_of device)
 
   memory : (x : StandingValue) × Remembers genesis n image x × (HasSnapshot genesis world.sent x × IsNear genesis x)
-  memory = p.snapshots (record { number = n; life = Down device }) down image
+  memory = p.snapshots (record { number = n; run_state = Down device }) down image
       (seen_left (disk_of device) A, seen_left (disk_of device) B)
 
   abbrev standing : StandingValue

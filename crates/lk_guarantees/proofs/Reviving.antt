@@ -14,23 +14,24 @@ use Rattle.lk_replica.specs.ReplicaValue.{ReplicaValue}
 use Rattle.lk_replica.specs.Revived.{RevivesTo}
 use Rattle.lk_sim_nodes.specs.Ends.{StaysDown, end_by}
 use Rattle.lk_sim.specs.Events.{ReplacesSeat, EndsByFault, IsRevived, IsAdded, IsBack, HasEffect}
-use Rattle.lk_sim.specs.Scenes.{Scene}
-use Rattle.lk_sim_nodes.specs.Seats.{rested_on}
+use Rattle.lk_sim.specs.WorldStates.{WorldState}
+use Rattle.lk_sim_nodes.specs.SimNodes.{rested_on}
 use Rattle.lk_sim_nodes.specs.declared.end.End.{End}
 use Rattle.lk_sim.specs.declared.event.Event.{Event}
 use Rattle.lk_sim.specs.declared.event.Event.TheVariants as event
-use Rattle.lk_sim_nodes.specs.declared.seat.Seat.{Seat}
-use Rattle.lk_sim_nodes.specs.declared.seat.Life.{Life}
-use Rattle.lk_sim_nodes.specs.declared.seat.Life.TheVariants.{Up, Down}
+use Rattle.lk_sim_nodes.specs.declared.sim_node.SimNode.{SimNode}
+use Rattle.lk_sim_nodes.specs.declared.sim_node.RunState.{RunState}
+use Rattle.lk_sim_nodes.specs.declared.sim_node.RunState.TheVariants.{Up, Down}
 use Rattle.lk_guarantees.specs.Events.{IsRestarted, EndsOn, IsNotRestarted, IsBegun, IsNotBegun, RestartsAsStated}
 
-pub same_seat : (s : Seat ReplicaValue) (n : ℕ) (life : Life ReplicaValue) → s.number ≡ n → s.life ≡ life
-    → s ≡ record { number = n; life = life }
-same_seat s n life number is =
-    let made : ℕ → Life ReplicaValue → Seat ReplicaValue = λ k l. record { number = k; life = l } in
-    ap (λ (k : ℕ). made k s.life) number ∙ ap (made n) is
+pub same_sim_node : (s : SimNode ReplicaValue) (n : ℕ) (run_state : RunState ReplicaValue) → s.number ≡ n
+    → s.run_state ≡ run_state
+    → s ≡ record { number = n; run_state = run_state }
+same_sim_node s n run_state number is =
+    let made : ℕ → RunState ReplicaValue → SimNode ReplicaValue = λ k l. record { number = k; run_state = l } in
+    ap (λ (k : ℕ). made k s.run_state) number ∙ ap (made n) is
 
-pub stands_at : (old new : List (Seat ReplicaValue)) (s t : Seat ReplicaValue) (k : ReplacesSeat old new s t)
+pub stands_at : (old new : List (SimNode ReplicaValue)) (s t : SimNode ReplicaValue) (k : ReplacesSeat old new s t)
     → slice_get old k.index ≡ Some s
 stands_at old new s t k = slice_get-get_or old k.index s k.at.0 ∙ ap Some k.at.1
 
@@ -43,13 +44,13 @@ ends_on (Some bytes) n number left ended e = (e, refl, refl)
 module _ (b : Behaviour ReplicaValue)
     (contract : (device : Memory) (whose : HeaderValue) (came : Result (ReplicaValue × List Note) (ℕ × Memory))
     → b.Revives device whose came → RevivesTo table_meaning IsTableText device whose came)
-    (old new : Scene ReplicaValue) (n : ℕ) (k : IsBack b old new n) where
+    (old new : WorldState ReplicaValue) (n : ℕ) (k : IsBack b old new n) where
   number : k.next.number ≡ n
   number = k.replaces.number ∙ k.number
 
-  was_down : slice_get old.seats k.replaces.index ≡ Some (record { number = n; life = Down k.device })
+  was_down : slice_get old.sim_nodes k.replaces.index ≡ Some (record { number = n; run_state = Down k.device })
   was_down =
-      stands_at old.seats new.seats k.seat k.next k.replaces ∙ ap Some (same_seat k.seat n
+      stands_at old.sim_nodes new.sim_nodes k.sim_node k.next k.replaces ∙ ap Some (same_sim_node k.sim_node n
       (Down k.device) k.number k.down)
 
   -- by the contract of a replica, under the header of this node
@@ -67,7 +68,8 @@ module _ (b : Behaviour ReplicaValue)
     replica = r.replica;
     notes = r.notes;
     revives = told (Ok (r.replica, r.notes)) r.revives;
-    is_up = k.replaces.seats ∙ ap (set old.seats k.replaces.index) (same_seat k.next n (Up r.replica) number r.up);
+    is_up = k.replaces.sim_nodes ∙ ap (set old.sim_nodes k.replaces.index) (same_sim_node k.next n (Up r.replica)
+        number r.up);
     noted = r.adds.trace;
     nothing_sent = r.adds.sent ∙ append-nil old.sent;
     none_ended = r.ended;
@@ -85,8 +87,8 @@ module _ (b : Behaviour ReplicaValue)
     no_memory = f.no_want.memory;
     not_starved = f.no_want.starved;
     rest = rested_on (stopping f.left.meter) f.left;
-    is_down = k.replaces.seats ∙ ap (set old.seats k.replaces.index)
-        (same_seat k.next n (Down (rested_on (stopping f.left.meter) f.left)) number f.down);
+    is_down = k.replaces.sim_nodes ∙ ap (set old.sim_nodes k.replaces.index)
+        (same_sim_node k.next n (Down (rested_on (stopping f.left.meter) f.left)) number f.down);
     ends = ends_on (stopping f.left.meter) n f.number f.left new.ended
         (f.ended ∙ ap (λ (m : ℕ). Some (end_by (stopping f.left.meter) m f.number)) number);
     nothing_noted = f.adds.trace ∙ append-nil old.trace;
@@ -101,19 +103,20 @@ module _ (b : Behaviour ReplicaValue)
 module _ (b : Behaviour ReplicaValue)
     (contract : (device : Memory) (whose : HeaderValue) (came : Result (ReplicaValue × List Note) (ℕ × Memory))
     → b.Revives device whose came → RevivesTo table_meaning IsTableText device whose came)
-    (old new : Scene ReplicaValue) (n : ℕ) (k : IsAdded b old new n) where
+    (old new : WorldState ReplicaValue) (n : ℕ) (k : IsAdded b old new n) where
   told_new : (came : Result (ReplicaValue × List Note) (ℕ × Memory))
-      → b.Revives empty (header_of old.genesis k.seat.number) came
+      → b.Revives empty (header_of old.genesis k.sim_node.number) came
       → RevivesTo table_meaning IsTableText empty (header_of old.genesis n) came
   told_new came r = contract empty (header_of old.genesis n) came
       (subst (λ (m : ℕ). b.Revives empty (header_of old.genesis m) came) k.number r)
 
-  stands_new : (life : Life ReplicaValue) → k.seat.life ≡ life
-      → new.seats ≡ old.seats ++ record { number = n; life = life } ∷ []
-  stands_new life is =
-      k.seats ∙ ap (λ (s : Seat ReplicaValue). old.seats ++ s ∷ []) (same_seat k.seat n life k.number is)
+  stands_new : (run_state : RunState ReplicaValue) → k.sim_node.run_state ≡ run_state
+      → new.sim_nodes ≡ old.sim_nodes ++ record { number = n; run_state = run_state } ∷ []
+  stands_new run_state is =
+      k.sim_nodes ∙ ap (λ (s : SimNode ReplicaValue). old.sim_nodes ++ s ∷ []) (same_sim_node k.sim_node n
+      run_state k.number is)
 
-  begun : IsRevived b old new k.seat empty → IsBegun old n new
+  begun : IsRevived b old new k.sim_node empty → IsBegun old n new
   begun r = record {
     replica = r.replica;
     notes = r.notes;
@@ -124,7 +127,7 @@ module _ (b : Behaviour ReplicaValue)
     none_ended = r.ended;
   }
 
-  not_begun : EndsByFault (StaysDown b empty (header_of old.genesis k.seat.number)) old new k.seat []
+  not_begun : EndsByFault (StaysDown b empty (header_of old.genesis k.sim_node.number)) old new k.sim_node []
       → IsNotBegun old n new
   not_begun f = record {
     number = f.number;
@@ -148,7 +151,8 @@ module _ (b : Behaviour ReplicaValue)
 module _ (b : Behaviour ReplicaValue)
     (contract : (device : Memory) (whose : HeaderValue) (came : Result (ReplicaValue × List Note) (ℕ × Memory))
     → b.Revives device whose came → RevivesTo table_meaning IsTableText device whose came) where
-  pub restarts_as_told : (old new : Scene ReplicaValue) (e : Event) → HasEffect b old e new → RestartsAsStated old e new
+  pub restarts_as_told : (old new : WorldState ReplicaValue) (e : Event) → HasEffect b old e new
+      → RestartsAsStated old e new
   restarts_as_told old new (event.Start n) k = is_new b contract old new n k
   restarts_as_told old new (event.Restart n) k = is_back b contract old new n k
   restarts_as_told old new (event.Tick n) k = tt

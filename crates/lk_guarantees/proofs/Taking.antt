@@ -26,21 +26,21 @@ use Rattle.lk_sim.specs.Groups as groups
 use Rattle.lk_sim.specs.Groups.{bringing, given_by}
 use Rattle.lk_sim.specs.Heard.{IsRequestIn}
 use Rattle.lk_sim.specs.Refusals.{datagram_at, AreFor, IsPermitted}
-use Rattle.lk_sim.specs.Scenes.{Scene}
+use Rattle.lk_sim.specs.WorldStates.{WorldState}
 use Rattle.lk_sim.specs.Traces.{asked_note}
 use Rattle.lk_sim.specs.declared.event.Event.{Event}
 use Rattle.lk_sim.specs.declared.event.Event.TheVariants as event
 use Rattle.lk_sim.specs.declared.event.GroupInput.{GroupInput}
 use Rattle.lk_sim.specs.declared.event.GroupInput.TheVariants as group_input
 use Rattle.lk_sim_nodes.specs.Ends.{end_by}
-use Rattle.lk_sim_nodes.specs.Seats.{stopped_on, rested_on}
+use Rattle.lk_sim_nodes.specs.SimNodes.{stopped_on, rested_on}
 use Rattle.lk_sim_nodes.specs.Sends as sending
 use Rattle.lk_sim_nodes.specs.Sends.{stop_among, left_over, cut_short}
 use Rattle.lk_sim_nodes.specs.declared.end.End.TheVariants.{Stopped}
-use Rattle.lk_sim_nodes.specs.declared.seat.Life.{Life}
-use Rattle.lk_sim_nodes.specs.declared.seat.Life.TheVariants.{Up, Down}
-use Rattle.lk_sim_nodes.specs.declared.seat.Seat.{Seat}
-use Rattle.lk_guarantees.proofs.Reviving.{same_seat, stands_at, ends_on}
+use Rattle.lk_sim_nodes.specs.declared.sim_node.RunState.{RunState}
+use Rattle.lk_sim_nodes.specs.declared.sim_node.RunState.TheVariants.{Up, Down}
+use Rattle.lk_sim_nodes.specs.declared.sim_node.SimNode.{SimNode}
+use Rattle.lk_guarantees.proofs.Reviving.{same_sim_node, stands_at, ends_on}
 use Rattle.lk_guarantees.proofs.Telling.{replies}
 use Rattle.lk_guarantees.specs.Events.{requests, AreAskedIn, IsFor, EndsOn, Step, datagrams_of, up_to, AreNotesOf, Call}
 use Rattle.lk_guarantees.specs.Events.{Takes, TakesAll, with_sends, after_sends, GoesOn, StopsSending, Breaks, IsTaken}
@@ -172,21 +172,22 @@ module _ (b : Behaviour ReplicaValue) (memory_is : (r : ReplicaValue) → b.memo
   all_counted sends r =
       ap (λ (m : Memory). sending.counting b m.meter.trap sends r) (memory_is r) ∙ counted r.store.meter.trap sends r
 
-  module _ (old new : Scene ReplicaValue) (n : ℕ) (Calls : Call) (asked : List RequestValue)
-      (seat next : Seat ReplicaValue) (number_is : seat.number ≡ n) (before : ReplicaValue)
-      (was : seat.life ≡ Up before) (replaces : ReplacesSeat old.seats new.seats seat next) where
-    was_up : slice_get old.seats replaces.index ≡ Some (record { number = n; life = Up before })
-    was_up = stands_at old.seats new.seats seat next replaces ∙ ap Some (same_seat seat n (Up before) number_is was)
+  module _ (old new : WorldState ReplicaValue) (n : ℕ) (Calls : Call) (asked : List RequestValue)
+      (sim_node next : SimNode ReplicaValue) (number_is : sim_node.number ≡ n) (before : ReplicaValue)
+      (was : sim_node.run_state ≡ Up before) (replaces : ReplacesSeat old.sim_nodes new.sim_nodes sim_node next) where
+    was_up : slice_get old.sim_nodes replaces.index ≡ Some (record { number = n; run_state = Up before })
+    was_up = stands_at old.sim_nodes new.sim_nodes sim_node next replaces
+        ∙ ap Some (same_sim_node sim_node n (Up before) number_is was)
 
-    is_now : (life : Life ReplicaValue) → next.life ≡ life
-        → new.seats ≡ set old.seats replaces.index (record { number = n; life = life })
-    is_now life is =
-        replaces.seats
-        ∙ ap (set old.seats replaces.index) (same_seat next n life (replaces.number ∙ number_is) is)
+    is_now : (run_state : RunState ReplicaValue) → next.run_state ≡ run_state
+        → new.sim_nodes ≡ set old.sim_nodes replaces.index (record { number = n; run_state = run_state })
+    is_now run_state is =
+        replaces.sim_nodes
+        ∙ ap (set old.sim_nodes replaces.index) (same_sim_node next n run_state (replaces.number ∙ number_is) is)
 
     went_on : (after : ReplicaValue) (said : List Step) (batch : List Datagram) (notes : List Note)
         → batch ≡ datagrams_of said → Calls before after (Ok said)
-        → next.life ≡ Up (sending.after_sends b (length batch) after) → AreNotesOf said notes
+        → next.run_state ≡ Up (sending.after_sends b (length batch) after) → AreNotesOf said notes
         → Adds old new (notes_asking asked ++ notes) batch → new.ended ≡ None → GoesOn old n Calls asked new
     went_on after said batch notes whole calls up are adds ended = record {
       index = replaces.index;
@@ -208,7 +209,7 @@ module _ (b : Behaviour ReplicaValue) (memory_is : (r : ReplicaValue) → b.memo
     stopped_sending : (after : ReplicaValue) (said : List Step) (batch : List Datagram) (notes : List Note)
         (sends bytes : ℕ) → batch ≡ datagrams_of said → Calls before after (Ok said)
         → stop_among (b.memory after).meter.trap (length batch) ≡ Some (sends, bytes)
-        → next.life ≡ Down (stopped_on bytes bytes (b.memory after)) → AreNotesOf (up_to sends said) notes
+        → next.run_state ≡ Down (stopped_on bytes bytes (b.memory after)) → AreNotesOf (up_to sends said) notes
         → Adds old new (notes_asking asked ++ notes) (take sends batch) → new.ended ≡ Some (Stopped next.number)
         → StopsSending old n Calls asked new
     stopped_sending after said batch notes sends bytes whole calls stop down are adds ended =
@@ -241,7 +242,7 @@ module _ (b : Behaviour ReplicaValue) (memory_is : (r : ReplicaValue) → b.memo
     broke : (after : ReplicaValue) (number : ℕ) (left : Memory) → Calls before after (Err number)
         → left ≡ b.memory after → (number ≡ 8 → ⊥) × (number ≡ 14 → ⊥) × (number ≡ 15 → ⊥)
         → left.meter.starved ≡ false
-        → next.life ≡ Down (rested_on (stopping left.meter) left)
+        → next.run_state ≡ Down (rested_on (stopping left.meter) left)
         → new.ended ≡ Some (end_by (stopping left.meter) next.number number)
         → Adds old new (notes_asking asked) [] → Breaks old n Calls asked new
     broke after number left calls left_is other fed down ended adds =
@@ -271,46 +272,48 @@ module _ (b : Behaviour ReplicaValue) (memory_is : (r : ReplicaValue) → b.memo
       (contract_of_all : (r : ReplicaValue) (given : List Input) (q : ReplicaValue)
       (came : Result (List Said) ℕ) → b.TakesAll r given q came
       → ComesToAll table_meaning IsTableText r given q came) where
-    taken : (old new : Scene ReplicaValue) (n : ℕ) (x : Input) (asked : List RequestValue)
+    taken : (old new : WorldState ReplicaValue) (n : ℕ) (x : Input) (asked : List RequestValue)
         → IsGiven b old new n x (notes_asking asked) → IsTaken old n (Takes x) asked new
     taken old new n x asked k =
         let told : List Note = notes_asking asked in
         elim k.comes_to [
-          | inl r ↦ inl (went_on old new n (Takes x) asked k.seat k.next k.number k.replica k.up k.replaces r.replica
+          | inl r ↦ inl (went_on old new n (Takes x) asked k.sim_node k.next k.number k.replica k.up
+              k.replaces r.replica
               ((r.notes, r.batch) ∷ []) r.batch ((r.notes ++ r.told) ++ []) (sym (append-nil r.batch))
               ((r.notes, r.batch), refl, contract k.replica x r.replica (Ok (r.notes, r.batch)) r.takes) r.up
               (r.told, [], replies r.batch r.told r.tells, refl, refl)
               (subst (λ (l : List Note). Adds old new l r.batch) (one_step told r.notes r.told) r.adds) r.ended)
-          | inr (inl r) ↦ inr (inl (stopped_sending old new n (Takes x) asked k.seat k.next k.number k.replica k.up
+          | inr (inl r) ↦ inr (inl (stopped_sending old new n (Takes x) asked k.sim_node k.next k.number k.replica k.up
               k.replaces r.replica ((r.notes, r.batch) ∷ []) r.batch ((r.notes ++ r.told) ++ []) r.sends r.bytes
               (sym (append-nil r.batch))
               ((r.notes, r.batch), refl, contract k.replica x r.replica (Ok (r.notes, r.batch)) r.takes) r.stop r.down
               (r.told, [], replies (take r.sends r.batch) r.told r.tells, refl, refl)
               (subst (λ (l : List Note). Adds old new l (take r.sends r.batch)) (one_step told r.notes r.told) r.adds)
               r.ended))
-          | inr (inr f) ↦ inr (inr (broke old new n (Takes x) asked k.seat k.next k.number k.replica k.up k.replaces
+          | inr (inr f) ↦ inr (inr (broke old new n (Takes x) asked k.sim_node k.next k.number k.replica k.up k.replaces
               f.ends.0 f.number f.left (contract k.replica x f.ends.0 (Err f.number) f.ends.1) f.ends.3
               (f.no_want.memory, f.no_want.halted, f.no_want.envelopes) f.no_want.starved f.down f.ended f.adds))
         ]
 
-    taken_together : (old new : Scene ReplicaValue) (n : ℕ) (given : List Input)
+    taken_together : (old new : WorldState ReplicaValue) (n : ℕ) (given : List Input)
         → IsGivenTogether b old new n given → IsTaken old n (TakesAll given) [] new
     taken_together old new n given k = elim k.comes_to [
-      | inl r ↦ inl (went_on old new n (TakesAll given) [] k.seat k.next k.number k.replica k.up k.replaces r.replica
+      | inl r ↦ inl (went_on old new n (TakesAll given) [] k.sim_node k.next k.number k.replica k.up
+          k.replaces r.replica
           r.said (sent_of r.said) r.notes (all_sent r.said)
           (contract_of_all k.replica given r.replica (Ok r.said) r.takes) r.up (are_notes r.said r.notes r.tells)
           r.adds r.ended)
-      | inr (inl r) ↦ inr (inl (stopped_sending old new n (TakesAll given) [] k.seat k.next k.number k.replica k.up
+      | inr (inl r) ↦ inr (inl (stopped_sending old new n (TakesAll given) [] k.sim_node k.next k.number k.replica k.up
           k.replaces r.replica r.said (sent_of r.said) r.notes r.sends r.bytes (all_sent r.said)
           (contract_of_all k.replica given r.replica (Ok r.said) r.takes) r.stop r.down
           (subst (λ (l : List Said). AreNotesOf l r.notes) (cut_is r.sends r.said)
           (are_notes (cut_short r.sends r.said) r.notes r.tells)) r.adds r.ended))
-      | inr (inr f) ↦ inr (inr (broke old new n (TakesAll given) [] k.seat k.next k.number k.replica k.up k.replaces
+      | inr (inr f) ↦ inr (inr (broke old new n (TakesAll given) [] k.sim_node k.next k.number k.replica k.up k.replaces
           f.ends.0 f.number f.left (contract_of_all k.replica given f.ends.0 (Err f.number) f.ends.1) f.ends.3
           (f.no_want.memory, f.no_want.halted, f.no_want.envelopes) f.no_want.starved f.down f.ended f.adds))
     ]
 
-    pub takes_as_told : (old new : Scene ReplicaValue) (e : Event) → IsPermitted old e
+    pub takes_as_told : (old new : WorldState ReplicaValue) (e : Event) → IsPermitted old e
         → HasEffect b old e new → TakesAsStated old e new
     takes_as_told old new (event.Start n) may k = tt
     takes_as_told old new (event.Restart n) may k = tt

@@ -18,12 +18,12 @@ use Rattle.lk_node.specs.Leavings.{header_of}
 use Rattle.lk_recovery.specs.Revivals.{IsLastOld}
 use Rattle.lk_replica.specs.ReplicaValue.{ReplicaValue}
 use Rattle.lk_replica.specs.Revived.{RevivesTo}
-use Rattle.lk_sim.specs.Scenes.{Scene}
+use Rattle.lk_sim.specs.WorldStates.{WorldState}
 use Rattle.lk_sim_nodes.specs.declared.end.End.TheVariants.{Fault, Stopped}
 use Rattle.lk_sim.specs.declared.event.Event.TheVariants as event
 use Rattle.lk_sim_nodes.specs.declared.refused.Refused.{Refused}
 use Rattle.lk_sim_nodes.specs.declared.refused.Refused.TheVariants.{WorldMemory}
-use Rattle.lk_sim_nodes.specs.declared.seat.Life.TheVariants.{Down}
+use Rattle.lk_sim_nodes.specs.declared.sim_node.RunState.TheVariants.{Down}
 use Rattle.lk_guarantees.specs.Events.{IsDone, IsRefused, IsUp}
 
 -- a refusal with the fault of this number, of a restart from these disks, is excused
@@ -46,23 +46,23 @@ IsQuiet meter = (meter.trap ≡ Off) × (meter.fuse ≡ None) × (meter.unread �
 
 -- the node that restarted from this device is up; or it has ended with fault 7, as a call of the device failed; or, if
 -- something makes one fail, at an armed stop; or, if its file has format 1 and no generation is left, with fault 11
-abbrev pub IsBack : ℕ → Memory → Scene ReplicaValue → Type 0
+abbrev pub IsBack : ℕ → Memory → WorldState ReplicaValue → Type 0
 IsBack n device new =
-    IsUp new.seats n
+    IsUp new.sim_nodes n
     ⊎ ((new.ended ≡ Some (Fault n 7)) × ((left : Memory) × Breaks device.meter left.meter))
     ⊎ ((new.ended ≡ Some (Stopped n)) × (IsQuiet device.meter → ⊥))
     ⊎ ((new.ended ≡ Some (Fault n 11)) × IsLastOld (seen (disk_of device)))
 
 -- a restart of each node that is down, on whatever device, comes back
-pub record ComesBack (world : Scene ReplicaValue) : Type 0 where
+pub record ComesBack (world : WorldState ReplicaValue) : Type 0 where
   -- whatever its contract lets it come to from this device, a failure is excused
-  pub excused : (n : ℕ) (device : Memory) → Contains world.seats (record { number = n; life = Down device })
+  pub excused : (n : ℕ) (device : Memory) → Contains world.sim_nodes (record { number = n; run_state = Down device })
       → (number : ℕ) (left : Memory)
       → RevivesTo table_meaning IsTableText device (header_of world.genesis n) (Err (number, left))
       → IsExcusedOn device left number
   -- a Restart is refused for nothing but memory
-  pub refused : (n : ℕ) (device : Memory) → Contains world.seats (record { number = n; life = Down device })
-      → (why : Refused) (new : Scene ReplicaValue) → IsRefused world (event.Restart n) why new → why ≡ WorldMemory
+  pub refused : (n : ℕ) (device : Memory) → Contains world.sim_nodes (record { number = n; run_state = Down device })
+      → (why : Refused) (new : WorldState ReplicaValue) → IsRefused world (event.Restart n) why new → why ≡ WorldMemory
   -- and if it is done, the node is back
-  pub back : (n : ℕ) (device : Memory) → Contains world.seats (record { number = n; life = Down device })
-      → (new : Scene ReplicaValue) → IsDone world (event.Restart n) new → IsBack n device new
+  pub back : (n : ℕ) (device : Memory) → Contains world.sim_nodes (record { number = n; run_state = Down device })
+      → (new : WorldState ReplicaValue) → IsDone world (event.Restart n) new → IsBack n device new

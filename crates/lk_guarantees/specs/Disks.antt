@@ -22,9 +22,9 @@ use Rattle.lk_log.specs.Images.{IsLive, IsEmpty}
 use Rattle.lk_log.specs.Stores.{first_base}
 use Rattle.lk_agreement_laws.specs.Datagrams.{Datagram}
 use Rattle.lk_replica.specs.ReplicaValue.{ReplicaValue, device_of}
-use Rattle.lk_sim_nodes.specs.declared.seat.Life.{Life}
-use Rattle.lk_sim_nodes.specs.declared.seat.Life.TheVariants.{Up, Down}
-use Rattle.lk_sim_nodes.specs.declared.seat.Seat.{Seat}
+use Rattle.lk_sim_nodes.specs.declared.sim_node.RunState.{RunState}
+use Rattle.lk_sim_nodes.specs.declared.sim_node.RunState.TheVariants.{Up, Down}
+use Rattle.lk_sim_nodes.specs.declared.sim_node.SimNode.{SimNode}
 use Rattle.lk_codec.specs.Fields as field
 use Rattle.lk_state.specs.declared.session.Session.{Session}
 use Rattle.lk_guarantees.specs.Chosen.{Says, IsChosen, IsPrefix}
@@ -55,7 +55,7 @@ IsSnapshot genesis L bytes = (kept : Kept) × IsKeptOf genesis L kept × (bytes 
 -- ---- what the disks of a node keep
 
 -- the two disks of a node, up or down
-abbrev pub device_in : Life ReplicaValue → Memory
+abbrev pub device_in : RunState ReplicaValue → Memory
 device_in (Up replica) = device_of replica.store
 device_in (Down device) = device
 
@@ -64,8 +64,8 @@ abbrev pub MayRemain : Disk → List ℕ → Type 0
 MayRemain disk left = (kept : ℕ) × (left ≡ disk.synced ++ take kept disk.unsynced)
 
 -- of both
-abbrev pub MayRemainOf : Life ReplicaValue → (Side → List ℕ) → Type 0
-MayRemainOf life image = MayRemain (device_in life).a (image A) × MayRemain (device_in life).b (image B)
+abbrev pub MayRemainOf : RunState ReplicaValue → (Side → List ℕ) → Type 0
+MayRemainOf run_state image = MayRemain (device_in run_state).a (image A) × MayRemain (device_in run_state).b (image B)
 
 -- what a node remembers from these bytes: what the entries of its live file stand for; or, if no file was begun, no
 -- more than a snapshot of no commands. (Which bytes are which entries, which file is live, and what entries stand for,
@@ -82,9 +82,9 @@ pub record Remembers (genesis : Genesis) (node : ℕ) (image : Side → List ℕ
       ∷ [])))
 
 -- the node remembers this from each image that a stop may leave of its disks
-abbrev pub EachImage : Genesis → Seat ReplicaValue → (StandingValue → Type 0) → Type 0
+abbrev pub EachImage : Genesis → SimNode ReplicaValue → (StandingValue → Type 0) → Type 0
 EachImage genesis s Is =
-    (image : Side → List ℕ) → MayRemainOf s.life image
+    (image : Side → List ℕ) → MayRemainOf s.run_state image
     → (memory : StandingValue) × Remembers genesis s.number image memory × Is memory
 
 -- its snapshot is one of a chosen list
@@ -106,9 +106,9 @@ pub record IsNear (genesis : Genesis) (memory : StandingValue) : Type 0 where
       → p.0 ≤ reach memory.position memory.pairs + 2 * genesis.alpha
 
 -- each node has such a snapshot, and nothing lies too far above it for a restart, whatever a stop may leave of it
-abbrev pub HaveSnapshots : Genesis → List (Seat ReplicaValue) → List Datagram → Type 0
-HaveSnapshots genesis seats sent =
-    (s : Seat ReplicaValue) → Contains seats s
+abbrev pub HaveSnapshots : Genesis → List (SimNode ReplicaValue) → List Datagram → Type 0
+HaveSnapshots genesis sim_nodes sent =
+    (s : SimNode ReplicaValue) → Contains sim_nodes s
     → EachImage genesis s (λ memory. HasSnapshot genesis sent memory × IsNear genesis memory)
 
 -- the vote, or one for its position in a greater ballot, is among these
@@ -127,9 +127,9 @@ IsCovered memory (message.Accepted x) =
 IsCovered memory _ = Unit {0}
 
 -- everything that a node has sent is covered, whatever a stop may leave of it
-abbrev pub AreCovered : Genesis → List (Seat ReplicaValue) → List Datagram → Type 0
-AreCovered genesis seats sent =
-    (s : Seat ReplicaValue) → Contains seats s
+abbrev pub AreCovered : Genesis → List (SimNode ReplicaValue) → List Datagram → Type 0
+AreCovered genesis sim_nodes sent =
+    (s : SimNode ReplicaValue) → Contains sim_nodes s
     → EachImage genesis s (λ memory. (m : NodeMessage) → Says genesis sent s.number m → IsCovered memory m)
 
 -- the command of position i is remembered: by a snapshot of a chosen list that reaches it and agrees with this one, or
@@ -142,19 +142,20 @@ IsRemembered genesis sent L i v memory =
     ⊎ ((y : Vote) × Contains memory.votes y × (y.position ≡ i) × (y.command ≡ v))
 
 -- more than half of the members of position i remember its command, whatever a stop may leave of them
-pub record IsKeptBy (genesis : Genesis) (seats : List (Seat ReplicaValue)) (sent : List Datagram) (L : List Command)
+pub record IsKeptBy (genesis : Genesis) (sim_nodes : List (SimNode ReplicaValue)) (sent : List Datagram)
+    (L : List Command)
     (i : ℕ) (v : Command) : Type 0 where
   pub among : Member → Bool
   pub more_than_half : length (members genesis L i) < 2 * count_by among (members genesis L i)
   pub each : (m : Member) → Contains (members genesis L i) m → IsTrue (among m)
-      → (s : Seat ReplicaValue) × Contains seats s × (s.number ≡ m.node)
+      → (s : SimNode ReplicaValue) × Contains sim_nodes s × (s.number ≡ m.node)
       × EachImage genesis s (IsRemembered genesis sent L i v)
 
 -- so it is for each command of a chosen list
-abbrev pub AreKept : Genesis → List (Seat ReplicaValue) → List Datagram → Type 0
-AreKept genesis seats sent =
+abbrev pub AreKept : Genesis → List (SimNode ReplicaValue) → List Datagram → Type 0
+AreKept genesis sim_nodes sent =
     (L : List Command) (i : ℕ) (v : Command) → IsChosen genesis sent L → at L i ≡ Some v
-    → IsKeptBy genesis seats sent L i v
+    → IsKeptBy genesis sim_nodes sent L i v
 
 -- ---- how long the files of a node are
 
@@ -163,6 +164,7 @@ abbrev pub IsShort : Disk → Type 0
 IsShort disk = length (disk.synced ++ disk.unsynced) ≤ 262144
 
 -- both files of each node, up or down
-abbrev pub AreShort : List (Seat ReplicaValue) → Type 0
-AreShort seats =
-    (s : Seat ReplicaValue) → Contains seats s → IsShort (device_in s.life).a × IsShort (device_in s.life).b
+abbrev pub AreShort : List (SimNode ReplicaValue) → Type 0
+AreShort sim_nodes =
+    (s : SimNode ReplicaValue) → Contains sim_nodes s → IsShort (device_in s.run_state).a
+    × IsShort (device_in s.run_state).b

@@ -27,7 +27,7 @@ use Rattle.lk_replica.specs.ReplicaValue.{ReplicaValue, device_of}
 use Rattle.lk_replica.specs.Revived.{RevivesTo}
 use Rattle.lk_replica.specs.Taking.{ComesTo}
 use Rattle.lk_replica.specs.Together.{ComesToAll}
-use Rattle.lk_sim.specs.Scenes.{Scene}
+use Rattle.lk_sim.specs.WorldStates.{WorldState}
 use Rattle.lk_sim_nodes.specs.declared.end.End.{End}
 use Rattle.lk_sim_nodes.specs.declared.end.End.TheVariants.{Fault, Stopped}
 use Rattle.lk_sim.specs.declared.end.RunEnd.{RunEnd}
@@ -38,16 +38,16 @@ use Rattle.lk_sim.specs.declared.event.GroupInput.{GroupInput}
 use Rattle.lk_sim.specs.declared.event.GroupInput.TheVariants as group_input
 use Rattle.lk_sim_nodes.specs.declared.refused.Refused.TheVariants.{NoSuchNode, NotUp, AlreadyUp, NoSuchDatagram}
 use Rattle.lk_sim_nodes.specs.declared.refused.Refused.TheVariants.{Forged, WorldFull, WorldMemory}
-use Rattle.lk_sim_nodes.specs.declared.seat.Life.TheVariants.{Up, Down}
-use Rattle.lk_sim_nodes.specs.declared.seat.Seat.{Seat}
+use Rattle.lk_sim_nodes.specs.declared.sim_node.RunState.TheVariants.{Up, Down}
+use Rattle.lk_sim_nodes.specs.declared.sim_node.SimNode.{SimNode}
 use Rattle.lk_guarantees.specs.Disks.{EachImage, HasSnapshot}
 use Rattle.lk_guarantees.specs.Guarantee.{kept_by_replica, AreReplies}
 
 -- ---- how a world begins
 
 -- nothing has happened
-abbrev pub nothing : Genesis → Scene ReplicaValue
-nothing genesis = record { genesis = genesis; seats = []; sent = []; trace = []; ended = None }
+abbrev pub nothing : Genesis → WorldState ReplicaValue
+nothing genesis = record { genesis = genesis; sim_nodes = []; sent = []; trace = []; ended = None }
 
 -- ---- what an event asks, and which node it is for
 
@@ -93,33 +93,33 @@ IsFor sent (event.Stop n x y) number = number ≡ n
 IsFor sent (event.FailAt n count) number = number ≡ n
 IsFor sent (event.Arm n count bytes) number = number ≡ n
 
-abbrev pub IsStarted : List (Seat ReplicaValue) → ℕ → Type 0
-IsStarted seats number = (s : Seat ReplicaValue) × Contains seats s × (s.number ≡ number)
+abbrev pub IsStarted : List (SimNode ReplicaValue) → ℕ → Type 0
+IsStarted sim_nodes number = (s : SimNode ReplicaValue) × Contains sim_nodes s × (s.number ≡ number)
 
 -- only this node may have changed, or it was added, if it was never started before
-abbrev pub ChangesOnly : ℕ → List (Seat ReplicaValue) → List (Seat ReplicaValue) → Type 0
+abbrev pub ChangesOnly : ℕ → List (SimNode ReplicaValue) → List (SimNode ReplicaValue) → Type 0
 ChangesOnly number old new =
     (new ≡ old)
-    ⊎ ((index : ℕ) × (s t : Seat ReplicaValue) × (slice_get old index ≡ Some s) × (s.number ≡ number)
+    ⊎ ((index : ℕ) × (s t : SimNode ReplicaValue) × (slice_get old index ≡ Some s) × (s.number ≡ number)
     × (t.number ≡ number) × (new ≡ set old index t))
-    ⊎ ((IsStarted old number → ⊥) × ((s : Seat ReplicaValue) × (s.number ≡ number) × (new ≡ old ++ s ∷ [])))
+    ⊎ ((IsStarted old number → ⊥) × ((s : SimNode ReplicaValue) × (s.number ≡ number) × (new ≡ old ++ s ∷ [])))
 
 -- it alone is down now
-abbrev pub FallsDown : ℕ → List (Seat ReplicaValue) → List (Seat ReplicaValue) → Type 0
+abbrev pub FallsDown : ℕ → List (SimNode ReplicaValue) → List (SimNode ReplicaValue) → Type 0
 FallsDown number old new =
-    (index : ℕ) × (s : Seat ReplicaValue) × (device : Memory) × (slice_get old index ≡ Some s) × (s.number ≡ number)
-    × (new ≡ set old index (record { number = number; life = Down device }))
+    (index : ℕ) × (s : SimNode ReplicaValue) × (device : Memory) × (slice_get old index ≡ Some s) × (s.number ≡ number)
+    × (new ≡ set old index (record { number = number; run_state = Down device }))
 
 -- what a client asks joins the datagrams, alone, addressed to the node, is noted, alone, and changes no node
-abbrev pub SendsAsAsked : Scene ReplicaValue → Event → Scene ReplicaValue → Type 0
+abbrev pub SendsAsAsked : WorldState ReplicaValue → Event → WorldState ReplicaValue → Type 0
 SendsAsAsked old (event.Client n r) new =
     (d : Datagram) × (d.from ≡ party.Client r.client) × (d.to ≡ party.Node n)
     × Spells (record { cluster = old.genesis.cluster; content = content.Request r }) d.bytes
-    × (new.sent ≡ old.sent ++ d ∷ []) × (new.trace ≡ old.trace ++ note.Asked r ∷ []) × (new.seats ≡ old.seats)
+    × (new.sent ≡ old.sent ++ d ∷ []) × (new.trace ≡ old.trace ++ note.Asked r ∷ []) × (new.sim_nodes ≡ old.sim_nodes)
 SendsAsAsked old _ new = Unit {0}
 
 -- what was sent stays sent, and what was noted stays noted
-abbrev pub Grows : Scene ReplicaValue → Scene ReplicaValue → Type 0
+abbrev pub Grows : WorldState ReplicaValue → WorldState ReplicaValue → Type 0
 Grows old new = ((more : List Datagram) × (new.sent ≡ old.sent ++ more))
     × ((more : List Note) × (new.trace ≡ old.trace ++ more)) × (new.genesis ≡ old.genesis)
 
@@ -129,12 +129,12 @@ remaining most disk = record { synced = disk.synced ++ take most disk.unsynced; 
 
 -- a node was up and is down, with this many bytes of its disk A and of its disk B, and no trap is set; all other nodes
 -- are unchanged
-pub record IsStopped (old new : Scene ReplicaValue) (number x y : ℕ) : Type 0 where
+pub record IsStopped (old new : WorldState ReplicaValue) (number x y : ℕ) : Type 0 where
   pub index : ℕ
   pub replica : ReplicaValue
-  pub was_up : slice_get old.seats index ≡ Some (record { number = number; life = Up replica })
+  pub was_up : slice_get old.sim_nodes index ≡ Some (record { number = number; run_state = Up replica })
   pub device : Memory
-  pub is_down : new.seats ≡ set old.seats index (record { number = number; life = Down device })
+  pub is_down : new.sim_nodes ≡ set old.sim_nodes index (record { number = number; run_state = Down device })
   pub disk_a : device.a ≡ remaining x (device_of replica.store).a
   pub disk_b : device.b ≡ remaining y (device_of replica.store).b
   pub untrapped : (device.meter.trap ≡ Off) × (device.meter.fuse ≡ None)
@@ -142,45 +142,47 @@ pub record IsStopped (old new : Scene ReplicaValue) (number x y : ℕ) : Type 0 
   pub nothing_noted : new.trace ≡ old.trace
 
 -- a compaction notes and sends nothing, nor does a trap that is set
-abbrev pub IsSilent : Scene ReplicaValue → Event → Scene ReplicaValue → Type 0
+abbrev pub IsSilent : WorldState ReplicaValue → Event → WorldState ReplicaValue → Type 0
 IsSilent old (event.Compact number) new = (new.sent ≡ old.sent) × (new.trace ≡ old.trace)
 IsSilent old (event.FailAt number count) new = (new.sent ≡ old.sent) × (new.trace ≡ old.trace)
 IsSilent old (event.Arm number count bytes) new = (new.sent ≡ old.sent) × (new.trace ≡ old.trace)
 IsSilent old _ new = Unit {0}
 
-abbrev pub StopsAsAsked : Scene ReplicaValue → Event → Scene ReplicaValue → Type 0
+abbrev pub StopsAsAsked : WorldState ReplicaValue → Event → WorldState ReplicaValue → Type 0
 StopsAsAsked old (event.Stop number x y) new = IsStopped old new number x y
 StopsAsAsked old _ new = Unit {0}
 
 -- ---- when an event is refused, and what one leaves up
 
-abbrev pub IsUp : List (Seat ReplicaValue) → ℕ → Type 0
-IsUp seats number =
-    (s : Seat ReplicaValue) × (replica : ReplicaValue) × Contains seats s × (s.number ≡ number) × (s.life ≡ Up replica)
+abbrev pub IsUp : List (SimNode ReplicaValue) → ℕ → Type 0
+IsUp sim_nodes number =
+    (s : SimNode ReplicaValue) × (replica : ReplicaValue) × Contains sim_nodes s × (s.number ≡ number)
+    × (s.run_state ≡ Up replica)
 
-abbrev pub IsDown : List (Seat ReplicaValue) → ℕ → Type 0
-IsDown seats number =
-    (s : Seat ReplicaValue) × (device : Memory) × Contains seats s × (s.number ≡ number) × (s.life ≡ Down device)
+abbrev pub IsDown : List (SimNode ReplicaValue) → ℕ → Type 0
+IsDown sim_nodes number =
+    (s : SimNode ReplicaValue) × (device : Memory) × Contains sim_nodes s × (s.number ≡ number)
+    × (s.run_state ≡ Down device)
 
 -- only a node that was never started is started, and only one that is down is restarted
-abbrev pub IsAlready : List (Seat ReplicaValue) → Event → Type 0
-IsAlready seats (event.Start n) = IsStarted seats n
-IsAlready seats (event.Restart n) = IsUp seats n
-IsAlready seats _ = ⊥
+abbrev pub IsAlready : List (SimNode ReplicaValue) → Event → Type 0
+IsAlready sim_nodes (event.Start n) = IsStarted sim_nodes n
+IsAlready sim_nodes (event.Restart n) = IsUp sim_nodes n
+IsAlready sim_nodes _ = ⊥
 
 -- any other event is for a node that was started
-abbrev pub LacksNode : Scene ReplicaValue → Event → Type 0
+abbrev pub LacksNode : WorldState ReplicaValue → Event → Type 0
 LacksNode old (event.Start n) = ⊥
-LacksNode old e = (n : ℕ) × IsFor old.sent e n × (IsStarted old.seats n → ⊥)
+LacksNode old e = (n : ℕ) × IsFor old.sent e n × (IsStarted old.sim_nodes n → ⊥)
 
 -- and, but for a request and a trap, for one that is up
-abbrev pub LacksLife : Scene ReplicaValue → Event → Type 0
-LacksLife old (event.Start n) = ⊥
-LacksLife old (event.Restart n) = ⊥
-LacksLife old (event.Client n r) = ⊥
-LacksLife old (event.FailAt n count) = ⊥
-LacksLife old (event.Arm n count bytes) = ⊥
-LacksLife old e = (n : ℕ) × IsFor old.sent e n × IsDown old.seats n
+abbrev pub LacksRunState : WorldState ReplicaValue → Event → Type 0
+LacksRunState old (event.Start n) = ⊥
+LacksRunState old (event.Restart n) = ⊥
+LacksRunState old (event.Client n r) = ⊥
+LacksRunState old (event.FailAt n count) = ⊥
+LacksRunState old (event.Arm n count bytes) = ⊥
+LacksRunState old e = (n : ℕ) × IsFor old.sent e n × IsDown old.sim_nodes n
 
 -- a datagram that is to be delivered was sent, to a node; those of a group to that of the group
 abbrev pub LacksDatagram : List Datagram → Event → Type 0
@@ -197,8 +199,8 @@ IsForged (event.Inject n bytes) =
 IsForged _ = ⊥
 
 -- a world has 16 nodes, and no room for what is sent once it has more than 99,000 datagrams
-abbrev pub IsFull : Scene ReplicaValue → Event → Type 0
-IsFull old (event.Start n) = 16 ≤ length old.seats
+abbrev pub IsFull : WorldState ReplicaValue → Event → Type 0
+IsFull old (event.Start n) = 16 ≤ length old.sim_nodes
 IsFull old (event.Restart n) = ⊥
 IsFull old (event.Compact n) = ⊥
 IsFull old (event.Stop n x y) = ⊥
@@ -214,22 +216,22 @@ NeedsMemory (event.Arm n count bytes) = ⊥
 NeedsMemory _ = Unit {0}
 
 -- why an event is refused
-abbrev pub HasCause : Scene ReplicaValue → Event → Refused → Type 0
+abbrev pub HasCause : WorldState ReplicaValue → Event → Refused → Type 0
 HasCause old e NoSuchNode = LacksNode old e
-HasCause old e NotUp = LacksLife old e
-HasCause old e AlreadyUp = IsAlready old.seats e
+HasCause old e NotUp = LacksRunState old e
+HasCause old e AlreadyUp = IsAlready old.sim_nodes e
 HasCause old e NoSuchDatagram = LacksDatagram old.sent e
 HasCause old e Forged = IsForged e
 HasCause old e WorldFull = IsFull old e
 HasCause old e WorldMemory = NeedsMemory e
 
 -- where it ended no node, the node to which an event gives something, or which it starts, is up
-abbrev pub LeavesUp : Scene ReplicaValue → Event → Scene ReplicaValue → Type 0
+abbrev pub LeavesUp : WorldState ReplicaValue → Event → WorldState ReplicaValue → Type 0
 LeavesUp old (event.Client n r) new = Unit {0}
 LeavesUp old (event.Stop n x y) new = Unit {0}
 LeavesUp old (event.FailAt n count) new = Unit {0}
 LeavesUp old (event.Arm n count bytes) new = Unit {0}
-LeavesUp old e new = new.ended ≡ None → (n : ℕ) × IsFor old.sent e n × IsUp new.seats n
+LeavesUp old e new = new.ended ≡ None → (n : ℕ) × IsFor old.sent e n × IsUp new.sim_nodes n
 
 -- the node of which an end tells
 abbrev pub ended_node : End → ℕ
@@ -237,9 +239,9 @@ ended_node (Fault n number) = n
 ended_node (Stopped n) = n
 
 -- if the event ended a node, that is the node that it is for, and it is down
-abbrev pub LeavesDown : Scene ReplicaValue → Event → Scene ReplicaValue → Type 0
+abbrev pub LeavesDown : WorldState ReplicaValue → Event → WorldState ReplicaValue → Type 0
 LeavesDown old e new =
-    (x : End) → new.ended ≡ Some x → IsFor old.sent e (ended_node x) × IsDown new.seats (ended_node x)
+    (x : End) → new.ended ≡ Some x → IsFor old.sent e (ended_node x) × IsDown new.sim_nodes (ended_node x)
 
 -- a fault that ended a node is one of its device (7), or that its store has failed before or has no generation left
 -- (11): its files are never damaged (9) or another's (10)
@@ -306,16 +308,16 @@ after_sends sends replica = with_sends replica.store.meter.trap sends replica
 
 -- The node took something, and went on: its replica is what the call left. All that the call sent was sent; all that it
 -- noted is noted, after what was just asked, and nothing else is.
-pub record GoesOn (old : Scene ReplicaValue) (n : ℕ) (Calls : Call) (asked : List Asking)
-    (new : Scene ReplicaValue) : Type 0 where
+pub record GoesOn (old : WorldState ReplicaValue) (n : ℕ) (Calls : Call) (asked : List Asking)
+    (new : WorldState ReplicaValue) : Type 0 where
   pub index : ℕ
   pub before : ReplicaValue
-  pub was_up : slice_get old.seats index ≡ Some (record { number = n; life = Up before })
+  pub was_up : slice_get old.sim_nodes index ≡ Some (record { number = n; run_state = Up before })
   pub after : ReplicaValue
   pub said : List Step
   pub calls : Calls before after (Ok said)
-  pub is_up : new.seats
-      ≡ set old.seats index (record { number = n; life = Up (after_sends (length (datagrams_of said)) after) })
+  pub is_up : new.sim_nodes
+      ≡ set old.sim_nodes index (record { number = n; run_state = Up (after_sends (length (datagrams_of said)) after) })
   pub sent : new.sent ≡ old.sent ++ datagrams_of said
   pub notes : List Note
   pub are_notes : AreNotesOf said notes
@@ -324,11 +326,11 @@ pub record GoesOn (old : Scene ReplicaValue) (n : ℕ) (Calls : Call) (asked : L
 
 -- It stopped at a send, the first at which an armed trap was due: so many of the datagrams were sent, with their
 -- replies noted, and everything else of the call was noted.
-pub record StopsSending (old : Scene ReplicaValue) (n : ℕ) (Calls : Call) (asked : List Asking)
-    (new : Scene ReplicaValue) : Type 0 where
+pub record StopsSending (old : WorldState ReplicaValue) (n : ℕ) (Calls : Call) (asked : List Asking)
+    (new : WorldState ReplicaValue) : Type 0 where
   pub index : ℕ
   pub before : ReplicaValue
-  pub was_up : slice_get old.seats index ≡ Some (record { number = n; life = Up before })
+  pub was_up : slice_get old.sim_nodes index ≡ Some (record { number = n; run_state = Up before })
   pub after : ReplicaValue
   pub said : List Step
   pub calls : Calls before after (Ok said)
@@ -337,7 +339,7 @@ pub record StopsSending (old : Scene ReplicaValue) (n : ℕ) (Calls : Call) (ask
   pub fewer : sends < length (datagrams_of said)
   pub armed : after.store.meter.trap ≡ Arm (sends + 1) bytes
   pub rest : Memory
-  pub is_down : new.seats ≡ set old.seats index (record { number = n; life = Down rest })
+  pub is_down : new.sim_nodes ≡ set old.sim_nodes index (record { number = n; run_state = Down rest })
   pub disk_a : rest.a ≡ remaining bytes (device_of after.store).a
   pub disk_b : rest.b ≡ remaining bytes (device_of after.store).b
   pub sent : new.sent ≡ old.sent ++ take sends (datagrams_of said)
@@ -347,24 +349,24 @@ pub record StopsSending (old : Scene ReplicaValue) (n : ℕ) (Calls : Call) (ask
   pub ended : new.ended ≡ Some (Stopped n)
 
 -- the call failed, not for want of memory, and ended the node: it has sent nothing, and only what was asked is noted
-pub record Breaks (old : Scene ReplicaValue) (n : ℕ) (Calls : Call) (asked : List Asking)
-    (new : Scene ReplicaValue) : Type 0 where
+pub record Breaks (old : WorldState ReplicaValue) (n : ℕ) (Calls : Call) (asked : List Asking)
+    (new : WorldState ReplicaValue) : Type 0 where
   pub index : ℕ
   pub before : ReplicaValue
-  pub was_up : slice_get old.seats index ≡ Some (record { number = n; life = Up before })
+  pub was_up : slice_get old.sim_nodes index ≡ Some (record { number = n; run_state = Up before })
   pub after : ReplicaValue
   pub number : ℕ
   pub calls : Calls before after (Err number)
   pub no_memory : (number ≡ 8 → ⊥) × (number ≡ 14 → ⊥) × (number ≡ 15 → ⊥)
   pub not_starved : after.store.meter.starved ≡ false
   pub rest : Memory
-  pub is_down : new.seats ≡ set old.seats index (record { number = n; life = Down rest })
+  pub is_down : new.sim_nodes ≡ set old.sim_nodes index (record { number = n; run_state = Down rest })
   pub ends : EndsOn (stopping after.store.meter) n number (device_of after.store) rest new.ended
   pub nothing_sent : new.sent ≡ old.sent
   pub noted : new.trace ≡ old.trace ++ map (λ r. note.Asked r) asked
 
 -- one of these
-abbrev pub IsTaken : Scene ReplicaValue → ℕ → Call → List Asking → Scene ReplicaValue → Type 0
+abbrev pub IsTaken : WorldState ReplicaValue → ℕ → Call → List Asking → WorldState ReplicaValue → Type 0
 IsTaken old n Calls asked new =
     GoesOn old n Calls asked new ⊎ StopsSending old n Calls asked new ⊎ Breaks old n Calls asked new
 
@@ -380,7 +382,7 @@ AreGiven sent (group_input.Deliver k ∷ group_inputs) given =
     × ((rest : List Input) × (given ≡ Heard d.bytes ∷ rest) × AreGiven sent group_inputs rest)
 
 -- the node took the input as the contract of a replica says
-abbrev pub TakesAsStated : Scene ReplicaValue → Event → Scene ReplicaValue → Type 0
+abbrev pub TakesAsStated : WorldState ReplicaValue → Event → WorldState ReplicaValue → Type 0
 TakesAsStated old (event.Tick n) new = IsTaken old n (Takes Tick) [] new
 TakesAsStated old (event.Nudge n reason) new = IsTaken old n (Takes (Nudge reason)) [] new
 TakesAsStated old (event.Inject n bytes) new =
@@ -396,67 +398,67 @@ TakesAsStated old _ new = Unit {0}
 
 -- a node that was down restarted from its disks: it is up as the contract of a replica says, and what it executed again
 -- is noted. (The contract, `RevivesTo`, is named here and not restated)
-pub record IsRestarted (old : Scene ReplicaValue) (n : ℕ) (new : Scene ReplicaValue) : Type 0 where
+pub record IsRestarted (old : WorldState ReplicaValue) (n : ℕ) (new : WorldState ReplicaValue) : Type 0 where
   pub index : ℕ
   pub device : Memory
-  pub was_down : slice_get old.seats index ≡ Some (record { number = n; life = Down device })
+  pub was_down : slice_get old.sim_nodes index ≡ Some (record { number = n; run_state = Down device })
   pub replica : ReplicaValue
   pub notes : List Note
   pub revives : RevivesTo table_meaning IsTableText device (header_of old.genesis n) (Ok (replica, notes))
-  pub is_up : new.seats ≡ set old.seats index (record { number = n; life = Up replica })
+  pub is_up : new.sim_nodes ≡ set old.sim_nodes index (record { number = n; run_state = Up replica })
   pub noted : new.trace ≡ old.trace ++ notes
   pub nothing_sent : new.sent ≡ old.sent
   pub none_ended : new.ended ≡ None
 
 -- its restart failed as the contract of a replica says, not for want of memory, and it is down
-pub record IsNotRestarted (old : Scene ReplicaValue) (n : ℕ) (new : Scene ReplicaValue) : Type 0 where
+pub record IsNotRestarted (old : WorldState ReplicaValue) (n : ℕ) (new : WorldState ReplicaValue) : Type 0 where
   pub index : ℕ
   pub device : Memory
-  pub was_down : slice_get old.seats index ≡ Some (record { number = n; life = Down device })
+  pub was_down : slice_get old.sim_nodes index ≡ Some (record { number = n; run_state = Down device })
   pub number : ℕ
   pub left : Memory
   pub fails : RevivesTo table_meaning IsTableText device (header_of old.genesis n) (Err (number, left))
   pub no_memory : number ≡ 8 → ⊥
   pub not_starved : left.meter.starved ≡ false
   pub rest : Memory
-  pub is_down : new.seats ≡ set old.seats index (record { number = n; life = Down rest })
+  pub is_down : new.sim_nodes ≡ set old.sim_nodes index (record { number = n; run_state = Down rest })
   pub ends : EndsOn (stopping left.meter) n number left rest new.ended
   pub nothing_noted : new.trace ≡ old.trace
   pub nothing_sent : new.sent ≡ old.sent
 
 -- a new node started from two empty disks: it is up as the contract of a replica says
-pub record IsBegun (old : Scene ReplicaValue) (n : ℕ) (new : Scene ReplicaValue) : Type 0 where
+pub record IsBegun (old : WorldState ReplicaValue) (n : ℕ) (new : WorldState ReplicaValue) : Type 0 where
   pub replica : ReplicaValue
   pub notes : List Note
   pub revives : RevivesTo table_meaning IsTableText empty (header_of old.genesis n) (Ok (replica, notes))
-  pub is_up : new.seats ≡ old.seats ++ record { number = n; life = Up replica } ∷ []
+  pub is_up : new.sim_nodes ≡ old.sim_nodes ++ record { number = n; run_state = Up replica } ∷ []
   pub noted : new.trace ≡ old.trace ++ notes
   pub nothing_sent : new.sent ≡ old.sent
   pub none_ended : new.ended ≡ None
 
 -- its start failed as the contract of a replica says, not for want of memory, and it is down
-pub record IsNotBegun (old : Scene ReplicaValue) (n : ℕ) (new : Scene ReplicaValue) : Type 0 where
+pub record IsNotBegun (old : WorldState ReplicaValue) (n : ℕ) (new : WorldState ReplicaValue) : Type 0 where
   pub number : ℕ
   pub left : Memory
   pub fails : RevivesTo table_meaning IsTableText empty (header_of old.genesis n) (Err (number, left))
   pub no_memory : number ≡ 8 → ⊥
   pub not_starved : left.meter.starved ≡ false
   pub rest : Memory
-  pub is_down : new.seats ≡ old.seats ++ record { number = n; life = Down rest } ∷ []
+  pub is_down : new.sim_nodes ≡ old.sim_nodes ++ record { number = n; run_state = Down rest } ∷ []
   pub ends : EndsOn (stopping left.meter) n number left rest new.ended
   pub nothing_noted : new.trace ≡ old.trace
   pub nothing_sent : new.sent ≡ old.sent
 
 -- a node is started or restarted as the contract of a replica says
-abbrev pub RestartsAsStated : Scene ReplicaValue → Event → Scene ReplicaValue → Type 0
+abbrev pub RestartsAsStated : WorldState ReplicaValue → Event → WorldState ReplicaValue → Type 0
 RestartsAsStated old (event.Start n) new = IsBegun old n new ⊎ IsNotBegun old n new
 RestartsAsStated old (event.Restart n) new = IsRestarted old n new ⊎ IsNotRestarted old n new
 RestartsAsStated old _ new = Unit {0}
 
 -- an event that is done
-pub record IsDone (old : Scene ReplicaValue) (e : Event) (new : Scene ReplicaValue) : Type 0 where
+pub record IsDone (old : WorldState ReplicaValue) (e : Event) (new : WorldState ReplicaValue) : Type 0 where
   pub asked : (rs : List Asking) × AreAskedBy e rs × (requests new.trace ≡ requests old.trace ++ rs)
-  pub only : (number : ℕ) × IsFor old.sent e number × ChangesOnly number old.seats new.seats
+  pub only : (number : ℕ) × IsFor old.sent e number × ChangesOnly number old.sim_nodes new.sim_nodes
   pub sends : SendsAsAsked old e new
   pub stops : StopsAsAsked old e new
   pub silent : IsSilent old e new
@@ -468,54 +470,56 @@ pub record IsDone (old : Scene ReplicaValue) (e : Event) (new : Scene ReplicaVal
 
 -- a node that has compacted, and that nothing has ended, remembers a snapshot of everything that it has executed,
 -- whatever a stop may leave of it
-abbrev pub Compacts : Event → Scene ReplicaValue → Type 0
+abbrev pub Compacts : Event → WorldState ReplicaValue → Type 0
 Compacts (event.Compact n) new =
     new.ended ≡ None
-    → (s : Seat ReplicaValue) × (replica : ReplicaValue) × Contains new.seats s × (s.number ≡ n) × (s.life ≡ Up replica)
+    → (s : SimNode ReplicaValue) × (replica : ReplicaValue) × Contains new.sim_nodes s × (s.number ≡ n)
+    × (s.run_state ≡ Up replica)
     × EachImage new.genesis s
     (λ memory. (memory.position ≡ (kept_by_replica replica).executed) × HasSnapshot new.genesis new.sent memory)
 Compacts _ new = Unit {0}
 
 -- an event that is refused has a cause and changes nothing. When out of memory it notes and sends nothing, and the
 -- node that it is for may have gone down
-pub record IsRefused (old : Scene ReplicaValue) (e : Event) (refused : Refused)
-    (new : Scene ReplicaValue) : Type 0 where
+pub record IsRefused (old : WorldState ReplicaValue) (e : Event) (refused : Refused)
+    (new : WorldState ReplicaValue) : Type 0 where
   pub cause : HasCause old e refused
   pub unchanged : (refused ≡ WorldMemory → ⊥) → new ≡ old
-  pub only : (new.seats ≡ old.seats) ⊎ ((number : ℕ) × IsFor old.sent e number × FallsDown number old.seats new.seats)
+  pub only : (new.sim_nodes ≡ old.sim_nodes) ⊎ ((number : ℕ) × IsFor old.sent e number × FallsDown number old.sim_nodes
+      new.sim_nodes)
   pub nothing_sent : new.sent ≡ old.sent
   pub nothing_noted : new.trace ≡ old.trace
   pub same_genesis : new.genesis ≡ old.genesis
 
 -- events are done, one after another
-abbrev pub AreDone : List Event → Scene ReplicaValue → Scene ReplicaValue → Type 0
+abbrev pub AreDone : List Event → WorldState ReplicaValue → WorldState ReplicaValue → Type 0
 AreDone [] old new = new ≡ old
-AreDone (e ∷ events) old new = (mid : Scene ReplicaValue) × IsDone old e mid × AreDone events mid new
+AreDone (e ∷ events) old new = (mid : WorldState ReplicaValue) × IsDone old e mid × AreDone events mid new
 
 -- all of them were, or the next one is rejected
-abbrev pub EndsSo : List Event → ℕ → Option Refused → Scene ReplicaValue → Scene ReplicaValue → Type 0
+abbrev pub EndsSo : List Event → ℕ → Option Refused → WorldState ReplicaValue → WorldState ReplicaValue → Type 0
 EndsSo events done None last new = (done ≡ length events) × (new ≡ last)
 EndsSo events done (Some refused) last new =
     (e : Event) × (slice_get events done ≡ Some e) × IsRefused last e refused new
 
 -- a run does this many of the events in order, and ends like this
-pub record IsRun (old : Scene ReplicaValue) (events : List Event) (how : RunEnd)
-    (new : Scene ReplicaValue) : Type 0 where
-  pub last : Scene ReplicaValue
+pub record IsRun (old : WorldState ReplicaValue) (events : List Event) (how : RunEnd)
+    (new : WorldState ReplicaValue) : Type 0 where
+  pub last : WorldState ReplicaValue
   pub done : AreDone (take how.done events) old last
   pub ends : EndsSo events how.done how.refused last new
 
 -- ---- which worlds there are
 
 -- an event is done or refused
-abbrev pub Happens : Scene ReplicaValue → Scene ReplicaValue → Type 0
+abbrev pub Happens : WorldState ReplicaValue → WorldState ReplicaValue → Type 0
 Happens old new = (e : Event) × (IsDone old e new ⊎ ((refused : Refused) × IsRefused old e refused new))
 
 -- one after another, up to this
-abbrev pub HappenAll : Scene ReplicaValue → List (Scene ReplicaValue) → Scene ReplicaValue → Type 0
+abbrev pub HappenAll : WorldState ReplicaValue → List (WorldState ReplicaValue) → WorldState ReplicaValue → Type 0
 HappenAll first [] last = last ≡ first
 HappenAll first (next ∷ worlds) last = Happens first next × HappenAll next worlds last
 
 -- the world is reachable: events lead to it from one in which nothing has happened
-abbrev pub IsReachable : Genesis → Scene ReplicaValue → Type 0
-IsReachable genesis world = (worlds : List (Scene ReplicaValue)) × HappenAll (nothing genesis) worlds world
+abbrev pub IsReachable : Genesis → WorldState ReplicaValue → Type 0
+IsReachable genesis world = (worlds : List (WorldState ReplicaValue)) × HappenAll (nothing genesis) worlds world

@@ -31,9 +31,9 @@ use Rattle.lk_agreement_laws.specs.Datagrams.{Datagram}
 use Rattle.lk_node_interface.specs.declared.note.Note.{Note}
 use Rattle.lk_node_interface.specs.declared.note.Note.TheVariants as note
 use Rattle.lk_replica.specs.ReplicaValue.{ReplicaValue}
-use Rattle.lk_sim.specs.Scenes.{Scene}
-use Rattle.lk_sim_nodes.specs.declared.seat.Life.TheVariants.{Up}
-use Rattle.lk_sim_nodes.specs.declared.seat.Seat.{Seat}
+use Rattle.lk_sim.specs.WorldStates.{WorldState}
+use Rattle.lk_sim_nodes.specs.declared.sim_node.RunState.TheVariants.{Up}
+use Rattle.lk_sim_nodes.specs.declared.sim_node.SimNode.{SimNode}
 use Rattle.lk_guarantees.specs.Plain.{at, members, GivesAnswer, TakesEffectAt, Kept, IsKeptOf}
 pub use Rattle.lk_guarantees.specs.Chosen.{Says, UsesBallotsOnce, IsAcceptedBy, IsChosen, IsPrefix, Agree}
 pub use Rattle.lk_guarantees.specs.Disks.{members_text, session_text, kept_text, IsSnapshot, device_in, MayRemain}
@@ -170,16 +170,16 @@ HasExecuted genesis sent replica = (L : List Command) × IsChosen genesis sent L
     × IsKeptOf genesis L (kept_by_replica replica)
 
 -- each node that is up
-abbrev pub HaveExecuted : Genesis → List (Seat ReplicaValue) → List Datagram → Type 0
-HaveExecuted genesis seats sent =
-    (s : Seat ReplicaValue) → Contains seats s → (replica : ReplicaValue) → s.life ≡ Up replica
+abbrev pub HaveExecuted : Genesis → List (SimNode ReplicaValue) → List Datagram → Type 0
+HaveExecuted genesis sim_nodes sent =
+    (s : SimNode ReplicaValue) → Contains sim_nodes s → (replica : ReplicaValue) → s.run_state ≡ Up replica
     → HasExecuted genesis sent replica
 
 -- ---- the guarantee
 
 -- what holds of every world, whatever has happened in it: the datagrams that were ever sent, the trace, and the disks
 -- of its nodes
-pub record MeetsGuarantee (world : Scene ReplicaValue) : Type 0 where
+pub record MeetsGuarantee (world : WorldState ReplicaValue) : Type 0 where
   -- some chosen list of no-ops and asked requests explains everything that was noted and sent
   pub explained : IsExplained world.genesis world.sent world.trace
   -- each request in any chosen list was asked
@@ -189,7 +189,7 @@ pub record MeetsGuarantee (world : Scene ReplicaValue) : Type 0 where
   -- each ballot is used once
   pub ballots : UsesBallotsOnce world.genesis world.sent
   -- each node that is up has executed a chosen list
-  pub executed : HaveExecuted world.genesis world.seats world.sent
+  pub executed : HaveExecuted world.genesis world.sim_nodes world.sent
   -- the trace has, in order, each answer that was sent
   pub told : AreTold world.sent world.trace
   -- what was answered before a request was asked takes effect before it
@@ -197,10 +197,10 @@ pub record MeetsGuarantee (world : Scene ReplicaValue) : Type 0 where
   -- and what a client was told of instead of an answer was asked before
   pub told_in_time : AreToldInTime world.trace
   -- whatever stops may leave, a majority remembers each command of a chosen list
-  pub kept : AreKept world.genesis world.seats world.sent
+  pub kept : AreKept world.genesis world.sim_nodes world.sent
   -- whatever a stop may leave of a node covers everything that it has sent
-  pub covered : AreCovered world.genesis world.seats world.sent
+  pub covered : AreCovered world.genesis world.sim_nodes world.sent
   -- whatever a stop may leave of a node has a snapshot of a chosen list, and nothing too far above it for a restart
-  pub snapshots : HaveSnapshots world.genesis world.seats world.sent
+  pub snapshots : HaveSnapshots world.genesis world.sim_nodes world.sent
   -- no file of a node is ever longer than 262,144 bytes
-  pub room : AreShort world.seats
+  pub room : AreShort world.sim_nodes

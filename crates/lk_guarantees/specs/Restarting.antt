@@ -12,10 +12,10 @@ use Rattle.lk_locks.specs.Packed.{IsTableText}
 use Rattle.lk_log.specs.Images.{IsLive, seen}
 use Rattle.lk_replica.specs.ReplicaValue.{ReplicaValue, device_of}
 use Rattle.lk_replica.specs.Revived.{RevivesTo}
-use Rattle.lk_sim.specs.Scenes.{Scene}
+use Rattle.lk_sim.specs.WorldStates.{WorldState}
 use Rattle.lk_sim.specs.declared.event.Event.{Event}
 use Rattle.lk_sim.specs.declared.event.Event.TheVariants as event
-use Rattle.lk_sim_nodes.specs.declared.seat.Life.TheVariants.{Up, Down}
+use Rattle.lk_sim_nodes.specs.declared.sim_node.RunState.TheVariants.{Up, Down}
 use Rattle.lk_node_interface.specs.declared.note.Note.{Note}
 use Rattle.lk_guarantees.specs.Events.{remaining}
 
@@ -59,9 +59,13 @@ pub record IsIdempotent (header : HeaderValue) (replica : ReplicaValue) (notes :
 -- ---- in a world
 
 -- the file that a restart of the node reads is not of format 1
-abbrev pub FindsFormatTwo : Scene ReplicaValue → ℕ → Type 0
+abbrev pub FindsFormatTwo : WorldState ReplicaValue → ℕ → Type 0
 FindsFormatTwo world n =
-    (device : Memory) → Contains world.seats (record { number = n; life = Down device }) → ReadsFormatTwo device
+    (device : Memory) → Contains world.sim_nodes (record {
+      number = n;
+      run_state =
+          Down device;
+    }) → ReadsFormatTwo device
 
 -- the node stops and restarts, as often as there are pairs: each says how many bytes of its disks A and B that were not
 -- synced the stop keeps at most
@@ -76,14 +80,14 @@ as_often (most ∷ more) notes = notes ++ as_often more notes
 
 -- The first world comes of a restart of the node in this one, and the last of such stops and restarts after that. What
 -- may differ is its other file and what its device counts.
-pub record IsTheSame (n : ℕ) (world first : Scene ReplicaValue) (more : List (ℕ × ℕ))
-    (last : Scene ReplicaValue) : Type 0 where
+pub record IsTheSame (n : ℕ) (world first : WorldState ReplicaValue) (more : List (ℕ × ℕ))
+    (last : WorldState ReplicaValue) : Type 0 where
   pub index : ℕ
   pub once : ReplicaValue
   pub again : ReplicaValue
-  pub was_up : slice_get first.seats index ≡ Some (record { number = n; life = Up once })
+  pub was_up : slice_get first.sim_nodes index ≡ Some (record { number = n; run_state = Up once })
   -- no other node has changed
-  pub is_up : last.seats ≡ set first.seats index (record { number = n; life = Up again })
+  pub is_up : last.sim_nodes ≡ set first.sim_nodes index (record { number = n; run_state = Up again })
   -- the node is the same: its ballot and votes, and what it has learned and executed
   pub same_node : again.node ≡ once.node
   -- its live file has the same bytes

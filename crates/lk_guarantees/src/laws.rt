@@ -8,7 +8,7 @@ ghost use Rattle.lk_types.specs.Geneses.{IsGenesis};
 ghost use Rattle.lk_types.specs.declared.command.Command.{Command};
 ghost use Rattle.lk_types.specs.declared.genesis.Genesis.{Genesis};
 ghost use Rattle.lk_replica.specs.ReplicaValue.{ReplicaValue};
-ghost use Rattle.lk_sim.specs.Scenes.{Scene};
+ghost use Rattle.lk_sim.specs.WorldStates.{WorldState};
 ghost use Rattle.lk_sim.specs.declared.end.RunEnd.{RunEnd};
 ghost use Rattle.lk_sim.specs.declared.event.Event.{Event};
 ghost use Rattle.lk_sim.specs.declared.event.Event.TheVariants as event;
@@ -38,7 +38,7 @@ pub fn numbers_take_effect_once()
 /// What clients see of a world that meets the guarantee is linearizable: some legal sequential history of the lock
 /// table and the members completes each request that was answered, and keeps the order of real time.
 pub fn worlds_are_linearizable()
-    ensures { (world : Scene ReplicaValue) → MeetsGuarantee world → IsLinearizable world.genesis world.trace }
+    ensures { (world : WorldState ReplicaValue) → MeetsGuarantee world → IsLinearizable world.genesis world.trace }
 {}
 
 /// The fences of a name's exclusive grants rise along a list, and none is given twice (sequencers: Burrows, The Chubby
@@ -63,12 +63,13 @@ pub fn fences_guard_resources()
 /// Each grant that a client of a world that meets the guarantee was told is in some chosen list, for a name that its
 /// request acquires.
 pub fn grants_are_listed()
-    ensures { (world : Scene ReplicaValue) → MeetsGuarantee world → AreListed world.genesis world.sent world.trace }
+    ensures { (world : WorldState ReplicaValue) → MeetsGuarantee world → AreListed world.genesis world.sent
+        world.trace }
 {}
 
 /// A list that explains what was noted in a world that meets the guarantee explains each datagram to a client.
 pub fn replies_are_explained()
-    ensures { (world : Scene ReplicaValue) (L : List Command) → MeetsGuarantee world
+    ensures { (world : WorldState ReplicaValue) (L : List Command) → MeetsGuarantee world
         → Explains world.genesis world.sent world.trace L → ExplainsReplies world.genesis world.sent L }
 {}
 
@@ -76,14 +77,14 @@ pub fn replies_are_explained()
 /// one position where it was answered, in the order in which the client asked, and before it is answered the client is
 /// not told Passed.
 pub fn operations_take_effect_exactly_once()
-    ensures { (world : Scene ReplicaValue) → MeetsGuarantee world
+    ensures { (world : WorldState ReplicaValue) → MeetsGuarantee world
         → AreExactlyOnce world.genesis world.sent world.trace }
 {}
 
 /// Convergence: in a world that meets the guarantee, nodes that have executed equally many commands have the same
 /// state, to the byte, and so do snapshots of one position.
 pub fn nodes_converge()
-    ensures { (world : Scene ReplicaValue) → MeetsGuarantee world → Converges world }
+    ensures { (world : WorldState ReplicaValue) → MeetsGuarantee world → Converges world }
 {}
 
 /// Restarts are idempotent: however often a node is stopped and started again, and whatever its disks keep of what was
@@ -96,8 +97,9 @@ pub fn restarts_are_idempotent()
 
 /// A run of events leads from a reachable world to a reachable world, even if one of them is rejected.
 pub fn worlds_stay_reachable()
-    ensures { (genesis : Genesis) (world : Scene ReplicaValue) (events : List Event) (how : RunEnd)
-        (new : Scene ReplicaValue) → IsReachable genesis world → IsRun world events how new → IsReachable genesis new }
+    ensures { (genesis : Genesis) (world : WorldState ReplicaValue) (events : List Event) (how : RunEnd)
+        (new : WorldState ReplicaValue) → IsReachable genesis world → IsRun world events how new
+        → IsReachable genesis new }
 {}
 
 /// A node that is down comes back: in a world of a valid genesis that meets the guarantee, as each world does that
@@ -106,7 +108,8 @@ pub fn worlds_stay_reachable()
 /// and so leaves the node up, unless something makes a call of its device fail or stop. Recovery accepts whatever a
 /// crash may leave (Chen et al., FSCQ, 2015).
 pub fn a_node_comes_back()
-    ensures { (genesis : Genesis) (world : Scene ReplicaValue) → IsGenesis world.genesis → IsReachable genesis world
+    ensures { (genesis : Genesis) (world : WorldState ReplicaValue) → IsGenesis world.genesis
+        → IsReachable genesis world
         → MeetsGuarantee world → ComesBack world }
 {}
 
@@ -115,8 +118,8 @@ pub fn a_node_comes_back()
 /// file, each restart has noted the same, and nothing else has changed (recovery may be repeated: Mohan et al., ARIES,
 /// 1992).
 pub fn a_node_comes_back_the_same()
-    ensures { (genesis : Genesis) (world first last : Scene ReplicaValue) (n : ℕ) (more : List (ℕ × ℕ))
+    ensures { (genesis : Genesis) (world first last : WorldState ReplicaValue) (n : ℕ) (more : List (ℕ × ℕ))
         → IsReachable genesis world → FindsFormatTwo world n
-        → IsDone world (event.Restart n) first → AreDone (stops_and_restarts n more) first last → IsUp last.seats n
+        → IsDone world (event.Restart n) first → AreDone (stops_and_restarts n more) first last → IsUp last.sim_nodes n
         → IsTheSame n world first more last }
 {}

@@ -17,7 +17,7 @@ use Rattle.lk_node_interface.specs.declared.note.Note.TheVariants as note
 use Rattle.lk_node.specs.BorneOut.{IsOfNode}
 use Rattle.lk_replica.specs.ReplicaValue.{ReplicaValue}
 use Rattle.lk_sim.specs.Events.{AreOfNodes, IsGiven}
-use Rattle.lk_sim.specs.Scenes.{Scene}
+use Rattle.lk_sim.specs.WorldStates.{WorldState}
 use Rattle.lk_sim.specs.Traces.{asked_by, asked_in}
 use Rattle.lk_sim.specs.declared.event.Event.TheVariants as event
 use Rattle.lk_sim_nodes.specs.Told.{NotesReplies, told_by, told_by_node}
@@ -76,14 +76,15 @@ replies_ask_nothing (d ∷ ds) notes k =
 
 -- ---- events
 
-pub asks_same : (w : Scene ReplicaValue) → AsksNothing w w
+pub asks_same : (w : WorldState ReplicaValue) → AsksNothing w w
 asks_same w = record { asked = refl; genesis = refl }
 
-pub asks_both : (old mid new : Scene ReplicaValue) → AsksNothing old mid → AsksNothing mid new → AsksNothing old new
+pub asks_both : (old mid new : WorldState ReplicaValue) → AsksNothing old mid → AsksNothing mid new
+    → AsksNothing old new
 asks_both old mid new p q = record { asked = q.asked ∙ p.asked; genesis = q.genesis ∙ p.genesis }
 
 module _ (m : Meaning) (IsText : List ℕ → Type 0) where
-  given_asks : (old new : Scene ReplicaValue) (n : ℕ) (i : Input) → IsGiven (behaviour m IsText) old new n i []
+  given_asks : (old new : WorldState ReplicaValue) (n : ℕ) (i : Input) → IsGiven (behaviour m IsText) old new n i []
       → asked_in new.trace ≡ asked_in old.trace
   given_asks old new n i k = elim k.comes_to [
     | inl g ↦ by_notes g.notes g.told g.of_nodes (replies_ask_nothing g.batch g.told g.tells) g.adds.trace
@@ -100,14 +101,14 @@ module _ (m : Meaning) (IsText : List ℕ → Type 0) where
           (asked_both notes told ∙ ap (λ (l : List RequestValue). l ++ asked_in told) (own_notes notes own) ∙ none)
           ∙ append-nil (asked_in old.trace)
 
-  pub tick_asks : (old new : Scene ReplicaValue) (n : ℕ) → GoesWell m IsText old (event.Tick n) new
+  pub tick_asks : (old new : WorldState ReplicaValue) (n : ℕ) → GoesWell m IsText old (event.Tick n) new
       → AsksNothing old new
   tick_asks old new n goes = record {
     asked = given_asks old new n Tick goes.done.1;
     genesis = (event_steps m IsText old new (event.Tick n) n Tick goes (refl, refl)).genesis;
   }
 
-  pub nudge_asks : (old new : Scene ReplicaValue) (n : ℕ) → GoesWell m IsText old (event.Nudge n TicksWithheld) new
+  pub nudge_asks : (old new : WorldState ReplicaValue) (n : ℕ) → GoesWell m IsText old (event.Nudge n TicksWithheld) new
       → AsksNothing old new
   nudge_asks old new n goes = record {
     asked = given_asks old new n (Nudge TicksWithheld) goes.done.1;
@@ -115,26 +116,26 @@ module _ (m : Meaning) (IsText : List ℕ → Type 0) where
         (event_steps m IsText old new (event.Nudge n TicksWithheld) n (Nudge TicksWithheld) goes (refl, refl)).genesis;
   }
 
-  pub hears_asks : (n : ℕ) (x : Content) (old new : Scene ReplicaValue) → Hears m IsText n x old new
+  pub hears_asks : (n : ℕ) (x : Content) (old new : WorldState ReplicaValue) → Hears m IsText n x old new
       → AsksNothing old new
   hears_asks n x old new h = record {
     asked = given_asks old new h.goes.done.1.node (Heard h.goes.done.1.datagram.bytes) h.goes.done.1.given;
     genesis = (heard_from m IsText n x old new h).genesis;
   }
 
-  pub each_asks : (x : Content) (ns : List ℕ) (old new : Scene ReplicaValue) → HearsEach m IsText x ns old new
+  pub each_asks : (x : Content) (ns : List ℕ) (old new : WorldState ReplicaValue) → HearsEach m IsText x ns old new
       → AsksNothing old new
-  each_asks x [] old new same = subst (λ (w : Scene ReplicaValue). AsksNothing old w) (sym same) (asks_same old)
+  each_asks x [] old new same = subst (λ (w : WorldState ReplicaValue). AsksNothing old w) (sym same) (asks_same old)
   each_asks x (n ∷ ns) old new each =
       asks_both old each.0 new (hears_asks n x old each.0 each.1) (each_asks x ns each.0 new each.2)
 
-  pub turn_asks : (n : ℕ) (xs : List Content) (old new : Scene ReplicaValue) → HearsInTurn m IsText n xs old new
+  pub turn_asks : (n : ℕ) (xs : List Content) (old new : WorldState ReplicaValue) → HearsInTurn m IsText n xs old new
       → AsksNothing old new
-  turn_asks n [] old new same = subst (λ (w : Scene ReplicaValue). AsksNothing old w) (sym same) (asks_same old)
+  turn_asks n [] old new same = subst (λ (w : WorldState ReplicaValue). AsksNothing old w) (sym same) (asks_same old)
   turn_asks n (x ∷ xs) old new turn =
       asks_both old turn.0 new (hears_asks n x old turn.0 turn.1) (turn_asks n xs turn.0 new turn.2)
 
-  pub waits_ask : (n k : ℕ) (old new : Scene ReplicaValue) → WaitsIn m IsText n k old new → AsksNothing old new
-  waits_ask n zero old new same = subst (λ (w : Scene ReplicaValue). AsksNothing old w) (sym same) (asks_same old)
+  pub waits_ask : (n k : ℕ) (old new : WorldState ReplicaValue) → WaitsIn m IsText n k old new → AsksNothing old new
+  waits_ask n zero old new same = subst (λ (w : WorldState ReplicaValue). AsksNothing old w) (sym same) (asks_same old)
   waits_ask n (suc k) old new w =
       asks_both old w.0 new (tick_asks old w.0 n w.1) (waits_ask n k w.0 new w.3)

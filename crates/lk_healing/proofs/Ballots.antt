@@ -19,10 +19,10 @@ use Rattle.lk_progress.proofs.Electing.{due_asks, named_by}
 use Rattle.lk_progress.proofs.Proposing.{next_set}
 use Rattle.lk_progress.specs.Exchanges.{prepare_by}
 use Rattle.lk_replica.specs.ReplicaValue.{ReplicaValue}
-use Rattle.lk_sim.specs.Scenes.{Scene}
+use Rattle.lk_sim.specs.WorldStates.{WorldState}
 use Rattle.lk_sim.specs.declared.event.Event.TheVariants as event
-use Rattle.lk_sim_nodes.specs.Seats.{IsUp}
-use Rattle.lk_sim_nodes.specs.declared.seat.Life.TheVariants.{Up}
+use Rattle.lk_sim_nodes.specs.SimNodes.{IsUp}
+use Rattle.lk_sim_nodes.specs.declared.sim_node.RunState.TheVariants.{Up}
 use Rattle.lk_world_progress.proofs.Balloting.{tick_begins}
 use Rattle.lk_world_progress.proofs.Stepping.{one_replica}
 use Rattle.lk_world_progress.specs.Balloting.{BeginsIn}
@@ -49,7 +49,7 @@ use Rattle.lk_healing.specs.Standing.{AreThere, IsRejectedBy, IsRejectionAt}
 use Rattle.lk_healing.specs.Waits.{BeginsAfter}
 use Rattle.lk_healing.specs.declared.asking.Asking.{Asking}
 
-module _ (m : Meaning) (IsText : List ℕ → Type 0) (w now : Scene ReplicaValue) (x : ℕ) (nodes : List ℕ)
+module _ (m : Meaning) (IsText : List ℕ → Type 0) (w now : WorldState ReplicaValue) (x : ℕ) (nodes : List ℕ)
     (asking : Asking) (k : MayStand m IsText w x nodes) (b : BeginsAfter m IsText x w now asking) where
   abbrev ballot : BallotValue
   ballot = next_ballot b.candidate.node
@@ -134,9 +134,9 @@ module _ (m : Meaning) (IsText : List ℕ → Type 0) (w now : Scene ReplicaValu
     | inr o ↦ ((ready.others_may n o).replica, (ready.others_may n o).up)
   ]
 
-  up_now : (n : ℕ) → Contains (x ∷ k.others) n → IsUp now.seats n
+  up_now : (n : ℕ) → Contains (x ∷ k.others) n → IsUp now.sim_nodes n
   up_now n c = elim (cons_cases x k.others n c) [
-    | inl is ↦ subst (λ (j : ℕ). IsUp now.seats j) is (is_up now x begins_in.after begins_in.is)
+    | inl is ↦ subst (λ (j : ℕ). IsUp now.sim_nodes j) is (is_up now x begins_in.after begins_in.is)
     | inr o ↦ is_up now n (ready.others_may n o).replica
         (rejected.others_stay m IsText x b.candidate k.others b.due now k.e k.e k.last ready b.up b.is_due
         knows.unchanged b.begins n
@@ -187,7 +187,7 @@ module _ (m : Meaning) (IsText : List ℕ → Type 0) (w now : Scene ReplicaValu
           knows.unchanged b.begins in
           omega (arith, is)
 
-  module _ (polled : Scene ReplicaValue) (places : List ℕ)
+  module _ (polled : WorldState ReplicaValue) (places : List ℕ)
       (run : HearsAt m IsText (content.Node x (prepare_by b.candidate.node)) nodes places now polled) where
     pub run_them : HearsAt m IsText prepare (x ∷ k.others) places now polled
     run_them = subst (λ (ns : List ℕ). HearsAt m IsText prepare ns places now polled) k.are run
@@ -195,7 +195,7 @@ module _ (m : Meaning) (IsText : List ℕ → Type 0) (w now : Scene ReplicaValu
     pub polls : HearsEach m IsText prepare (x ∷ k.others) now polled
     polls = each_of m IsText prepare (x ∷ k.others) places now polled run_them
 
-    candidate_there : IsUp polled.seats x
+    candidate_there : IsUp polled.sim_nodes x
     candidate_there =
         let own = rejected.own m IsText x b.candidate k.others b.due now k.e k.e k.last ready b.up b.is_due
         knows.unchanged b.begins polled polls in
@@ -267,7 +267,7 @@ module _ (m : Meaning) (IsText : List ℕ → Type 0) (w now : Scene ReplicaValu
         let s = (teller p c rejection).stands in
         (s.0, x, s.1, s.2, candidate_there)
 
-    module _ (p : ℕ) (c : Contains places p) (rejection : IsRejectionAt polled.sent p) (new : Scene ReplicaValue)
+    module _ (p : ℕ) (c : Contains places p) (rejection : IsRejectionAt polled.sent p) (new : WorldState ReplicaValue)
         (goes : GoesWell m IsText polled (event.Deliver p) new) where
       t : IsTeller p
       t = teller p c rejection

@@ -17,7 +17,7 @@ use Rattle.lk_node.specs.Nearness.{AreNear}
 use Rattle.lk_progress.specs.Electing.{IsDue}
 use Rattle.lk_progress.specs.Exchanges.{prepare_by}
 use Rattle.lk_replica.specs.ReplicaValue.{ReplicaValue}
-use Rattle.lk_sim.specs.Scenes.{Scene}
+use Rattle.lk_sim.specs.WorldStates.{WorldState}
 use Rattle.lk_sim.specs.declared.event.Event.TheVariants as event
 use Rattle.lk_world_progress.proofs.Stepping.{has_header, one_replica}
 use Rattle.lk_world_progress.specs.Delivering.{AreDistinct}
@@ -32,7 +32,7 @@ use Rattle.lk_healing.specs.Polls.{HasBegun}
 use Rattle.lk_healing.specs.declared.asking.Asking.{Asking}
 
 -- whoever asks nothing changes no member
-pub still_fixed : (old new : Scene ReplicaValue) (x : ℕ) (others : List ℕ) → AsksNothing old new
+pub still_fixed : (old new : WorldState ReplicaValue) (x : ℕ) (others : List ℕ) → AsksNothing old new
     → AreFixed old x others → AreFixed new x others
 still_fixed old new x others same fixed = record {
   changes = λ z c. fixed.changes z (subst (λ (rs : List RequestValue). Contains rs z) same.asked c);
@@ -42,12 +42,12 @@ still_fixed old new x others same fixed = record {
 
 -- ---- the others as replicas
 
-record AreGathered (w : Scene ReplicaValue) (top last : ℕ) (ns : List ℕ) : Type 0 where
+record AreGathered (w : WorldState ReplicaValue) (top last : ℕ) (ns : List ℕ) : Type 0 where
   replicas : List ReplicaValue
   numbers : map number_of replicas ≡ ns
   each : (r : ReplicaValue) → Contains replicas r → (v : MayVote w top last (number_of r)) × (v.replica ≡ r)
 
-gathered : (m : Meaning) (IsText : List ℕ → Type 0) (w : Scene ReplicaValue) → Holds m IsText w → (top last : ℕ)
+gathered : (m : Meaning) (IsText : List ℕ → Type 0) (w : WorldState ReplicaValue) → Holds m IsText w → (top last : ℕ)
     (ns : List ℕ) → ((n : ℕ) → Contains ns n → MayVote w top last n) → AreGathered w top last ns
 gathered m IsText w holds top last [] may = record {
   replicas = [];
@@ -71,7 +71,8 @@ gathered m IsText w holds top last (n ∷ ns) may =
     }
 
 module _ (m : Meaning) (IsText : List ℕ → Type 0) (x : ℕ) (nodes others : List ℕ) (are : nodes ≡ x ∷ others)
-    (due now : Scene ReplicaValue) (asking : Asking) (c : ReplicaValue) (up : IsUpAs due x c) (is_due : IsDue c.node)
+    (due now : WorldState ReplicaValue) (asking : Asking) (c : ReplicaValue) (up : IsUpAs due x c)
+    (is_due : IsDue c.node)
     (begins : GoesWell m IsText due (event.Tick x) now) (cluster : asking.cluster ≡ now.genesis.cluster)
     (ballot : asking.ballot ≡ next_ballot c.node) (first : asking.first ≡ executed c.node.learner + 1) (e h : ℕ)
     (low : e ≤ h) (room : h < 281474976710656) (ready : Contends m IsText due x e e others h)

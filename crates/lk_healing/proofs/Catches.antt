@@ -19,8 +19,8 @@ use Rattle.lk_leader.specs.Values.{has_vote_from}
 use Rattle.lk_learner.specs.Learners.{alpha, executed}
 use Rattle.lk_leftovers.proofs.Filling.{filled_ready}
 use Rattle.lk_replica.specs.ReplicaValue.{ReplicaValue}
-use Rattle.lk_sim.specs.Scenes.{Scene}
-use Rattle.lk_sim_nodes.specs.declared.seat.Life.TheVariants.{Up}
+use Rattle.lk_sim.specs.WorldStates.{WorldState}
+use Rattle.lk_sim_nodes.specs.declared.sim_node.RunState.TheVariants.{Up}
 use Rattle.lk_world_feeding.specs.Asking.{SentCommandsAreExecuted}
 use Rattle.lk_world_progress.proofs.Delivering.{TakesFrom, heard_from}
 use Rattle.lk_world_progress.proofs.Stepping.{shown}
@@ -45,7 +45,7 @@ pub behind_first : (xs : List ℕ) → take (length xs - 1) (drop 1 xs) ≡ drop
 behind_first xs = take_all (length xs - 1) (drop 1 xs) (omega (arith, length-drop 1 xs))
 
 -- each position of a window has a set, as many as the genesis tells
-alpha_is : (m : Meaning) (IsText : List ℕ → Type 0) (w : Scene ReplicaValue) → Holds m IsText w → (n : ℕ)
+alpha_is : (m : Meaning) (IsText : List ℕ → Type 0) (w : WorldState ReplicaValue) → Holds m IsText w → (n : ℕ)
     (r : ReplicaValue) → IsUpAs w n r → (alpha r.node.learner ≡ w.genesis.alpha) × (1 ≤ w.genesis.alpha)
 alpha_is m IsText w holds n r up =
     let told = (shown m IsText w holds n r up).1.told.tells in
@@ -59,22 +59,22 @@ module _ (m : Meaning) (IsText : List ℕ → Type 0) (law : SentCommandsAreExec
   told = content.Node x (kinds.Decided (decided_by v))
 
   -- the node's next position is that of the vote, and its next 2 alpha end where the leader has executed
-  abbrev StandsAtEnd : Scene ReplicaValue → ℕ → Type 0
+  abbrev StandsAtEnd : WorldState ReplicaValue → ℕ → Type 0
   StandsAtEnd w n = (q : ReplicaValue) × IsUpAs w n q × (executed q.node.learner + 1 ≡ v.position)
       × (executed q.node.learner + 2 * alpha q.node.learner ≤ executed leader.node.learner)
 
-  record HaveCaught (ns : List ℕ) (old new : Scene ReplicaValue) : Type 0 where
+  record HaveCaught (ns : List ℕ) (old new : WorldState ReplicaValue) : Type 0 where
     fills : IsFilling m IsText new x leader t set others last
     reaches : (n : ℕ) → Contains ns n → ReachesNext new leader n
     kept : (n : ℕ) → Contains others n → (Contains ns n → ⊥) → ReachesNext old leader n → ReachesNext new leader n
 
-  all_caught : (ns : List ℕ) (old new : Scene ReplicaValue) → IsFilling m IsText old x leader t set others last
+  all_caught : (ns : List ℕ) (old new : WorldState ReplicaValue) → IsFilling m IsText old x leader t set others last
       → v.position ≤ executed leader.node.learner → AreDistinct ns → ((n : ℕ) → Contains ns n → Contains others n)
       → ((n : ℕ) → Contains ns n → StandsAtEnd old n) → HearsEach m IsText told ns old new → HaveCaught ns old new
   all_caught [] old new k low distinct among each same = record {
-    fills = subst (λ (w : Scene ReplicaValue). IsFilling m IsText w x leader t set others last) (sym same) k;
+    fills = subst (λ (w : WorldState ReplicaValue). IsFilling m IsText w x leader t set others last) (sym same) k;
     reaches = λ n c. absurd (omega (arith, c.1));
-    kept = λ n c not near. subst (λ (w : Scene ReplicaValue). ReachesNext w leader n) (sym same) near;
+    kept = λ n c not near. subst (λ (w : WorldState ReplicaValue). ReachesNext w leader n) (sym same) near;
   }
   all_caught (n ∷ ns) old new k low distinct among each run =
       let first : Contains (n ∷ ns) n = (0, omega arith, refl) in
@@ -117,7 +117,8 @@ module _ (m : Meaning) (IsText : List ℕ → Type 0) (law : SentCommandsAreExec
 
 -- ---- the first vote
 
-module _ (m : Meaning) (IsText : List ℕ → Type 0) (old : Scene ReplicaValue) (x : ℕ) (nodes : List ℕ) (asking : Asking)
+module _ (m : Meaning) (IsText : List ℕ → Type 0) (old : WorldState ReplicaValue) (x : ℕ) (nodes : List ℕ)
+    (asking : Asking)
     (next : ℕ) (filled : IsFilledAt m IsText old x nodes asking next) where
   was_sent : (v : Vote) → IsOffer old.sent x asking asking.first v
       → WasSent old.genesis old.sent (kinds.Accept (record {
@@ -203,7 +204,7 @@ module _ (m : Meaning) (IsText : List ℕ → Type 0) (old : Scene ReplicaValue)
             }) ∙ sym y_is) (is_told.told n c),
       ))
 
-      module _ (law : SentCommandsAreExecuted m IsText) (new : Scene ReplicaValue)
+      module _ (law : SentCommandsAreExecuted m IsText) (new : WorldState ReplicaValue)
           (hears : HearsEach m IsText y.content (drop 1 nodes) old new) where
         hears_them : HearsEach m IsText (content.Node x (kinds.Decided (decided_by v))) filled.fills.others old new
         hears_them = subst (λ (z : Message). HearsEach m IsText z.content filled.fills.others old new) y_is
@@ -248,7 +249,7 @@ module _ (m : Meaning) (IsText : List ℕ → Type 0) (old : Scene ReplicaValue)
 
 -- ---- ready
 
-pub led_ready : (m : Meaning) (IsText : List ℕ → Type 0) (w : Scene ReplicaValue) (x : ℕ) (nodes : List ℕ)
+pub led_ready : (m : Meaning) (IsText : List ℕ → Type 0) (w : WorldState ReplicaValue) (x : ℕ) (nodes : List ℕ)
     (asking : Asking) (next : ℕ) (r : RequestValue) → IsLedAt m IsText w x nodes asking next → IsFresh w r
     → IsReadyFor m IsText w x nodes (record { cluster = asking.cluster; ballot = asking.ballot; first = next }) r
 led_ready m IsText w x nodes asking next r k fresh = record {
@@ -277,7 +278,7 @@ led_ready m IsText w x nodes asking next r k fresh = record {
 }
 
 -- whoever asks nothing leaves the request fresh
-pub still_fresh : (old new : Scene ReplicaValue) (r : RequestValue) → AsksNothing old new → IsFresh old r
+pub still_fresh : (old new : WorldState ReplicaValue) (r : RequestValue) → AsksNothing old new → IsFresh old r
     → IsFresh new r
 still_fresh old new r same fresh z c =
     fresh z (subst (λ (rs : List RequestValue). Contains rs z) same.asked c)

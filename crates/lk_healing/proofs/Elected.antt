@@ -14,8 +14,8 @@ use Rattle.lk_node.specs.Beginning.{next_ballot}
 use Rattle.lk_node.specs.CatchingUp.{refusal}
 use Rattle.lk_progress.specs.Exchanges.{prepare_by}
 use Rattle.lk_replica.specs.ReplicaValue.{ReplicaValue}
-use Rattle.lk_sim.specs.Scenes.{Scene}
-use Rattle.lk_sim_nodes.specs.declared.seat.Life.TheVariants.{Up}
+use Rattle.lk_sim.specs.WorldStates.{WorldState}
+use Rattle.lk_sim_nodes.specs.declared.sim_node.RunState.TheVariants.{Up}
 use Rattle.lk_world_progress.proofs.Stepping.{one_replica}
 use Rattle.lk_world_progress.specs.Delivering.{HearsEach}
 use Rattle.lk_world_progress.specs.Exchanging.{number_of}
@@ -35,7 +35,7 @@ use Rattle.lk_healing.specs.Standing.{IsRejectionAt, LeadsAfter}
 use Rattle.lk_healing.specs.Waits.{BeginsAfter}
 use Rattle.lk_healing.specs.declared.asking.Asking.{Asking}
 
-module _ (m : Meaning) (IsText : List ℕ → Type 0) (w now : Scene ReplicaValue) (x : ℕ) (nodes : List ℕ)
+module _ (m : Meaning) (IsText : List ℕ → Type 0) (w now : WorldState ReplicaValue) (x : ℕ) (nodes : List ℕ)
     (asking : Asking) (k : MayStand m IsText w x nodes) (b : BeginsAfter m IsText x w now asking) where
   abbrev ballot : BallotValue
   ballot = next_ballot b.candidate.node
@@ -61,7 +61,7 @@ module _ (m : Meaning) (IsText : List ℕ → Type 0) (w now : Scene ReplicaValu
   abbrev apart : (n : ℕ) → Contains k.others n → n ≡ x → ⊥
   apart = ballots.apart m IsText w now x nodes asking k b
 
-  module _ (polled : Scene ReplicaValue) (places : List ℕ)
+  module _ (polled : WorldState ReplicaValue) (places : List ℕ)
       (run : HearsAt m IsText (content.Node x (prepare_by b.candidate.node)) nodes places now polled)
       (none : (p : ℕ) → Contains places p → IsRejectionAt polled.sent p → ⊥) where
     abbrev run_them : HearsAt m IsText prepare (x ∷ k.others) places now polled
@@ -103,7 +103,7 @@ module _ (m : Meaning) (IsText : List ℕ → Type 0) (w now : Scene ReplicaValu
         tail_same : (i j : ℕ) (is js : List ℕ) → i ∷ is ≡ j ∷ js → is ≡ js
         tail_same i j is js eq = cc eq
 
-    module _ (last : Scene ReplicaValue) (l : LeadsNow m IsText x nodes asking now last begun)
+    module _ (last : WorldState ReplicaValue) (l : LeadsNow m IsText x nodes asking now last begun)
         (turn : (n : ℕ) (q : ReplicaValue) → (n ≡ x → ⊥) → IsUpAs polled n q → IsUpAs last n q) where
       filling : IsFilling m IsText last x l.has.leader l.has.term begun.set k.others begun.highest
       filling = subst (λ (ns : List ℕ). IsFilling m IsText last x l.has.leader l.has.term begun.set ns begun.highest)
@@ -112,7 +112,7 @@ module _ (m : Meaning) (IsText : List ℕ → Type 0) (w now : Scene ReplicaValu
           begun.highest) begun.number l.has.fills)
 
       begun_same : AsksNothing b.due last
-      begun_same = subst (λ (v : Scene ReplicaValue). AsksNothing v last) begun_due
+      begun_same = subst (λ (v : WorldState ReplicaValue). AsksNothing v last) begun_due
           (led_asks m IsText x nodes asking now last begun l)
 
       last_level : (n : ℕ) → Contains k.others n → (q : ReplicaValue) → IsUpAs last n q

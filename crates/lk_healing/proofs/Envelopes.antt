@@ -32,7 +32,7 @@ use Rattle.lk_node.specs.Telling.{envelope_to}
 use Rattle.lk_progress.proofs.Hearing.{Handled, handled}
 use Rattle.lk_progress.specs.Hearing.{Takes}
 use Rattle.lk_replica.specs.ReplicaValue.{ReplicaValue}
-use Rattle.lk_sim.specs.Scenes.{Scene}
+use Rattle.lk_sim.specs.WorldStates.{WorldState}
 use Rattle.lk_world_progress.proofs.Delivering.{TakesFrom}
 use Rattle.lk_healing.proofs.Places.{at_end}
 use Rattle.lk_healing.specs.Polls.{StandsAt}
@@ -112,7 +112,7 @@ promises_first m IsText old new from b e out near ballot behind takes =
 
 -- the first that the node sends is this reply
 pub reply_stands : (m : Meaning) (IsText : List ℕ → Type 0) (n x : ℕ) (y : Content) (reply : NodeMessage)
-    (old new : Scene ReplicaValue) (s : TakesFrom m IsText n y old new) → s.start.header ≡ header_of old.genesis n
+    (old new : WorldState ReplicaValue) (s : TakesFrom m IsText n y old new) → s.start.header ≡ header_of old.genesis n
     → RepliesFirst s.start x reply s.out → StandsAt new x (suc (length old.sent)) (content.Node n reply)
 reply_stands m IsText n x y reply old new s header first = (
   datagram_of n (envelope_to s.start reply x),

@@ -26,10 +26,10 @@ use Rattle.lk_progress.specs.Feeding.{MayServe}
 use Rattle.lk_progress.specs.Gathering.{GetsOn, HasSoFar, parts_from}
 use Rattle.lk_progress.specs.Hearing.{Takes}
 use Rattle.lk_replica.specs.ReplicaValue.{ReplicaValue}
-use Rattle.lk_sim.specs.Scenes.{Scene}
+use Rattle.lk_sim.specs.WorldStates.{WorldState}
 use Rattle.lk_sim.specs.declared.event.Event.TheVariants as event
-use Rattle.lk_sim_nodes.specs.Seats.{IsUp}
-use Rattle.lk_sim_nodes.specs.declared.seat.Life.TheVariants.{Up}
+use Rattle.lk_sim_nodes.specs.SimNodes.{IsUp}
+use Rattle.lk_sim_nodes.specs.declared.sim_node.RunState.TheVariants.{Up}
 use Rattle.lk_world_feeding.proofs.Gathering.{Follow, TookParts, all_taken, parts_hold, start_here}
 use Rattle.lk_world_feeding.specs.Gathering.{AllCanBeFed, NeedsSnapshot, count_of, position_of, text_of}
 use Rattle.lk_world_progress.proofs.Delivering.{TakesFrom}
@@ -53,9 +53,9 @@ use Rattle.lk_healing.specs.Feeds.{HasExchanged, HasGatheredMore, MayFeed, Rests
 use Rattle.lk_healing.specs.Polls.{StandAt}
 use Rattle.lk_healing.specs.declared.progress.Progress.{Progress}
 
-module _ (m : Meaning) (IsText : List ℕ → Type 0) (b a : ℕ) (told : Progress) (old : Scene ReplicaValue)
-    (k : MayFeed m IsText old b a told) (mid : Scene ReplicaValue)
-    (h : Hears m IsText b (content.Node a (kinds.Nack told.nack)) old mid) (served : Scene ReplicaValue)
+module _ (m : Meaning) (IsText : List ℕ → Type 0) (b a : ℕ) (told : Progress) (old : WorldState ReplicaValue)
+    (k : MayFeed m IsText old b a told) (mid : WorldState ReplicaValue)
+    (h : Hears m IsText b (content.Node a (kinds.Nack told.nack)) old mid) (served : WorldState ReplicaValue)
     (goes : GoesWell m IsText mid (event.Deliver (suc (length old.sent))) served) where
   abbrev r : ReplicaValue
   r = k.behind
@@ -152,7 +152,7 @@ module _ (m : Meaning) (IsText : List ℕ → Type 0) (b a : ℕ) (told : Progre
         (one_replica m IsText served hears.goes.after b asked.asking p own_up
         up) asked.own.up)
 
-    module _ (law : PartsAreTaken m IsText) (new : Scene ReplicaValue)
+    module _ (law : PartsAreTaken m IsText) (new : WorldState ReplicaValue)
         (turn : HearsInTurn m IsText b (parts_from a feeds.parts) served new) where
       turned : (ps : List PartValue) → 1 ≤ length ps → Follow (position_of q) (text_of q) (count_of r) ps
           → HearsInTurn m IsText b (parts_from a ps) served new
@@ -223,7 +223,7 @@ module _ (m : Meaning) (IsText : List ℕ → Type 0) (b a : ℕ) (told : Progre
       rests_parts : RestsBut b a served new
       rests_parts =
           let asks = turn_asks m IsText b (parts_from a feeds.parts) served new turn in record {
-            rests = λ j life not_b not_a at. took_all.only.others j life not_b at;
+            rests = λ j run_state not_b not_a at. took_all.only.others j run_state not_b at;
             sent = took_all.only.sent;
             asked = asks.asked;
             genesis = asks.genesis;
@@ -276,7 +276,7 @@ module _ (m : Meaning) (IsText : List ℕ → Type 0) (b a : ℕ) (told : Progre
   pub record Answered : Type 0 where
     pub contents : List Content
     pub stand : StandAt served b (places_from (length mid.sent) (length served.sent - length mid.sent)) contents
-    pub ends : LaggingCandidateIsFed m IsText → PartsAreTaken m IsText → (new : Scene ReplicaValue)
+    pub ends : LaggingCandidateIsFed m IsText → PartsAreTaken m IsText → (new : WorldState ReplicaValue)
         → HearsInTurn m IsText b contents served new → HasExchanged m IsText b a told old new k
 
   pub was_answered : AllCanBeFed m IsText → Answered
@@ -284,7 +284,8 @@ module _ (m : Meaning) (IsText : List ℕ → Type 0) (b a : ℕ) (told : Progre
     | inl can ↦ record {
       contents = servings.answer m IsText b a told old k mid h served goes can.kept;
       stand = servings.stand m IsText b a told old k mid h served goes can.kept;
-      ends = λ fed_law parts_law new turn. subst (λ (w : Scene ReplicaValue). HasExchanged m IsText b a told old w k)
+      ends = λ fed_law parts_law new turn. subst (λ (w : WorldState ReplicaValue). HasExchanged m IsText b a
+          told old w k)
           (sym turn.2) (servings.by_commands m IsText b a told old k mid h served goes can.kept fed_law turn.0
           turn.1);
     }
@@ -295,5 +296,5 @@ module _ (m : Meaning) (IsText : List ℕ → Type 0) (b a : ℕ) (told : Progre
     }
   ]
 
-  pub own_up_served : IsUp served.seats b
+  pub own_up_served : IsUp served.sim_nodes b
   own_up_served = is_up served b asked.asking own_up

@@ -19,9 +19,9 @@ use Rattle.lk_node.specs.Nudging.{least_ballot}
 use Rattle.lk_progress.proofs.Electing.{named_by}
 use Rattle.lk_progress.proofs.Proposing.{next_set}
 use Rattle.lk_replica.specs.ReplicaValue.{ReplicaValue}
-use Rattle.lk_sim.specs.Scenes.{Scene}
+use Rattle.lk_sim.specs.WorldStates.{WorldState}
 use Rattle.lk_sim.specs.Traces.{asked_in}
-use Rattle.lk_sim_nodes.specs.declared.seat.Life.TheVariants.{Up}
+use Rattle.lk_sim_nodes.specs.declared.sim_node.RunState.TheVariants.{Up}
 use Rattle.lk_world_feeding.specs.Gathering.{count_of, position_of}
 use Rattle.lk_world_progress.proofs.Stepping.{one_replica}
 use Rattle.lk_world_progress.specs.Balloting.{HasSentTo}
@@ -39,13 +39,13 @@ as_nack j = record { ballot = least_ballot; promised = zero_ballot; executed = j
 
 -- ---- what stays
 
-pub sent_still : (old new : Scene ReplicaValue) (b a n j : ℕ) (x : NodeMessage) → RestsBut b a old new
+pub sent_still : (old new : WorldState ReplicaValue) (b a n j : ℕ) (x : NodeMessage) → RestsBut b a old new
     → HasSentTo old n j x → HasSentTo new n j x
 sent_still old new b a n j x rests c = subst (λ (g : Genesis). Contains new.sent
     (record { from = party.Node n; to = party.Node j; bytes = spelling (said_by g n x) })) (sym rests.genesis)
     (rests.sent _ c)
 
-pub nobody_changes : (old new : Scene ReplicaValue) → asked_in new.trace ≡ asked_in old.trace → NobodyChanges old
+pub nobody_changes : (old new : WorldState ReplicaValue) → asked_in new.trace ≡ asked_in old.trace → NobodyChanges old
     → NobodyChanges new
 nobody_changes old new asked none q c =
     none q (subst (λ (l : List RequestValue). Contains l q) asked c)
@@ -53,7 +53,7 @@ nobody_changes old new asked none q c =
 -- ---- who may tell
 
 module _ (m : Meaning) (IsText : List ℕ → Type 0) where
-  pub named_there : NodesKnowMembers m IsText → (w : Scene ReplicaValue) (last n j : ℕ) (r : ReplicaValue)
+  pub named_there : NodesKnowMembers m IsText → (w : WorldState ReplicaValue) (last n j : ℕ) (r : ReplicaValue)
       → NobodyChanges w → MayGain m IsText w last n r → is_member j w.genesis.members ≡ true
       → is_named j r.node.learner.whole.roster.sets ≡ true
   named_there law w last n j r changes k member =
@@ -62,7 +62,7 @@ module _ (m : Meaning) (IsText : List ℕ → Type 0) where
       (next_set r.node.learner.whole.roster w.genesis.members knows.members) member
 
   pub may_tell : NodesKnowMembers m IsText →
-      (w : Scene ReplicaValue) (last n j : ℕ) (r q : ReplicaValue) → NobodyChanges w → (j ≡ n → ⊥)
+      (w : WorldState ReplicaValue) (last n j : ℕ) (r q : ReplicaValue) → NobodyChanges w → (j ≡ n → ⊥)
       → MayGain m IsText w last n r → MayGain m IsText w last j q → MayTell w n
   may_tell law w last n j r q changes apart k l = record {
     replica = r;
@@ -76,9 +76,9 @@ module _ (m : Meaning) (IsText : List ℕ → Type 0) where
 
   -- ---- the loop
 
-  module _ (b a : ℕ) (told : Progress) (start : Scene ReplicaValue) (k : MayFeed m IsText start b a told) where
+  module _ (b a : ℕ) (told : Progress) (start : WorldState ReplicaValue) (k : MayFeed m IsText start b a told) where
     -- so many exchanges have gathered at least so many parts
-    pub record FeedsOn (i : ℕ) (now : Scene ReplicaValue) : Type 0 where
+    pub record FeedsOn (i : ℕ) (now : WorldState ReplicaValue) : Type 0 where
       pub may : MayFeed m IsText now b a told
       pub last : may.last ≡ k.last
       pub reach : executed may.behind.node.learner ≡ executed k.behind.node.learner
@@ -103,7 +103,7 @@ module _ (m : Meaning) (IsText : List ℕ → Type 0) where
     }
 
     -- it does not go on for ever
-    pub feeding_ends : (i : ℕ) (now : Scene ReplicaValue) → FeedsOn i now → 48 ≤ i → ⊥
+    pub feeding_ends : (i : ℕ) (now : WorldState ReplicaValue) → FeedsOn i now → 48 ≤ i → ⊥
     feeding_ends i now f enough = by_gathered f.may.behind.node.learner.gathered refl
       where
         by_gathered : (o : Option GatheredValue) → f.may.behind.node.learner.gathered ≡ o → ⊥
@@ -112,7 +112,7 @@ module _ (m : Meaning) (IsText : List ℕ → Type 0) where
             let within = f.may.open_for g is in
             omega (arith, f.far, enough, ap gathered_bytes is, within.1, f.may.room g is)
 
-    module _ (i : ℕ) (now mid : Scene ReplicaValue) (f : FeedsOn i now)
+    module _ (i : ℕ) (now mid : WorldState ReplicaValue) (f : FeedsOn i now)
         (e : HasExchanged m IsText b a told now mid f.may) where
       changes : NobodyChanges mid
       changes = nobody_changes now mid e.rests.asked f.may.changes
@@ -121,7 +121,7 @@ module _ (m : Meaning) (IsText : List ℕ → Type 0) where
       may_tell_then law = may_tell law mid
           f.may.last b a e.after e.other_after changes (λ is. f.may.apart (sym is)) e.own e.other
 
-      module _ (new : Scene ReplicaValue) (p : Progress) (t : HasTold m IsText b mid new p) where
+      module _ (new : WorldState ReplicaValue) (p : Progress) (t : HasTold m IsText b mid new p) where
         n : Nudged m IsText mid new b e.after e.own.up e.own.idle t.nudged
         n = was_nudged m IsText mid new b e.after e.own.up e.own.idle t.nudged
 

@@ -20,9 +20,9 @@ use Rattle.lk_node_interface.specs.declared.note.Note.{Note}
 use Rattle.lk_progress.specs.Deciding.{acceptances}
 use Rattle.lk_leftovers.specs.Accepting.{LeaderAccepts, VoterAccepts}
 use Rattle.lk_replica.specs.ReplicaValue.{ReplicaValue}
-use Rattle.lk_sim.specs.Scenes.{Scene}
-use Rattle.lk_sim_nodes.specs.Seats.{IsUp}
-use Rattle.lk_sim_nodes.specs.declared.seat.Life.TheVariants.{Up}
+use Rattle.lk_sim.specs.WorldStates.{WorldState}
+use Rattle.lk_sim_nodes.specs.SimNodes.{IsUp}
+use Rattle.lk_sim_nodes.specs.declared.sim_node.RunState.TheVariants.{Up}
 use Rattle.lk_world_progress.proofs.Delivering.{TakesFrom, heard_from, still}
 use Rattle.lk_world_progress.proofs.Stepping.{one_replica}
 use Rattle.lk_world_progress.specs.Balloting.{HasSentTo}
@@ -48,22 +48,22 @@ use Rattle.lk_healing.specs.declared.asking.Asking.{Asking}
 -- ---- what was sent stays
 
 module _ (m : Meaning) (IsText : List ℕ → Type 0) where
-  each_grows : (x : Content) (ns : List ℕ) (old new : Scene ReplicaValue) → HearsEach m IsText x ns old new
+  each_grows : (x : Content) (ns : List ℕ) (old new : WorldState ReplicaValue) → HearsEach m IsText x ns old new
       → (d : Datagram) → Contains old.sent d → Contains new.sent d
-  each_grows x [] old new same d c = subst (λ (w : Scene ReplicaValue). Contains w.sent d) (sym same) c
+  each_grows x [] old new same d c = subst (λ (w : WorldState ReplicaValue). Contains w.sent d) (sym same) c
   each_grows x (n ∷ ns) old new each d c =
       let s : TakesFrom m IsText n x old each.0 = heard_from m IsText n x old each.0 each.1 in
       each_grows x ns each.0 new each.2 d (still old each.0 (batch_of n s.out.envelopes) s.sent d c)
 
-  turn_grows : (n : ℕ) (xs : List Content) (old new : Scene ReplicaValue) → HearsInTurn m IsText n xs old new
+  turn_grows : (n : ℕ) (xs : List Content) (old new : WorldState ReplicaValue) → HearsInTurn m IsText n xs old new
       → (d : Datagram) → Contains old.sent d → Contains new.sent d
-  turn_grows n [] old new same d c = subst (λ (w : Scene ReplicaValue). Contains w.sent d) (sym same) c
+  turn_grows n [] old new same d c = subst (λ (w : WorldState ReplicaValue). Contains w.sent d) (sym same) c
   turn_grows n (x ∷ xs) old new turn d c =
       let s : TakesFrom m IsText n x old turn.0 = heard_from m IsText n x old turn.0 turn.1 in
       turn_grows n xs turn.0 new turn.2 d (still old turn.0 (batch_of n s.out.envelopes) s.sent d c)
 
 -- what a leader that fills was told of stays so
-pub told_grows : (old new : Scene ReplicaValue) (x : ℕ) (others : List ℕ) (asking : Asking)
+pub told_grows : (old new : WorldState ReplicaValue) (x : ℕ) (others : List ℕ) (asking : Asking)
     → ((d : Datagram) → Contains old.sent d → Contains new.sent d) → IsTold old x others asking
     → IsTold new x others asking
 told_grows old new x others asking grows k = record {
@@ -72,7 +72,7 @@ told_grows old new x others asking grows k = record {
   told = λ n c. (let one = k.told n c in (one.0, grows one.0 one.1, one.2, one.3));
 }
 
-module _ (m : Meaning) (IsText : List ℕ → Type 0) (old : Scene ReplicaValue) (x : ℕ) (nodes : List ℕ)
+module _ (m : Meaning) (IsText : List ℕ → Type 0) (old : WorldState ReplicaValue) (x : ℕ) (nodes : List ℕ)
     (asking : Asking) (next : ℕ) (v : Vote) (o : OffersFrom m IsText old x nodes asking next v) where
   abbrev k : FillsFrom m IsText old x nodes asking next
   k = o.fills
@@ -80,9 +80,9 @@ module _ (m : Meaning) (IsText : List ℕ → Type 0) (old : Scene ReplicaValue)
   among : (n : ℕ) → Contains nodes n → Contains (x ∷ k.others) n
   among n c = subst (λ (ns : List ℕ). Contains ns n) k.are c
 
-  pub was_up : (n : ℕ) → Contains nodes n → IsUp old.seats n
+  pub was_up : (n : ℕ) → Contains nodes n → IsUp old.sim_nodes n
   was_up n c = elim (cons_cases x k.others n (among n c)) [
-    | inl is ↦ subst (λ (j : ℕ). IsUp old.seats j) is (is_up old x k.leader k.fills.up)
+    | inl is ↦ subst (λ (j : ℕ). IsUp old.sim_nodes j) is (is_up old x k.leader k.fills.up)
     | inr other ↦ is_up old n (k.fills.voters n other).replica (k.fills.voters n other).up
   ]
 
@@ -106,13 +106,13 @@ module _ (m : Meaning) (IsText : List ℕ → Type 0) (old : Scene ReplicaValue)
         o.proposed.there n (in_set n c))) is,
   )
 
-  module _ (leader_law : LeaderAccepts m IsText) (voter_law : VoterAccepts m IsText) (mid : Scene ReplicaValue)
+  module _ (leader_law : LeaderAccepts m IsText) (voter_law : VoterAccepts m IsText) (mid : WorldState ReplicaValue)
       (accepts : HearsEach m IsText (content.Node x (kinds.Accept v)) nodes old mid) where
     pub accepts_them : HearsEach m IsText (content.Node x (kinds.Accept v)) (x ∷ k.others) old mid
     accepts_them = subst (λ (ns : List ℕ). HearsEach m IsText (content.Node x (kinds.Accept v)) ns old mid) k.are
         accepts
 
-    pub mid_up : (n : ℕ) → Contains nodes n → IsUp mid.seats n
+    pub mid_up : (n : ℕ) → Contains nodes n → IsUp mid.sim_nodes n
     mid_up n c = each_up m IsText (content.Node x (kinds.Accept v)) nodes old mid accepts n (was_up n c)
 
     pub mid_cluster : asking.cluster ≡ mid.genesis.cluster
@@ -123,7 +123,7 @@ module _ (m : Meaning) (IsText : List ℕ → Type 0) (old : Scene ReplicaValue)
     replies_sent n c = filling.replied_now m IsText leader_law voter_law old mid x k.leader k.term k.set k.others k.last
         v k.fills o.proposed accepts_them n (among n c)
 
-    module _ (fill_law : PositionIsFilled m IsText) (new : Scene ReplicaValue)
+    module _ (fill_law : PositionIsFilled m IsText) (new : WorldState ReplicaValue)
         (replies : HearsInTurn m IsText x (acceptances nodes v) mid new) where
       abbrev run : Fills m IsText x (x ∷ k.others) v old new
       run = record {
@@ -247,9 +247,9 @@ module _ (m : Meaning) (IsText : List ℕ → Type 0) (old : Scene ReplicaValue)
 -- ---- one position after another
 
 module _ (m : Meaning) (IsText : List ℕ → Type 0) (x : ℕ) (nodes : List ℕ) (asking : Asking)
-    (old : Scene ReplicaValue) where
+    (old : WorldState ReplicaValue) where
   -- so many positions are filled at least
-  pub record HasFilledSo (i : ℕ) (now : Scene ReplicaValue) (next : ℕ) : Type 0 where
+  pub record HasFilledSo (i : ℕ) (now : WorldState ReplicaValue) (next : ℕ) : Type 0 where
     pub fills : FillsFrom m IsText now x nodes asking next
     pub many : i ≤ next
     pub asks : AsksNothing old now
@@ -257,7 +257,7 @@ module _ (m : Meaning) (IsText : List ℕ → Type 0) (x : ℕ) (nodes : List �
   pub begins_filling : FillsFrom m IsText old x nodes asking asking.first → HasFilledSo 0 old asking.first
   begins_filling k = record { fills = k; many = omega arith; asks = asks_same old }
 
-  module _ (now : Scene ReplicaValue) (i next : ℕ) (h : HasFilledSo i now next) where
+  module _ (now : WorldState ReplicaValue) (i next : ℕ) (h : HasFilledSo i now next) where
     -- what was found is what the leader has proposed
     pub offers : (v : Vote) → IsOffer now.sent x asking next v
         → OffersFrom m IsText now x nodes asking v.position v
@@ -278,7 +278,7 @@ module _ (m : Meaning) (IsText : List ℕ → Type 0) (x : ℕ) (nodes : List �
       asks = h.asks;
     }
 
-    pub filled_more : (new : Scene ReplicaValue) (after position : ℕ) → position ≡ next
+    pub filled_more : (new : WorldState ReplicaValue) (after position : ℕ) → position ≡ next
         → FillsOnce m IsText x nodes asking position now new after → HasFilledSo (i + 1) new after
     filled_more new after position is once = record {
       fills = once.fills;

@@ -23,7 +23,7 @@ use Rattle.lk_leftovers.specs.Accepting.{AcceptsAndStays, AcceptsItself, IsVoter
 use Rattle.lk_leftovers.specs.Accepting.{VoterAccepts}
 use Rattle.lk_leftovers.specs.Filling.{FillsUp}
 use Rattle.lk_replica.specs.ReplicaValue.{ReplicaValue}
-use Rattle.lk_sim.specs.Scenes.{Scene}
+use Rattle.lk_sim.specs.WorldStates.{WorldState}
 use Rattle.lk_world_progress.proofs.Balloting.{found_has}
 use Rattle.lk_world_progress.proofs.Delivering.{EachHeard, HeardIt, each_heard}
 use Rattle.lk_world_progress.proofs.Sending.{sent_as}
@@ -35,7 +35,7 @@ use Rattle.lk_world_leftovers.proofs.Keeping.{fills_snapshot, from_snapshot, vot
 use Rattle.lk_world_leftovers.specs.Filling.{IsFilling, IsNextVote, VotesIn}
 
 module _ (m : Meaning) (IsText : List ℕ → Type 0) (leader_law : LeaderAccepts m IsText)
-    (voter_law : VoterAccepts m IsText) (old accepted_in : Scene ReplicaValue) (x : ℕ) (leader : ReplicaValue)
+    (voter_law : VoterAccepts m IsText) (old accepted_in : WorldState ReplicaValue) (x : ℕ) (leader : ReplicaValue)
     (t : TermValue) (set : List Member) (others : List ℕ) (last : ℕ) (v : Vote)
     (k : IsFilling m IsText old x leader t set others last) (next : IsNextVote leader.node t v)
     (accepts : HearsEach m IsText (content.Node x (kinds.Accept v)) (x ∷ others) old accepted_in) where

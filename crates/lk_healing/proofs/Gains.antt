@@ -15,7 +15,7 @@ use Rattle.lk_node.specs.NewBases.{with_snapshot}
 use Rattle.lk_node.specs.NodeValue.{NodeValue}
 use Rattle.lk_node_interface.specs.Rounds.{greater_round}
 use Rattle.lk_replica.specs.ReplicaValue.{ReplicaValue}
-use Rattle.lk_sim.specs.Scenes.{Scene}
+use Rattle.lk_sim.specs.WorldStates.{WorldState}
 use Rattle.lk_world_progress.proofs.Balloting.{found_has, near_snapshot}
 use Rattle.lk_world_progress.specs.Stepping.{Holds, IsFound, IsUpAs}
 use Rattle.lk_world_leftovers.specs.Lagging.{Lasts, MayContend, MayLag}
@@ -96,13 +96,13 @@ stays_found r start found = found_has r start found (λ node. Stays r.node node)
 -- ---- nodes of a world
 
 module _ (m : Meaning) (IsText : List ℕ → Type 0) where
-  member_still : (old new : Scene ReplicaValue) (n : ℕ) → new.genesis ≡ old.genesis
+  member_still : (old new : WorldState ReplicaValue) (n : ℕ) → new.genesis ≡ old.genesis
       → is_member n old.genesis.members ≡ true → is_member n new.genesis.members ≡ true
   member_still old new n genesis member =
       subst (λ (g : Genesis). is_member n g.members ≡ true) (sym genesis) member
 
   -- the node is the same
-  pub gains_same : (old new : Scene ReplicaValue) (last n : ℕ) (r : ReplicaValue) → MayGain m IsText old last n r
+  pub gains_same : (old new : WorldState ReplicaValue) (last n : ℕ) (r : ReplicaValue) → MayGain m IsText old last n r
       → Holds m IsText new → IsUpAs new n r → new.genesis ≡ old.genesis → MayGain m IsText new last n r
   gains_same old new last n r k holds up genesis = record {
     holds = holds;
@@ -119,7 +119,8 @@ module _ (m : Meaning) (IsText : List ℕ → Type 0) where
   }
 
   -- it has stayed
-  pub gains_still : (old new : Scene ReplicaValue) (last n : ℕ) (r q : ReplicaValue) → MayGain m IsText old last n r
+  pub gains_still : (old new : WorldState ReplicaValue) (last n : ℕ) (r q : ReplicaValue)
+      → MayGain m IsText old last n r
       → Stays r.node q.node → Holds m IsText new → IsUpAs new n q → new.genesis ≡ old.genesis
       → MayGain m IsText new last n q
   gains_still old new last n r q k s holds up genesis = record {
@@ -141,7 +142,7 @@ module _ (m : Meaning) (IsText : List ℕ → Type 0) where
   same_reach old new s = ap (λ (w : WholeValue). w.roster.executed) s.lasts.whole
 
   -- it contends by itself
-  pub gains_contend : (w : Scene ReplicaValue) (last n : ℕ) (r : ReplicaValue) → MayGain m IsText w last n r
+  pub gains_contend : (w : WorldState ReplicaValue) (last n : ℕ) (r : ReplicaValue) → MayGain m IsText w last n r
       → Contends m IsText w n (executed r.node.learner) (executed r.node.learner) [] last
   gains_contend w last n r k = record {
     holds = k.holds;
@@ -158,7 +159,7 @@ module _ (m : Meaning) (IsText : List ℕ → Type 0) where
     distinct = (λ c. absurd (omega (arith, c.1)), tt);
   }
 
-  pub gains_lag : (w : Scene ReplicaValue) (last n : ℕ) (r : ReplicaValue) → MayGain m IsText w last n r
+  pub gains_lag : (w : WorldState ReplicaValue) (last n : ℕ) (r : ReplicaValue) → MayGain m IsText w last n r
       → MayLag w last n
   gains_lag w last n r k = record {
     replica = r;
@@ -170,7 +171,7 @@ module _ (m : Meaning) (IsText : List ℕ → Type 0) where
   }
 
   -- and so may it with another one
-  pub two_contend : (w : Scene ReplicaValue) (last n j : ℕ) (r q : ReplicaValue) → (n ≡ j → ⊥)
+  pub two_contend : (w : WorldState ReplicaValue) (last n j : ℕ) (r q : ReplicaValue) → (n ≡ j → ⊥)
       → MayGain m IsText w last n r → MayGain m IsText w last j q
       → MayContend m IsText w n (executed r.node.learner) (j ∷ []) last
   two_contend w last n j r q apart k l = record {
@@ -185,13 +186,13 @@ module _ (m : Meaning) (IsText : List ℕ → Type 0) where
 
 -- ---- what rests
 
-pub rests_itself : (b a : ℕ) (w : Scene ReplicaValue) → RestsBut b a w w
-rests_itself b a w = record { rests = λ k life p q c. c; sent = λ d c. c; asked = refl; genesis = refl }
+pub rests_itself : (b a : ℕ) (w : WorldState ReplicaValue) → RestsBut b a w w
+rests_itself b a w = record { rests = λ k run_state p q c. c; sent = λ d c. c; asked = refl; genesis = refl }
 
-pub rests_both : (b a : ℕ) (old mid new : Scene ReplicaValue) → RestsBut b a old mid → RestsBut b a mid new
+pub rests_both : (b a : ℕ) (old mid new : WorldState ReplicaValue) → RestsBut b a old mid → RestsBut b a mid new
     → RestsBut b a old new
 rests_both b a old mid new p q = record {
-  rests = λ k life x y c. q.rests k life x y (p.rests k life x y c);
+  rests = λ k run_state x y c. q.rests k run_state x y (p.rests k run_state x y c);
   sent = λ d c. q.sent d (p.sent d c);
   asked = q.asked ∙ p.asked;
   genesis = q.genesis ∙ p.genesis;

@@ -8,8 +8,8 @@ use Rattle.lk_state.specs.Meanings.{Meaning}
 use Rattle.lk_learner.specs.Learners.{LearnerValue, executed}
 use Rattle.lk_node.specs.Nudging.{progress}
 use Rattle.lk_replica.specs.ReplicaValue.{ReplicaValue}
-use Rattle.lk_sim.specs.Scenes.{Scene}
-use Rattle.lk_sim_nodes.specs.declared.seat.Life.TheVariants.{Up}
+use Rattle.lk_sim.specs.WorldStates.{WorldState}
+use Rattle.lk_sim_nodes.specs.declared.sim_node.RunState.TheVariants.{Up}
 use Rattle.lk_world_progress.proofs.Stepping.{one_replica}
 use Rattle.lk_world_progress.specs.Balloting.{HasSentTo}
 use Rattle.lk_world_progress.specs.Delivering.{IsRested}
@@ -28,13 +28,13 @@ use Rattle.lk_healing.specs.declared.progress.Progress.{Progress}
 module _ (m : Meaning) (IsText : List ℕ → Type 0) where
   -- ---- two nudges
 
-  pub tells_anew : (old mid : Scene ReplicaValue) (n : ℕ) (p : Progress) (k : MayTell old n)
+  pub tells_anew : (old mid : WorldState ReplicaValue) (n : ℕ) (p : Progress) (k : MayTell old n)
       → HasTold m IsText n old mid p → MayTell mid n
   tells_anew old mid n p k t =
       tells_again m IsText old mid n k.replica k.up k.idle t.nudged k.other k.some k.apart k.named
 
   -- they have thrown away what was gathered, and changed nothing else
-  pub record Anew (b a last : ℕ) (r q : ReplicaValue) (old new : Scene ReplicaValue) (reached : ℕ) : Type 0 where
+  pub record Anew (b a last : ℕ) (r q : ReplicaValue) (old new : WorldState ReplicaValue) (reached : ℕ) : Type 0 where
     pub after : ReplicaValue
     pub own : MayGain m IsText new last b after
     pub reach : executed after.node.learner ≡ reached
@@ -46,7 +46,7 @@ module _ (m : Meaning) (IsText : List ℕ → Type 0) where
     pub other_rested : IsRested new a
     pub rests : RestsBut b a old new
 
-  pub anew : (b a last : ℕ) (r q : ReplicaValue) (old new : Scene ReplicaValue) (reached : ℕ) → (b ≡ a → ⊥)
+  pub anew : (b a last : ℕ) (r q : ReplicaValue) (old new : WorldState ReplicaValue) (reached : ℕ) → (b ≡ a → ⊥)
       → MayGain m IsText old last b r → MayGain m IsText old last a q → IsRested old a
       → HasToldAnew m IsText b old new reached → Anew b a last r q old new reached
   anew b a last r q old new reached apart k l rested t =
@@ -79,9 +79,9 @@ module _ (m : Meaning) (IsText : List ℕ → Type 0) where
 
   -- ---- the loop
 
-  module _ (b a : ℕ) (start : Scene ReplicaValue) (k : MayClose m IsText start b a) where
+  module _ (b a : ℕ) (start : WorldState ReplicaValue) (k : MayClose m IsText start b a) where
     -- the node has executed so many positions, and the other one has told how many it has
-    pub record IsClosing (told : Progress) (own : ℕ) (now : Scene ReplicaValue) : Type 0 where
+    pub record IsClosing (told : Progress) (own : ℕ) (now : WorldState ReplicaValue) : Type 0 where
       pub behind : ReplicaValue
       pub own_may : MayGain m IsText now k.last b behind
       pub reach : executed behind.node.learner ≡ own
@@ -99,7 +99,7 @@ module _ (m : Meaning) (IsText : List ℕ → Type 0) where
       pub rests : RestsBut b a start now
 
     -- what the other one tells
-    pub told_reach : (told : Progress) (own : ℕ) (now : Scene ReplicaValue) (c : IsClosing told own now)
+    pub told_reach : (told : Progress) (own : ℕ) (now : WorldState ReplicaValue) (c : IsClosing told own now)
         → told.nack.executed ≡ executed c.ahead.node.learner
     told_reach told own now c = ap (λ (x : Nack). x.executed) c.tells
 
@@ -109,7 +109,7 @@ module _ (m : Meaning) (IsText : List ℕ → Type 0) where
     other_may_tell law =
         may_tell m IsText law start k.last a b k.ahead k.behind k.changes k.apart k.other k.own
 
-    module _ (law : NodesKnowMembers m IsText) (one : Scene ReplicaValue) (told : Progress)
+    module _ (law : NodesKnowMembers m IsText) (one : WorldState ReplicaValue) (told : Progress)
         (t : HasTold m IsText a start one told) where
       n : Nudged m IsText start one a k.ahead k.other.up k.other.idle t.nudged
       n = was_nudged m IsText start one a k.ahead k.other.up k.other.idle t.nudged
@@ -128,7 +128,7 @@ module _ (m : Meaning) (IsText : List ℕ → Type 0) where
       own_may_tell = may_tell m IsText law one k.last b a k.behind n.after
           (nobody_changes start one rests_one.asked k.changes) (λ is. k.apart (sym is)) own_one other_one
 
-      pub begins_closing : (two : Scene ReplicaValue) (own : ℕ) → HasToldAnew m IsText b one two own
+      pub begins_closing : (two : WorldState ReplicaValue) (own : ℕ) → HasToldAnew m IsText b one two own
           → IsClosing told own two
       begins_closing two own again =
           let w : Anew b a k.last k.behind n.after one two own =
@@ -159,7 +159,7 @@ module _ (m : Meaning) (IsText : List ℕ → Type 0) where
 
     -- ---- one gap less
 
-    module _ (told : Progress) (own : ℕ) (now : Scene ReplicaValue) (c : IsClosing told own now) where
+    module _ (told : Progress) (own : ℕ) (now : WorldState ReplicaValue) (c : IsClosing told own now) where
       pub may_feed : own < told.nack.executed
           → (f : MayFeed m IsText now b a told) × (executed f.behind.node.learner ≡ own)
       may_feed less = (
@@ -184,7 +184,7 @@ module _ (m : Meaning) (IsText : List ℕ → Type 0) where
         c.reach,
       )
 
-      pub comes_on : (less : own < told.nack.executed) (new : Scene ReplicaValue)
+      pub comes_on : (less : own < told.nack.executed) (new : WorldState ReplicaValue)
           → HasGained m IsText b a told now new (may_feed less).0 → HasComeOn m IsText b a start new k
       unfolding may_feed
       comes_on less new e = record {
@@ -213,7 +213,7 @@ module _ (m : Meaning) (IsText : List ℕ → Type 0) where
     -- ---- one gap after another
 
     -- so many gains have brought it on so far at least
-    pub record IsGoing (i : ℕ) (now : Scene ReplicaValue) : Type 0 where
+    pub record IsGoing (i : ℕ) (now : WorldState ReplicaValue) : Type 0 where
       pub behind : ReplicaValue
       pub own : MayGain m IsText now k.last b behind
       pub grows : executed k.behind.node.learner + i ≤ executed behind.node.learner
@@ -233,7 +233,7 @@ module _ (m : Meaning) (IsText : List ℕ → Type 0) where
       rests = rests_itself b a start;
     }
 
-    abbrev pub may_still : (i : ℕ) (now : Scene ReplicaValue) → IsGoing i now → MayClose m IsText now b a
+    abbrev pub may_still : (i : ℕ) (now : WorldState ReplicaValue) → IsGoing i now → MayClose m IsText now b a
     may_still i now s = record {
       apart = k.apart;
       changes = nobody_changes start now s.rests.asked k.changes;
@@ -244,7 +244,7 @@ module _ (m : Meaning) (IsText : List ℕ → Type 0) where
       other = s.other;
     }
 
-    pub goes_on : (i : ℕ) (now new : Scene ReplicaValue) (s : IsGoing i now)
+    pub goes_on : (i : ℕ) (now new : WorldState ReplicaValue) (s : IsGoing i now)
         → HasComeOn m IsText b a now new (may_still i now s) → IsGoing (i + 1) new
     goes_on i now new s e = record {
       behind = e.after;
@@ -256,7 +256,7 @@ module _ (m : Meaning) (IsText : List ℕ → Type 0) where
       rests = rests_both b a start now new s.rests e.rests;
     }
 
-    pub gone : (i : ℕ) (now new : Scene ReplicaValue) (reached : ℕ) (s : IsGoing i now)
+    pub gone : (i : ℕ) (now new : WorldState ReplicaValue) (reached : ℕ) (s : IsGoing i now)
         → HasClosed m IsText b a now new reached (may_still i now s) → HasClosed m IsText b a start new reached k
     gone i now new reached s e = record {
       after = e.after;
@@ -271,7 +271,7 @@ module _ (m : Meaning) (IsText : List ℕ → Type 0) where
     }
 
     -- it does not go on for ever
-    pub going_ends : (i : ℕ) (now : Scene ReplicaValue) → IsGoing i now → 281474976710657 ≤ i → ⊥
+    pub going_ends : (i : ℕ) (now : WorldState ReplicaValue) → IsGoing i now → 281474976710657 ≤ i → ⊥
     going_ends i now s enough =
         let short = executed_short m IsText now s.own.holds b s.behind s.own.up in
         omega (arith, short, s.grows, enough)

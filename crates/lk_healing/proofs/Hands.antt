@@ -16,11 +16,11 @@ use Rattle.lk_state.specs.Meanings.{Meaning}
 use Rattle.lk_node_interface.specs.Envelopes.{batch_of}
 use Rattle.lk_progress.specs.Deciding.{acceptances}
 use Rattle.lk_replica.specs.ReplicaValue.{ReplicaValue}
-use Rattle.lk_sim.specs.Scenes.{Scene}
+use Rattle.lk_sim.specs.WorldStates.{WorldState}
 use Rattle.lk_sim.specs.declared.event.Event.TheVariants as event
 use Rattle.lk_sim_nodes.proofs.Tellings.{take_next}
-use Rattle.lk_sim_nodes.specs.Seats.{IsUp}
-use Rattle.lk_sim_nodes.specs.declared.seat.Life.TheVariants.{Up}
+use Rattle.lk_sim_nodes.specs.SimNodes.{IsUp}
+use Rattle.lk_sim_nodes.specs.declared.sim_node.RunState.TheVariants.{Up}
 use Rattle.lk_world_progress.proofs.Delivering.{TakesFrom, heard_from, still}
 use Rattle.lk_world_progress.specs.Balloting.{HasSentTo}
 use Rattle.lk_world_progress.specs.Delivering.{Hears, HearsEach, HearsInTurn}
@@ -30,11 +30,12 @@ use Rattle.lk_healing.specs.Halts.{AreOnTheirWay, IsAddressed, IsOnItsWay, MayBe
 
 -- ---- one datagram
 
-pub may_take : (w : Scene ReplicaValue) (k n : ℕ) (bytes : List ℕ) → IsAddressed w.sent k n bytes → IsUp w.seats n
+pub may_take : (w : WorldState ReplicaValue) (k n : ℕ) (bytes : List ℕ) → IsAddressed w.sent k n bytes
+    → IsUp w.sim_nodes n
     → MayBeTaken w k
 may_take w k n bytes a up = (a.0, n, a.1, a.2, up)
 
-pub hears_it : (m : Meaning) (IsText : List ℕ → Type 0) (old new : Scene ReplicaValue) (k n : ℕ) (x : Message)
+pub hears_it : (m : Meaning) (IsText : List ℕ → Type 0) (old new : WorldState ReplicaValue) (k n : ℕ) (x : Message)
     → x.cluster ≡ old.genesis.cluster → IsAddressed old.sent k n (spelling x) → Spells x (spelling x)
     → GoesWell m IsText old (event.Deliver k) new → Hears m IsText n x.content old new
 hears_it m IsText old new k n x cluster a spells goes = record {
@@ -48,7 +49,7 @@ hears_it m IsText old new k n x cluster a spells goes = record {
 }
 
 -- what a node has sent is on its way
-pub sent_to : (w : Scene ReplicaValue) (n k : ℕ) (x : NodeMessage) (y : Message) → HasSentTo w n k x
+pub sent_to : (w : WorldState ReplicaValue) (n k : ℕ) (x : NodeMessage) (y : Message) → HasSentTo w n k x
     → y ≡ said_by w.genesis n x → IsOnItsWay w k y
 sent_to w n k x y c is = (
   record { from = party.Node n; to = party.Node k; bytes = spelling (said_by w.genesis n x) },
@@ -59,7 +60,7 @@ sent_to w n k x y c is = (
 
 -- ---- what a delivery leaves
 
-module _ (m : Meaning) (IsText : List ℕ → Type 0) (j : ℕ) (x : Content) (old new : Scene ReplicaValue)
+module _ (m : Meaning) (IsText : List ℕ → Type 0) (j : ℕ) (x : Content) (old new : WorldState ReplicaValue)
     (h : Hears m IsText j x old new) where
   s : TakesFrom m IsText j x old new
   s = heard_from m IsText j x old new h
@@ -67,9 +68,9 @@ module _ (m : Meaning) (IsText : List ℕ → Type 0) (j : ℕ) (x : Content) (o
   pub same_genesis : new.genesis ≡ old.genesis
   same_genesis = s.genesis
 
-  pub stays_up : (n : ℕ) → IsUp old.seats n → IsUp new.seats n
+  pub stays_up : (n : ℕ) → IsUp old.sim_nodes n → IsUp new.sim_nodes n
   stays_up n up = elim (cases_Bool (eqb n j)) [
-    | inl t ↦ subst (λ (i : ℕ). IsUp new.seats i) (sym (eqb-true n j t)) (is_up new j s.after s.is)
+    | inl t ↦ subst (λ (i : ℕ). IsUp new.sim_nodes i) (sym (eqb-true n j t)) (is_up new j s.after s.is)
     | inr f ↦ is_up new n up.0 (s.others n (Up up.0) (λ is. absurd (cc (sym f ∙ eq-eqb n j is))) (up_of old n up))
   ]
 
@@ -83,36 +84,40 @@ module _ (m : Meaning) (IsText : List ℕ → Type 0) (j : ℕ) (x : Content) (o
       let one = each n c in
       (stays_up n one.0, (one.1.0, still old new (batch_of j s.out.envelopes) s.sent one.1.0 one.1.1, one.1.2, one.1.3))
 
-pub each_up : (m : Meaning) (IsText : List ℕ → Type 0) (x : Content) (ns : List ℕ) (old new : Scene ReplicaValue)
-    → HearsEach m IsText x ns old new → (n : ℕ) → IsUp old.seats n → IsUp new.seats n
-each_up m IsText x [] old new same n up = subst (λ (w : Scene ReplicaValue). IsUp w.seats n) (sym same) up
+pub each_up : (m : Meaning) (IsText : List ℕ → Type 0) (x : Content) (ns : List ℕ) (old new : WorldState ReplicaValue)
+    → HearsEach m IsText x ns old new → (n : ℕ) → IsUp old.sim_nodes n → IsUp new.sim_nodes n
+each_up m IsText x [] old new same n up = subst (λ (w : WorldState ReplicaValue). IsUp w.sim_nodes n) (sym same) up
 each_up m IsText x (k ∷ ks) old new each n up =
     each_up m IsText x ks each.0 new each.2 n (stays_up m IsText k x old each.0 each.1 n up)
 
 -- ---- one after another
 
 module _ (m : Meaning) (IsText : List ℕ → Type 0) where
-  pub each_more : (x : Content) (ns : List ℕ) (n : ℕ) (old mid new : Scene ReplicaValue)
+  pub each_more : (x : Content) (ns : List ℕ) (n : ℕ) (old mid new : WorldState ReplicaValue)
       → HearsEach m IsText x ns old mid → Hears m IsText n x mid new → HearsEach m IsText x (ns ++ n ∷ []) old new
   each_more x [] n old mid new same h =
-      (new, subst (λ (w : Scene ReplicaValue). Hears m IsText n x w new) same h, refl)
+      (new, subst (λ (w : WorldState ReplicaValue). Hears m IsText n x w new) same h, refl)
   each_more x (k ∷ ks) n old mid new each h = (each.0, each.1, each_more x ks n each.0 mid new each.2 h)
 
-  pub replies_more : (k : ℕ) (v : Vote) (ns : List ℕ) (n : ℕ) (old mid new : Scene ReplicaValue)
+  pub replies_more : (k : ℕ) (v : Vote) (ns : List ℕ) (n : ℕ) (old mid new : WorldState ReplicaValue)
       → HearsInTurn m IsText k (acceptances ns v) old mid
       → Hears m IsText k (content.Node n (kinds.Accepted v)) mid new
       → HearsInTurn m IsText k (acceptances (ns ++ n ∷ []) v) old new
-  replies_more k v [] n old mid new same h =
-      (new, subst (λ (w : Scene ReplicaValue). Hears m IsText k (content.Node n (kinds.Accepted v)) w new) same h, refl)
+  replies_more k v [] n old mid new same h = (
+    new,
+    subst (λ (w : WorldState ReplicaValue). Hears m IsText k (content.Node n (kinds.Accepted v)) w new)
+        same h,
+    refl,
+  )
   replies_more k v (i ∷ is) n old mid new turn h =
       (turn.0, turn.1, replies_more k v is n turn.0 mid new turn.2 h)
 
   -- so many of these nodes have heard the message
-  abbrev pub HandsEach : Message → List ℕ → Scene ReplicaValue → ℕ → Scene ReplicaValue → Type 0
+  abbrev pub HandsEach : Message → List ℕ → WorldState ReplicaValue → ℕ → WorldState ReplicaValue → Type 0
   HandsEach x nodes old i now = HearsEach m IsText x.content (take i nodes) old now
       × AreOnTheirWay now nodes x × (x.cluster ≡ now.genesis.cluster)
 
-  pub handed_one : (x : Message) (nodes : List ℕ) (i n : ℕ) (old mid new : Scene ReplicaValue)
+  pub handed_one : (x : Message) (nodes : List ℕ) (i n : ℕ) (old mid new : WorldState ReplicaValue)
       → slice_get nodes i ≡ Some n → HandsEach x nodes old i mid → Hears m IsText n x.content mid new
       → HandsEach x nodes old (i + 1) new
   handed_one x nodes i n old mid new at so_far h = (
@@ -124,13 +129,13 @@ module _ (m : Meaning) (IsText : List ℕ → Type 0) where
   )
 
   -- the node has taken the replies of so many of these
-  abbrev pub RepliesEach : ℕ → ℕ → List ℕ → Vote → Scene ReplicaValue → ℕ → Scene ReplicaValue → Type 0
+  abbrev pub RepliesEach : ℕ → ℕ → List ℕ → Vote → WorldState ReplicaValue → ℕ → WorldState ReplicaValue → Type 0
   RepliesEach cluster k nodes v old i now = HearsInTurn m IsText k (acceptances (take i nodes) v) old now
-      × (cluster ≡ now.genesis.cluster) × IsUp now.seats k
+      × (cluster ≡ now.genesis.cluster) × IsUp now.sim_nodes k
       × ((n : ℕ) → Contains nodes n → HasSentTo now n k (kinds.Accepted v))
 
   pub replied_one : (cluster k : ℕ) (nodes : List ℕ) (v : Vote) (i n : ℕ) (x : Message)
-      (old mid new : Scene ReplicaValue)
+      (old mid new : WorldState ReplicaValue)
       → slice_get nodes i ≡ Some n → x ≡ record { cluster = cluster; content = content.Node n (kinds.Accepted v) }
       → RepliesEach cluster k nodes v old i mid → Hears m IsText k x.content mid new
       → RepliesEach cluster k nodes v old (i + 1) new
@@ -148,7 +153,7 @@ module _ (m : Meaning) (IsText : List ℕ → Type 0) where
       )
 
 -- a reply that was sent is on its way
-pub reply_on_its_way : (w : Scene ReplicaValue) (cluster n k : ℕ) (v : Vote) (x : Message)
+pub reply_on_its_way : (w : WorldState ReplicaValue) (cluster n k : ℕ) (v : Vote) (x : Message)
     → x ≡ record { cluster = cluster; content = content.Node n (kinds.Accepted v) } → cluster ≡ w.genesis.cluster
     → HasSentTo w n k (kinds.Accepted v) → IsOnItsWay w k x
 reply_on_its_way w cluster n k v x is same sent = sent_to w n k (kinds.Accepted v) x sent

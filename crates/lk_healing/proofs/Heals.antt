@@ -17,7 +17,7 @@ use Rattle.lk_learner.specs.Learners.{executed}
 use Rattle.lk_node.specs.Beginning.{greatest_round}
 use Rattle.lk_replica.specs.ReplicaValue.{ReplicaValue}
 use Rattle.lk_sim.specs.Events.{ComesUp, GoesDown, IsBack}
-use Rattle.lk_sim.specs.Scenes.{Scene}
+use Rattle.lk_sim.specs.WorldStates.{WorldState}
 use Rattle.lk_sim.specs.Traces.{asked_in}
 use Rattle.lk_sim.specs.declared.event.Event.TheVariants as event
 use Rattle.lk_world_feeding.proofs.Knowing.{window_alpha}
@@ -43,7 +43,7 @@ use Rattle.lk_healing.specs.Levels.{AreEqual, MayLevel}
 -- ---- restarts ask nothing
 
 module _ (m : Meaning) (IsText : List ℕ → Type 0) where
-  restart_asks : (old new : Scene ReplicaValue) (n : ℕ) → GoesWell m IsText old (event.Restart n) new
+  restart_asks : (old new : WorldState ReplicaValue) (n : ℕ) → GoesWell m IsText old (event.Restart n) new
       → asked_in new.trace ≡ asked_in old.trace
   restart_asks old new n goes = by_result k.comes
     where
@@ -56,13 +56,13 @@ module _ (m : Meaning) (IsText : List ℕ → Type 0) where
           ∙ append-nil (asked_in old.trace)
       by_result (inr fault) = absurd (cc (sym goes.alive ∙ fault.ended))
 
-  stop_asks : (old new : Scene ReplicaValue) (n x y : ℕ) → GoesDown (behaviour m IsText) old new n x y
+  stop_asks : (old new : WorldState ReplicaValue) (n x y : ℕ) → GoesDown (behaviour m IsText) old new n x y
       → asked_in new.trace ≡ asked_in old.trace
   stop_asks old new n x y k = ap asked_in (k.adds.trace ∙ append-nil old.trace)
 
-  turn_asks_nothing : (ns : List ℕ) (old new : Scene ReplicaValue) → RestartInTurn m IsText ns old new
+  turn_asks_nothing : (ns : List ℕ) (old new : WorldState ReplicaValue) → RestartInTurn m IsText ns old new
       → asked_in new.trace ≡ asked_in old.trace
-  turn_asks_nothing [] old new same = ap (λ (w : Scene ReplicaValue). asked_in w.trace) same
+  turn_asks_nothing [] old new same = ap (λ (w : WorldState ReplicaValue). asked_in w.trace) same
   turn_asks_nothing (n ∷ ns) old new turn = turn_asks_nothing ns turn.0 new turn.2 ∙ one turn.1
     where
       one : StopsAndRestarts m IsText n old turn.0 → asked_in turn.0.trace ≡ asked_in old.trace
@@ -73,18 +73,18 @@ module _ (m : Meaning) (IsText : List ℕ → Type 0) where
 -- ---- whoever has executed most
 
 -- the node is up, and has executed so many positions
-abbrev Reaches : Scene ReplicaValue → ℕ → ℕ → Type 0
+abbrev Reaches : WorldState ReplicaValue → ℕ → ℕ → Type 0
 Reaches w n e = (r : ReplicaValue) × IsUpAs w n r × (executed r.node.learner ≡ e)
 
 -- one of these nodes has executed as many as any
-record HasTop (w : Scene ReplicaValue) (ns : List ℕ) : Type 0 where
+record HasTop (w : WorldState ReplicaValue) (ns : List ℕ) : Type 0 where
   top : ℕ
   most : ℕ
   among : Contains ns top
   reaches : Reaches w top most
   above : (n e : ℕ) → Contains ns n → Reaches w n e → e ≤ most
 
-module _ (m : Meaning) (IsText : List ℕ → Type 0) (w : Scene ReplicaValue) (holds : Holds m IsText w) where
+module _ (m : Meaning) (IsText : List ℕ → Type 0) (w : WorldState ReplicaValue) (holds : Holds m IsText w) where
   as_far : (n e d : ℕ) → Reaches w n e → Reaches w n d → e ≡ d
   as_far n e d r q = sym r.2 ∙ ap (λ (y : ReplicaValue). executed y.node.learner)
       (one_replica m IsText w holds n r.0 q.0 r.1 q.1) ∙ q.2
@@ -131,7 +131,7 @@ module _ (m : Meaning) (IsText : List ℕ → Type 0) (w : Scene ReplicaValue) (
 
 module _ (m : Meaning) (IsText : List ℕ → Type 0) (node_law : NodeRestarts m IsText) (law : NodesRestart m IsText)
     (ends_law : RestartedNodesEnd m IsText) (x : ℕ) (nodes : List ℕ) (request : RequestValue)
-    (start now : Scene ReplicaValue) (holds : Holds m IsText start) (k : MayHeal start x nodes request)
+    (start now : WorldState ReplicaValue) (holds : Holds m IsText start) (k : MayHeal start x nodes request)
     (turn : RestartInTurn m IsText nodes start now) where
   now_holds : Holds m IsText now
   now_holds = turn_holds m IsText node_law nodes start now holds turn
@@ -217,7 +217,7 @@ module _ (m : Meaning) (IsText : List ℕ → Type 0) (node_law : NodeRestarts m
 
   -- ---- once all have executed as much
 
-  module _ (new : Scene ReplicaValue) (e : AreEqual m IsText x nodes now new restarted_level) where
+  module _ (new : WorldState ReplicaValue) (e : AreEqual m IsText x nodes now new restarted_level) where
     all_asked : asked_in new.trace ≡ asked_in start.trace
     all_asked = e.asked ∙ asked
 

@@ -22,14 +22,14 @@ use Rattle.lk_sim.specs.Events.{Adds, AreAllOfNodes, ComesUp, HasEffect, IsGiven
 use Rattle.lk_sim.specs.Groups.{AreNotesOf, given_by}
 use Rattle.lk_sim.specs.Heard.{IsRequestIn}
 use Rattle.lk_sim.specs.Runs.{AreExecuted, Runs, StopsAt}
-use Rattle.lk_sim.specs.Scenes.{Scene}
+use Rattle.lk_sim.specs.WorldStates.{WorldState}
 use Rattle.lk_sim.specs.Traces.{asked_in, asked_note}
 use Rattle.lk_sim.specs.declared.end.RunEnd.{RunEnd}
 use Rattle.lk_sim.specs.declared.event.Event.{Event}
 use Rattle.lk_sim.specs.declared.event.Event.TheVariants as event
 use Rattle.lk_sim_nodes.specs.Sends.{cut_short, left_over}
 use Rattle.lk_sim_nodes.specs.declared.refused.Refused.{Refused}
-use Rattle.lk_sim_nodes.specs.declared.seat.Seat.{Seat}
+use Rattle.lk_sim_nodes.specs.declared.sim_node.SimNode.{SimNode}
 use Rattle.lk_world_progress.specs.Delivering.{AreDistinct}
 use Rattle.lk_world_progress.specs.Stepping.{behaviour}
 use Rattle.lk_healing.proofs.Asks.{asked_both, own_notes, replies_ask_nothing}
@@ -88,17 +88,17 @@ module _ (m : Meaning) (IsText : List ℕ → Type 0) where
   -- ---- one event
 
   -- the world tells of nothing else that was asked
-  record AsksAlone (e : Event) (old new : Scene ReplicaValue) : Type 0 where
+  record AsksAlone (e : Event) (old new : WorldState ReplicaValue) : Type 0 where
     asked : (q : RequestValue) → Contains (asked_in new.trace) q → Contains (asked_in old.trace) q ⊎ IsAskedBy q e
     genesis : new.genesis ≡ old.genesis
 
-  unchanged : (e : Event) (old new : Scene ReplicaValue) → new ≡ old → AsksAlone e old new
+  unchanged : (e : Event) (old new : WorldState ReplicaValue) → new ≡ old → AsksAlone e old new
   unchanged e old new same = record {
-    asked = λ q c. inl (subst (λ (w : Scene ReplicaValue). Contains (asked_in w.trace) q) same c);
-    genesis = ap (λ (w : Scene ReplicaValue). w.genesis) same;
+    asked = λ q c. inl (subst (λ (w : WorldState ReplicaValue). Contains (asked_in w.trace) q) same c);
+    genesis = ap (λ (w : WorldState ReplicaValue). w.genesis) same;
   }
 
-  noted : (e : Event) (old new : Scene ReplicaValue) (notes : List Note) (batch : List Datagram)
+  noted : (e : Event) (old new : WorldState ReplicaValue) (notes : List Note) (batch : List Datagram)
       → Adds old new notes batch → ((q : RequestValue) → Contains (asked_in notes) q → IsAskedBy q e)
       → AsksAlone e old new
   noted e old new notes batch adds all = record {
@@ -110,10 +110,10 @@ module _ (m : Meaning) (IsText : List ℕ → Type 0) where
     genesis = adds.genesis;
   }
 
-  nothing : (e : Event) (old new : Scene ReplicaValue) → Adds old new [] [] → AsksAlone e old new
+  nothing : (e : Event) (old new : WorldState ReplicaValue) → Adds old new [] [] → AsksAlone e old new
   nothing e old new adds = noted e old new [] [] adds (silent [] refl e)
 
-  given : (e : Event) (old new : Scene ReplicaValue) (n : ℕ) (i : Input) (asked : List Note)
+  given : (e : Event) (old new : WorldState ReplicaValue) (n : ℕ) (i : Input) (asked : List Note)
       → IsGiven b old new n i asked → ((q : RequestValue) → Contains (asked_in asked) q → IsAskedBy q e)
       → AsksAlone e old new
   given e old new n i asked k all = elim k.comes_to [
@@ -130,7 +130,7 @@ module _ (m : Meaning) (IsText : List ℕ → Type 0) where
       as_asked notes told none nor q c =
           all q (subst (λ (l : List RequestValue). Contains l q) (asks_first asked notes told none nor) c)
 
-  together : (e : Event) (old new : Scene ReplicaValue) (n : ℕ) (is : List Input)
+  together : (e : Event) (old new : WorldState ReplicaValue) (n : ℕ) (is : List Input)
       → IsGivenTogether b old new n is → AsksAlone e old new
   together e old new n is k = elim k.comes_to [
     | inl g ↦ noted e old new g.notes (sent_of g.said) g.adds
@@ -141,14 +141,14 @@ module _ (m : Meaning) (IsText : List ℕ → Type 0) where
     | inr (inr g) ↦ nothing e old new g.adds
   ]
 
-  comes_up : (e : Event) (old new : Scene ReplicaValue) (t : Seat ReplicaValue) (device : Memory)
+  comes_up : (e : Event) (old new : WorldState ReplicaValue) (t : SimNode ReplicaValue) (device : Memory)
       → ComesUp b old new t device → AsksAlone e old new
   comes_up e old new t device (inl g) = noted e old new g.notes [] g.adds
       (silent g.notes (own_notes g.notes g.of_nodes) e)
   comes_up e old new t device (inr g) = nothing e old new g.adds
 
-  executed : (e : Event) (old new : Scene ReplicaValue) → HasEffect b old e new → AsksAlone e old new
-  executed (event.Start n) old new k = comes_up (event.Start n) old new k.seat empty k.comes
+  executed : (e : Event) (old new : WorldState ReplicaValue) → HasEffect b old e new → AsksAlone e old new
+  executed (event.Start n) old new k = comes_up (event.Start n) old new k.sim_node empty k.comes
   executed (event.Restart n) old new k = comes_up (event.Restart n) old new k.next k.device k.comes
   executed (event.Tick n) old new k =
       given (event.Tick n) old new n Tick [] k (silent [] refl (event.Tick n))
@@ -174,7 +174,7 @@ module _ (m : Meaning) (IsText : List ℕ → Type 0) where
   executed (event.Arm n count bytes) old new k = nothing (event.Arm n count bytes) old new k.adds
 
   -- memory ran out
-  wanted : (e : Event) (old new : Scene ReplicaValue) → Wants b old e new → AsksAlone e old new
+  wanted : (e : Event) (old new : WorldState ReplicaValue) → Wants b old e new → AsksAlone e old new
   wanted (event.Start n) old new k = unchanged (event.Start n) old new k
   wanted (event.Restart n) old new k = nothing (event.Restart n) old new k.adds
   wanted (event.Tick n) old new k = nothing (event.Tick n) old new k.adds
@@ -197,7 +197,7 @@ module _ (m : Meaning) (IsText : List ℕ → Type 0) where
   wanted (event.FailAt n count) old new k = absurd k
   wanted (event.Arm n count bytes) old new k = absurd k
 
-  comes : (e : Event) (old new : Scene ReplicaValue) → ComesOf m IsText e old new → AsksAlone e old new
+  comes : (e : Event) (old new : WorldState ReplicaValue) → ComesOf m IsText e old new → AsksAlone e old new
   comes e old new (inl done) = executed e old new done.1
   comes e old new (inr rejected) = elim rejected.1 [
     | inl r ↦ unchanged e old new r.1
@@ -206,15 +206,16 @@ module _ (m : Meaning) (IsText : List ℕ → Type 0) where
 
   -- ---- many
 
-  record AskAlone (es : List Event) (old new : Scene ReplicaValue) : Type 0 where
+  record AskAlone (es : List Event) (old new : WorldState ReplicaValue) : Type 0 where
     asked : (q : RequestValue) → Contains (asked_in new.trace) q
         → Contains (asked_in old.trace) q ⊎ ((e : Event) × Contains es e × IsAskedBy q e)
     genesis : new.genesis ≡ old.genesis
 
-  all_come : (es : List Event) (old new : Scene ReplicaValue) → ComesOfAll m IsText es old new → AskAlone es old new
+  all_come : (es : List Event) (old new : WorldState ReplicaValue) → ComesOfAll m IsText es old new
+      → AskAlone es old new
   all_come [] old new same = record {
-    asked = λ q c. inl (subst (λ (w : Scene ReplicaValue). Contains (asked_in w.trace) q) same c);
-    genesis = ap (λ (w : Scene ReplicaValue). w.genesis) same;
+    asked = λ q c. inl (subst (λ (w : WorldState ReplicaValue). Contains (asked_in w.trace) q) same c);
+    genesis = ap (λ (w : WorldState ReplicaValue). w.genesis) same;
   }
   all_come (e ∷ es) old new k =
       let one : AsksAlone e old k.0 = comes e old k.0 k.1 in
@@ -231,15 +232,15 @@ module _ (m : Meaning) (IsText : List ℕ → Type 0) where
 
   -- ---- runs
 
-  executed_all : (es : List Event) (old new : Scene ReplicaValue) → AreExecuted b es old new
+  executed_all : (es : List Event) (old new : WorldState ReplicaValue) → AreExecuted b es old new
       → ComesOfAll m IsText es old new
   executed_all [] old new same = same
   executed_all (e ∷ es) old new k = (k.0, inl k.1, executed_all es k.0 new k.2)
 
-  one_more : (es : List Event) (e : Event) (old mid new : Scene ReplicaValue) → ComesOfAll m IsText es old mid
+  one_more : (es : List Event) (e : Event) (old mid new : WorldState ReplicaValue) → ComesOfAll m IsText es old mid
       → ComesOf m IsText e mid new → ComesOfAll m IsText (es ++ e ∷ []) old new
   one_more [] e old mid new same one =
-      (new, subst (λ (w : Scene ReplicaValue). ComesOf m IsText e w new) same one, refl)
+      (new, subst (λ (w : WorldState ReplicaValue). ComesOf m IsText e w new) same one, refl)
   one_more (d ∷ es) e old mid new k one = (k.0, k.1, one_more es e k.0 mid new k.2 one)
 
   taken : (count : ℕ) (es : List Event) (e : Event) → Contains (take count es) e → Contains es e
@@ -258,7 +259,7 @@ module _ (m : Meaning) (IsText : List ℕ → Type 0) where
       by_end None s = (
         take how.done events,
         λ e c. taken how.done events e c,
-        subst (λ (w : Scene ReplicaValue). ComesOfAll m IsText (take how.done events) old w) (sym s.1)
+        subst (λ (w : WorldState ReplicaValue). ComesOfAll m IsText (take how.done events) old w) (sym s.1)
             (executed_all (take how.done events) old k.last k.are_executed),
       )
       by_end (Some r) s = (

@@ -22,9 +22,9 @@ use Rattle.lk_progress.specs.Electing.{DueNodeAsks, promises}
 use Rattle.lk_progress.specs.Exchanges.{prepare_by}
 use Rattle.lk_progress.specs.Rejecting.{PrepareIsPromisedOrRejected}
 use Rattle.lk_replica.specs.ReplicaValue.{ReplicaValue}
-use Rattle.lk_sim.specs.Scenes.{Scene}
-use Rattle.lk_sim_nodes.specs.Seats.{IsUp}
-use Rattle.lk_sim_nodes.specs.declared.seat.Life.TheVariants.{Up}
+use Rattle.lk_sim.specs.WorldStates.{WorldState}
+use Rattle.lk_sim_nodes.specs.SimNodes.{IsUp}
+use Rattle.lk_sim_nodes.specs.declared.sim_node.RunState.TheVariants.{Up}
 use Rattle.lk_world_progress.specs.Balloting.{BeginsIn, HasSentTo, TickBeginsBallot}
 use Rattle.lk_world_progress.specs.Delivering.{AreDistinct, HearsInTurn}
 use Rattle.lk_world_progress.specs.Exchanging.{number_of}
@@ -60,7 +60,7 @@ reported_promises c (r ∷ rs) =
 
 module _ (m : Meaning) (IsText : List ℕ → Type 0) (asks_law : DueNodeAsks)
     (prepare_law : PrepareIsPromisedOrRejected m IsText) (x : ℕ) (nodes : List ℕ) (asking : Asking)
-    (old : Scene ReplicaValue) (k : HasBegun m IsText x nodes asking old) where
+    (old : WorldState ReplicaValue) (k : HasBegun m IsText x nodes asking old) where
   abbrev c : ReplicaValue
   c = k.candidate
 
@@ -100,9 +100,9 @@ module _ (m : Meaning) (IsText : List ℕ → Type 0) (asks_law : DueNodeAsks)
     | inr other ↦ k.leftovers.others_up r other
   ]
 
-  still_up : (r : ReplicaValue) → Contains (c ∷ k.others) r → IsUp old.seats (number_of r)
+  still_up : (r : ReplicaValue) → Contains (c ∷ k.others) r → IsUp old.sim_nodes (number_of r)
   still_up r d = elim (cons_cases c k.others r d) [
-    | inl is ↦ subst (λ (q : ReplicaValue). IsUp old.seats (number_of q)) is
+    | inl is ↦ subst (λ (q : ReplicaValue). IsUp old.sim_nodes (number_of q)) is
         (is_up old (number_of c) start.after start.is)
     | inr other ↦ is_up old (number_of r) r (start.stay (number_of r) (Up r) (apart r other)
         (k.leftovers.others_up r other))
@@ -127,7 +127,7 @@ module _ (m : Meaning) (IsText : List ℕ → Type 0) (asks_law : DueNodeAsks)
         → AreOnTheirWay old nodes y
     prepares_on_their_way y is n d =
         let r = one_of n d in (
-          subst (λ (i : ℕ). IsUp old.seats i) r.2 (still_up r.0 r.1),
+          subst (λ (i : ℕ). IsUp old.sim_nodes i) r.2 (still_up r.0 r.1),
           sent_to old (number_of c) n (prepare_by c.node) y (prepare_sent n d)
               (is ∙ ap (λ (i : ℕ). said_by old.genesis i (prepare_by c.node)) (sym k.number)),
         )
@@ -163,7 +163,7 @@ module _ (m : Meaning) (IsText : List ℕ → Type 0) (asks_law : DueNodeAsks)
       (c ∷ k.others) h d in
       subst (λ (g : ℕ × List Vote). MayPromise m IsText old b e g.0 g.1) r.2 (may_promise r.0 r.1)
 
-  module _ (polled : Scene ReplicaValue) (places : List ℕ)
+  module _ (polled : WorldState ReplicaValue) (places : List ℕ)
       (run : HearsAt m IsText (content.Node x (prepare_by k.candidate.node)) nodes places old polled) where
     from_it : HearsAt m IsText (content.Node (number_of c) (prepare_by c.node)) (map number_of (c ∷ k.others)) places
         old polled
@@ -171,7 +171,7 @@ module _ (m : Meaning) (IsText : List ℕ → Type 0) (asks_law : DueNodeAsks)
         places old polled) (sym k.number)
         (subst (λ (ns : List ℕ). HearsAt m IsText (content.Node x (prepare_by c.node)) ns places old polled) k.are run)
 
-    pub candidate_up : IsUp polled.seats x
+    pub candidate_up : IsUp polled.sim_nodes x
     candidate_up = each_up m IsText (content.Node x (prepare_by k.candidate.node)) nodes old polled
         (each_of m IsText (content.Node x (prepare_by k.candidate.node)) nodes places old polled run) x
         (is_up old x start.after start_up)
@@ -188,7 +188,7 @@ module _ (m : Meaning) (IsText : List ℕ → Type 0) (asks_law : DueNodeAsks)
         (subst (λ (ns : List ℕ). HearsAt m IsText (content.Node (number_of c) (prepare_by c.node)) ns places old polled)
         (sym (reported_numbers e (c ∷ k.others))) from_it)))
 
-    pub leads_now : CandidateFillsIn m IsText → (last : Scene ReplicaValue)
+    pub leads_now : CandidateFillsIn m IsText → (last : WorldState ReplicaValue)
         → HearsInTurn m IsText x contents polled last → LeadsNow m IsText x nodes asking old last k
     leads_now law last turn = record {
       run = collects;

@@ -8,7 +8,7 @@ use Rattle.lk_messages.specs.Grammar.{Spells}
 use Rattle.lk_agreement_laws.proofs.Histories.{chosen_was_accepted, cons_cases, contains_more, entry_chosen, said_alike}
 use Rattle.lk_agreement_laws.specs.Chosen.{Chosen, Command}
 use Rattle.lk_agreement_laws.specs.Datagrams.{Accepted, Datagram, HasSent, NodeMessage, said_by}
-use Rattle.lk_sim_nodes.specs.Seats.{At}
+use Rattle.lk_sim_nodes.specs.SimNodes.{At}
 use Rattle.lk_world_leftovers.proofs.Retrying.{few_distinct}
 use Rattle.lk_world_progress.proofs.Stepping.{at_one}
 use Rattle.lk_world_progress.specs.Delivering.{AreDistinct}

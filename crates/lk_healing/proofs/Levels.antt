@@ -8,8 +8,8 @@ use Rattle.lk_agreement_laws.proofs.Histories.{cons_cases, contains_more}
 use Rattle.lk_state.specs.Meanings.{Meaning}
 use Rattle.lk_learner.specs.Learners.{executed}
 use Rattle.lk_replica.specs.ReplicaValue.{ReplicaValue}
-use Rattle.lk_sim.specs.Scenes.{Scene}
-use Rattle.lk_sim_nodes.specs.declared.seat.Life.TheVariants.{Up}
+use Rattle.lk_sim.specs.WorldStates.{WorldState}
+use Rattle.lk_sim_nodes.specs.declared.sim_node.RunState.TheVariants.{Up}
 use Rattle.lk_world_progress.proofs.Stepping.{one_replica}
 use Rattle.lk_world_progress.specs.Delivering.{AreDistinct}
 use Rattle.lk_world_progress.specs.Stepping.{Holds, IsUpAs}
@@ -45,7 +45,7 @@ one_later x others nodes n are c = (
   ap (λ (l : List ℕ). slice_get l (suc c.0)) are ∙ (slice_get-get_or others c.0 n c.1 ∙ ap Some c.2),
 )
 
-module _ (m : Meaning) (IsText : List ℕ → Type 0) (x : ℕ) (nodes : List ℕ) (start : Scene ReplicaValue)
+module _ (m : Meaning) (IsText : List ℕ → Type 0) (x : ℕ) (nodes : List ℕ) (start : WorldState ReplicaValue)
     (k : MayLevel m IsText start x nodes) where
   in_nodes : (n : ℕ) → Contains (x ∷ k.others) n → Contains nodes n
   in_nodes n c = subst (λ (l : List ℕ). Contains l n) (sym k.are) c
@@ -79,7 +79,7 @@ module _ (m : Meaning) (IsText : List ℕ → Type 0) (x : ℕ) (nodes : List �
     genesis = refl;
   }
 
-  module _ (now : Scene ReplicaValue) (s : StillLevels m IsText x nodes start now k) where
+  module _ (now : WorldState ReplicaValue) (s : StillLevels m IsText x nodes start now k) where
     holds_now : Holds m IsText now
     holds_now = (s.each x is_first).1.holds
 
@@ -124,7 +124,7 @@ module _ (m : Meaning) (IsText : List ℕ → Type 0) (x : ℕ) (nodes : List �
     }
 
     -- after two of them have closed their gap
-    module _ (b a : ℕ) (new : Scene ReplicaValue) (after other_after : ReplicaValue)
+    module _ (b a : ℕ) (new : WorldState ReplicaValue) (after other_after : ReplicaValue)
         (own : MayGain m IsText new k.last b after) (other : MayGain m IsText new k.last a other_after)
         (rests : RestsBut b a now new)
         (own_rises : (r : ReplicaValue) → IsUpAs now b r → executed r.node.learner ≤ executed after.node.learner)
@@ -182,7 +182,7 @@ module _ (m : Meaning) (IsText : List ℕ → Type 0) (x : ℕ) (nodes : List �
       }
 
     -- and after more of the same
-    pub still_both : (new : Scene ReplicaValue) → StillLevels m IsText x nodes now new levels_again
+    pub still_both : (new : WorldState ReplicaValue) → StillLevels m IsText x nodes now new levels_again
         → StillLevels m IsText x nodes start new k
     still_both new t = record {
       each = t.each;

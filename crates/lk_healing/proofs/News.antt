@@ -16,7 +16,7 @@ use Rattle.lk_progress.specs.Beginnings.{NewClustersAreQuiet, StartsQuietly, new
 use Rattle.lk_progress.specs.Exchanges.{IsQuietVoter}
 use Rattle.lk_progress.specs.Ticking.{MayBegin}
 use Rattle.lk_replica.specs.ReplicaValue.{ReplicaValue}
-use Rattle.lk_sim.specs.Scenes.{Scene}
+use Rattle.lk_sim.specs.WorldStates.{WorldState}
 use Rattle.lk_world_progress.proofs.Stepping.{one_replica}
 use Rattle.lk_world_progress.specs.Beginning.{IsNewWorld}
 use Rattle.lk_world_progress.specs.Exchanging.{number_of}
@@ -27,7 +27,7 @@ use Rattle.lk_healing.proofs.Places.{place_in}
 use Rattle.lk_healing.specs.Answers.{IsQuietFor, NewWorldsAreQuietFor}
 
 module _ (m : Meaning) (IsText : List ℕ → Type 0) (clusters : NewClustersAreQuiet)
-    (contend : NewWorldsContend m IsText) (w : Scene ReplicaValue) (c : ReplicaValue) (index ticks : ℕ)
+    (contend : NewWorldsContend m IsText) (w : WorldState ReplicaValue) (c : ReplicaValue) (index ticks : ℕ)
     (others : List ℕ) (r : RequestValue) (new : IsNewWorld m IsText w c index ticks others)
     (changes : NobodyChanges w) (fresh : IsFresh w r) where
   abbrev x : ℕ

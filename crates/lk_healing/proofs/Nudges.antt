@@ -26,9 +26,9 @@ use Rattle.lk_node.specs.Nudging.{Nudges, TellsIfSilent, TellsProgress, progress
 use Rattle.lk_node.specs.Nudging.{without_gathered}
 use Rattle.lk_node.specs.Telling.{AreOthers, envelope_to}
 use Rattle.lk_replica.specs.ReplicaValue.{ReplicaValue}
-use Rattle.lk_sim.specs.Scenes.{Scene}
+use Rattle.lk_sim.specs.WorldStates.{WorldState}
 use Rattle.lk_sim.specs.declared.event.Event.TheVariants as event
-use Rattle.lk_sim_nodes.specs.declared.seat.Life.{Life}
+use Rattle.lk_sim_nodes.specs.declared.sim_node.RunState.{RunState}
 use Rattle.lk_world_progress.proofs.Balloting.{found_has, found_tells}
 use Rattle.lk_world_progress.proofs.Delivering.{among, still}
 use Rattle.lk_world_progress.proofs.Sending.{sent_as}
@@ -138,7 +138,7 @@ nudge_writes start last out idle n =
 
 -- ---- a node of a world
 
-module _ (m : Meaning) (IsText : List ℕ → Type 0) (old new : Scene ReplicaValue) (n : ℕ) (r : ReplicaValue)
+module _ (m : Meaning) (IsText : List ℕ → Type 0) (old new : WorldState ReplicaValue) (n : ℕ) (r : ReplicaValue)
     (up : IsUpAs old n r) (idle : r.node.leader.term ≡ None)
     (goes : GoesWell m IsText old (event.Nudge n TicksWithheld) new)
   where
@@ -167,7 +167,8 @@ module _ (m : Meaning) (IsText : List ℕ → Type 0) (old new : Scene ReplicaVa
       pub none : Remembers r.node → after.node.learner.gathered ≡ None
       pub kept : (Remembers r.node → ⊥) → after.node.learner.gathered ≡ r.node.learner.gathered
       pub rested : IsRested new n
-      pub others : (k : ℕ) (life : Life ReplicaValue) → (k ≡ n → ⊥) → Lives old k life → Lives new k life
+      pub others : (k : ℕ) (run_state : RunState ReplicaValue) → (k ≡ n → ⊥) → Lives old k run_state
+          → Lives new k run_state
       pub rests : (b a : ℕ) → (n ≡ b) ⊎ (n ≡ a) → RestsBut b a old new
       pub genesis : new.genesis ≡ old.genesis
       -- if no rebase was due, its snapshot is the same
@@ -193,7 +194,7 @@ module _ (m : Meaning) (IsText : List ℕ → Type 0) (old new : Scene ReplicaVa
           (λ start last out f steps. nudge_writes start last out (idle_as start f) steps);
       others = s.others;
       rests = λ b a is. record {
-        rests = λ k life not_b not_a c. s.others k life
+        rests = λ k run_state not_b not_a c. s.others k run_state
             (λ e. elim is [ inl one ↦ not_b (e ∙ one) | inr two ↦ not_a (e ∙ two) ]) c;
         sent = still old new (batch_of n s.out.envelopes) s.sent;
         asked = asks.asked;

@@ -22,9 +22,9 @@ use Rattle.lk_learner.specs.Learners.{executed}
 use Rattle.lk_leftovers.proofs.Filling.{found_at}
 use Rattle.lk_replica.specs.Behaviours.{disks_by}
 use Rattle.lk_replica.specs.ReplicaValue.{ReplicaValue}
-use Rattle.lk_sim.specs.Scenes.{Scene}
+use Rattle.lk_sim.specs.WorldStates.{WorldState}
 use Rattle.lk_sim.specs.Traces.{happened, told_in}
-use Rattle.lk_sim_nodes.specs.Seats.{UpFits}
+use Rattle.lk_sim_nodes.specs.SimNodes.{UpFits}
 use Rattle.lk_world_progress.proofs.Stepping.{up_fits}
 use Rattle.lk_world_progress.specs.Stepping.{Shows, behaviour}
 use Rattle.lk_world_leftovers.specs.Filling.{FillingLeaderOffers, IsNextVote, OffersNext}
@@ -46,7 +46,8 @@ proposal_there i (q ∷ ps) p c at = elim (cases_Bool (q.position == i)) [
   ]
 ]
 
-module _ (m : Meaning) (IsText : List ℕ → Type 0) (w : Scene ReplicaValue) (x : ℕ) (nodes : List ℕ) (asking : Asking)
+module _ (m : Meaning) (IsText : List ℕ → Type 0) (w : WorldState ReplicaValue) (x : ℕ) (nodes : List ℕ)
+    (asking : Asking)
     (next : ℕ) (k : FillsFrom m IsText w x nodes asking next) where
   abbrev e : ℕ
   e = executed k.leader.node.learner

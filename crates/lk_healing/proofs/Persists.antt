@@ -4,7 +4,7 @@ use Rattle.std.proofs.Common.{sym, subst, arith}
 use Rattle.lk_agreement_laws.proofs.Histories.{cons_cases}
 use Rattle.lk_state.specs.Meanings.{Meaning}
 use Rattle.lk_replica.specs.ReplicaValue.{ReplicaValue}
-use Rattle.lk_sim.specs.Scenes.{Scene}
+use Rattle.lk_sim.specs.WorldStates.{WorldState}
 use Rattle.lk_world_progress.specs.Delivering.{AreDistinct}
 use Rattle.lk_world_leftovers.proofs.Retrying.{few_distinct}
 use Rattle.lk_world_leftovers.specs.Persisting.{IsNoRival}
@@ -18,7 +18,7 @@ module _ (m : Meaning) (IsText : List ℕ → Type 0) (x : ℕ) (nodes : List �
   same_others others these one two = let is : x ∷ others ≡ x ∷ these = sym one ∙ two in cc is
 
   -- so many rivals have rejected it, all different, and none of them is a rival any more
-  pub record HasStood (old : Scene ReplicaValue) (i : ℕ) (now : Scene ReplicaValue) : Type 0 where
+  pub record HasStood (old : WorldState ReplicaValue) (i : ℕ) (now : WorldState ReplicaValue) : Type 0 where
     pub stands : MayStand m IsText now x nodes
     pub rivals : List ℕ
     pub count : length rivals ≡ i
@@ -27,7 +27,7 @@ module _ (m : Meaning) (IsText : List ℕ → Type 0) (x : ℕ) (nodes : List �
     pub settled : (n : ℕ) → Contains rivals n → IsNoRival now x n
     pub asks : AsksNothing old now
 
-  pub begins_standing : (old : Scene ReplicaValue) → MayStand m IsText old x nodes → HasStood old 0 old
+  pub begins_standing : (old : WorldState ReplicaValue) → MayStand m IsText old x nodes → HasStood old 0 old
   begins_standing old k = record {
     stands = k;
     rivals = [];
@@ -38,7 +38,7 @@ module _ (m : Meaning) (IsText : List ℕ → Type 0) (x : ℕ) (nodes : List �
     asks = asks_same old;
   }
 
-  module _ (old mid new : Scene ReplicaValue) (i : ℕ) (h : HasStood old i mid)
+  module _ (old mid new : WorldState ReplicaValue) (i : ℕ) (h : HasStood old i mid)
       (r : IsRejectedBy m IsText x nodes mid new) where
     here : (n : ℕ) → Contains h.rivals n → Contains r.stands.others n
     here n c = subst (λ (ns : List ℕ). Contains ns n)
@@ -61,12 +61,12 @@ module _ (m : Meaning) (IsText : List ℕ → Type 0) (x : ℕ) (nodes : List �
       asks = asks_both old mid new h.asks r.asks;
     }
 
-  pub not_for_ever : (old now : Scene ReplicaValue) (i : ℕ) → HasStood old i now → length nodes ≤ i → ⊥
+  pub not_for_ever : (old now : WorldState ReplicaValue) (i : ℕ) → HasStood old i now → length nodes ≤ i → ⊥
   not_for_ever old now i h enough =
       let few = few_distinct h.rivals h.stands.others h.distinct h.among in
       let more : length nodes ≡ suc (length h.stands.others) = ap length h.stands.are in
       omega (arith, few, more, h.count, enough)
 
-  pub leads_from : (old mid new : Scene ReplicaValue) (i : ℕ) (asking : Asking) → HasStood old i mid
+  pub leads_from : (old mid new : WorldState ReplicaValue) (i : ℕ) (asking : Asking) → HasStood old i mid
       → LeadsAfter m IsText x nodes mid new asking → LeadsAfter m IsText x nodes old new asking
   leads_from old mid new i asking h l = record { fills = l.fills; asks = asks_both old mid new h.asks l.asks }

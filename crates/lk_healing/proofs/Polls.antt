@@ -22,11 +22,11 @@ use Rattle.lk_node.specs.Leavings.{header_of}
 use Rattle.lk_progress.specs.Electing.{promises}
 use Rattle.lk_replica.specs.ReplicaValue.{ReplicaValue}
 use Rattle.lk_sim.specs.Refusals.{datagram_at}
-use Rattle.lk_sim.specs.Scenes.{Scene}
+use Rattle.lk_sim.specs.WorldStates.{WorldState}
 use Rattle.lk_sim.specs.declared.event.Event.TheVariants as event
 use Rattle.lk_sim_nodes.proofs.Tellings.{take_next}
-use Rattle.lk_sim_nodes.specs.Seats.{IsUp}
-use Rattle.lk_sim_nodes.specs.declared.seat.Life.TheVariants.{Up}
+use Rattle.lk_sim_nodes.specs.SimNodes.{IsUp}
+use Rattle.lk_sim_nodes.specs.declared.sim_node.RunState.TheVariants.{Up}
 use Rattle.lk_world_progress.proofs.Balloting.{found_has}
 use Rattle.lk_world_progress.proofs.Delivering.{TakesFrom, found_as, heard_from}
 use Rattle.lk_world_progress.proofs.Stepping.{found_header, has_header}
@@ -46,7 +46,7 @@ as_promise b e h = (h.0, record { ballot = b; first = e + 1; votes = h.1 })
 
 module _ (m : Meaning) (IsText : List ℕ → Type 0) where
   -- it stands there still after a delivery
-  pub stands_still : (j n p : ℕ) (x y : Content) (old new : Scene ReplicaValue) → Hears m IsText j x old new
+  pub stands_still : (j n p : ℕ) (x y : Content) (old new : WorldState ReplicaValue) → Hears m IsText j x old new
       → StandsAt old n p y → StandsAt new n p y
   stands_still j n p x y old new h stands =
       let s : TakesFrom m IsText j x old new = heard_from m IsText j x old new h in (
@@ -58,7 +58,7 @@ module _ (m : Meaning) (IsText : List ℕ → Type 0) where
             stands.3,
       )
 
-  pub all_stand_still : (j n : ℕ) (x : Content) (old new : Scene ReplicaValue) → Hears m IsText j x old new
+  pub all_stand_still : (j n : ℕ) (x : Content) (old new : WorldState ReplicaValue) → Hears m IsText j x old new
       → (ps : List ℕ) (ys : List Content) → StandAt old n ps ys → StandAt new n ps ys
   all_stand_still j n x old new h [] [] stand = tt
   all_stand_still j n x old new h [] (y ∷ ys) stand = absurd stand
@@ -66,17 +66,17 @@ module _ (m : Meaning) (IsText : List ℕ → Type 0) where
   all_stand_still j n x old new h (p ∷ ps) (y ∷ ys) stand =
       (stands_still j n p x y old new h stand.0, all_stand_still j n x old new h ps ys stand.1)
 
-  pub stands_later : (n p : ℕ) (y x : Content) (ns ps : List ℕ) (old new : Scene ReplicaValue)
+  pub stands_later : (n p : ℕ) (y x : Content) (ns ps : List ℕ) (old new : WorldState ReplicaValue)
       → HearsAt m IsText x ns ps old new → StandsAt old n p y → StandsAt new n p y
   stands_later n p y x [] [] old new same stands =
-      subst (λ (w : Scene ReplicaValue). StandsAt w n p y) (sym same) stands
+      subst (λ (w : WorldState ReplicaValue). StandsAt w n p y) (sym same) stands
   stands_later n p y x [] (q ∷ qs) old new run stands = absurd run
   stands_later n p y x (k ∷ ks) [] old new run stands = absurd run
   stands_later n p y x (k ∷ ks) (q ∷ qs) old new run stands =
       stands_later n p y x ks qs run.0 new run.3 (stands_still k n p x y old run.0 run.1 stands)
 
   -- without the places
-  pub each_of : (x : Content) (ns ps : List ℕ) (old new : Scene ReplicaValue) → HearsAt m IsText x ns ps old new
+  pub each_of : (x : Content) (ns ps : List ℕ) (old new : WorldState ReplicaValue) → HearsAt m IsText x ns ps old new
       → HearsEach m IsText x ns old new
   each_of x [] [] old new same = same
   each_of x [] (q ∷ qs) old new run = absurd run
@@ -84,13 +84,13 @@ module _ (m : Meaning) (IsText : List ℕ → Type 0) where
   each_of x (k ∷ ks) (q ∷ qs) old new run = (run.0, run.1, each_of x ks qs run.0 new run.3)
 
   -- one more
-  pub places_more : (x : Content) (ns ps : List ℕ) (n p : ℕ) (old mid new : Scene ReplicaValue)
+  pub places_more : (x : Content) (ns ps : List ℕ) (n p : ℕ) (old mid new : WorldState ReplicaValue)
       → HearsAt m IsText x ns ps old mid → Hears m IsText n x mid new → p ≡ suc (length mid.sent)
       → HearsAt m IsText x (ns ++ n ∷ []) (ps ++ p ∷ []) old new
   places_more x [] [] n p old mid new same h is = (
     new,
-    subst (λ (w : Scene ReplicaValue). Hears m IsText n x w new) same h,
-    is ∙ ap (λ (w : Scene ReplicaValue). suc (length w.sent)) same,
+    subst (λ (w : WorldState ReplicaValue). Hears m IsText n x w new) same h,
+    is ∙ ap (λ (w : WorldState ReplicaValue). suc (length w.sent)) same,
     refl,
   )
   places_more x [] (q ∷ qs) n p old mid new run h is = absurd run
@@ -101,14 +101,15 @@ module _ (m : Meaning) (IsText : List ℕ → Type 0) where
   -- ---- the promises
 
   -- the node is up, and would promise this ballot and report these votes
-  pub record MayPromise (w : Scene ReplicaValue) (b : BallotValue) (e n : ℕ) (votes : List Vote) : Type 0 where
+  pub record MayPromise (w : WorldState ReplicaValue) (b : BallotValue) (e n : ℕ) (votes : List Vote) : Type 0 where
     pub replica : ReplicaValue
     pub up : IsUpAs w n replica
     pub highest : ℕ
     pub stands : Stands b e highest votes replica.node
     pub ballot : IsAtMost replica.node.acceptor.state.promised b
 
-  module _ (x n e : ℕ) (b : BallotValue) (votes : List Vote) (old new : Scene ReplicaValue) (holds : Holds m IsText old)
+  module _ (x n e : ℕ) (b : BallotValue) (votes : List Vote) (old new : WorldState ReplicaValue)
+      (holds : Holds m IsText old)
       (may : MayPromise old b e n votes)
       (h : Hears m IsText n (content.Node x (kinds.Prepare b (e + 1))) old new) where
     s : TakesFrom m IsText n (content.Node x (kinds.Prepare b (e + 1))) old new
@@ -152,7 +153,7 @@ module _ (m : Meaning) (IsText : List ℕ → Type 0) where
 
   -- each of them stands at its place
   pub promises_stand : (x e : ℕ) (b : BallotValue) (hs : List (ℕ × List Vote)) (ps : List ℕ)
-      (old new : Scene ReplicaValue) → Holds m IsText old → AreDistinct (map (λ h. h.0) hs)
+      (old new : WorldState ReplicaValue) → Holds m IsText old → AreDistinct (map (λ h. h.0) hs)
       → ((h : ℕ × List Vote) → Contains hs h → MayPromise old b e h.0 h.1)
       → HearsAt m IsText (content.Node x (kinds.Prepare b (e + 1))) (map (λ h. h.0) hs) ps old new
       → StandAt new x ps (promises (map (as_promise b e) hs))
@@ -179,7 +180,7 @@ same_place q p e = cc e
 
 module _ (m : Meaning) (IsText : List ℕ → Type 0) where
   -- what stands at a place of the list
-  pub one_stands : (w : Scene ReplicaValue) (n : ℕ) (ps : List ℕ) (xs : List Content) (i p : ℕ)
+  pub one_stands : (w : WorldState ReplicaValue) (n : ℕ) (ps : List ℕ) (xs : List Content) (i p : ℕ)
       → StandAt w n ps xs → slice_get ps i ≡ Some p → (x : Content) × (slice_get xs i ≡ Some x) × StandsAt w n p x
   one_stands w n [] xs i p stand at = absurd (cc at)
   one_stands w n (q ∷ ps) [] i p stand at = absurd stand
@@ -188,13 +189,13 @@ module _ (m : Meaning) (IsText : List ℕ → Type 0) where
       (x, refl, subst (λ (k : ℕ). StandsAt w n k x) (same_place q p is) stand.0)
   one_stands w n (q ∷ ps) (x ∷ xs) (suc i) p stand at = one_stands w n ps xs i p stand.1 at
 
-  pub turn_more : (n : ℕ) (xs : List Content) (x : Content) (old mid new : Scene ReplicaValue)
+  pub turn_more : (n : ℕ) (xs : List Content) (x : Content) (old mid new : WorldState ReplicaValue)
       → HearsInTurn m IsText n xs old mid → Hears m IsText n x mid new → HearsInTurn m IsText n (xs ++ x ∷ []) old new
   turn_more n [] x old mid new same h =
-      (new, subst (λ (w : Scene ReplicaValue). Hears m IsText n x w new) same h, refl)
+      (new, subst (λ (w : WorldState ReplicaValue). Hears m IsText n x w new) same h, refl)
   turn_more n (y ∷ ys) x old mid new turn h = (turn.0, turn.1, turn_more n ys x turn.0 mid new turn.2 h)
 
-  pub hears_there : (n p : ℕ) (x : Content) (old new : Scene ReplicaValue) → StandsAt old n p x
+  pub hears_there : (n p : ℕ) (x : Content) (old new : WorldState ReplicaValue) → StandsAt old n p x
       → GoesWell m IsText old (event.Deliver p) new → Hears m IsText n x old new
   hears_there n p x old new stands goes = record {
     place = p;
@@ -206,7 +207,7 @@ module _ (m : Meaning) (IsText : List ℕ → Type 0) where
   }
 
   -- as many contents as places
-  pub as_many : (w : Scene ReplicaValue) (n : ℕ) (ps : List ℕ) (xs : List Content) → StandAt w n ps xs
+  pub as_many : (w : WorldState ReplicaValue) (n : ℕ) (ps : List ℕ) (xs : List Content) → StandAt w n ps xs
       → length xs ≡ length ps
   as_many w n [] [] stand = refl
   as_many w n [] (x ∷ xs) stand = absurd stand
@@ -216,11 +217,11 @@ module _ (m : Meaning) (IsText : List ℕ → Type 0) where
   -- ---- the loops
 
   -- so many of these nodes have heard the message, and what each has sent first for it is to be at these places
-  abbrev pub PollsEach : Message → List ℕ → Scene ReplicaValue → ℕ → List ℕ → Scene ReplicaValue → Type 0
+  abbrev pub PollsEach : Message → List ℕ → WorldState ReplicaValue → ℕ → List ℕ → WorldState ReplicaValue → Type 0
   PollsEach x nodes old i ps now = HearsAt m IsText x.content (take i nodes) ps old now
       × AreOnTheirWay now nodes x × (x.cluster ≡ now.genesis.cluster)
 
-  pub polled_one : (x : Message) (nodes : List ℕ) (i n p : ℕ) (ps : List ℕ) (old mid new : Scene ReplicaValue)
+  pub polled_one : (x : Message) (nodes : List ℕ) (i n p : ℕ) (ps : List ℕ) (old mid new : WorldState ReplicaValue)
       → slice_get nodes i ≡ Some n → p ≡ length mid.sent + 1 → PollsEach x nodes old i ps mid
       → Hears m IsText n x.content mid new → PollsEach x nodes old (i + 1) (ps ++ p ∷ []) new
   polled_one x nodes i n p ps old mid new at is so_far h = (
@@ -233,19 +234,19 @@ module _ (m : Meaning) (IsText : List ℕ → Type 0) where
   )
 
   -- the node has taken what stands at so many of these places
-  abbrev pub DeliversEach : ℕ → List ℕ → Scene ReplicaValue → ℕ → Scene ReplicaValue → Type 0
-  DeliversEach n ps old i now = IsUp now.seats n
+  abbrev pub DeliversEach : ℕ → List ℕ → WorldState ReplicaValue → ℕ → WorldState ReplicaValue → Type 0
+  DeliversEach n ps old i now = IsUp now.sim_nodes n
       × ((xs : List Content) → StandAt old n ps xs → StandAt now n ps xs
       × HearsInTurn m IsText n (take i xs) old now)
 
-  pub may_take_next : (n : ℕ) (ps : List ℕ) (old now : Scene ReplicaValue) (i p : ℕ)
+  pub may_take_next : (n : ℕ) (ps : List ℕ) (old now : WorldState ReplicaValue) (i p : ℕ)
       → ((xs : List Content) × StandAt old n ps xs) → slice_get ps i ≡ Some p → DeliversEach n ps old i now
       → MayBeTaken now p
   may_take_next n ps old now i p stand at so_far =
       let one = one_stands now n ps stand.0 i p (so_far.1 stand.0 stand.1).0 at in
       (one.2.0, n, one.2.1, one.2.2, so_far.0)
 
-  pub delivered_one : (n : ℕ) (ps : List ℕ) (old mid new : Scene ReplicaValue) (i p : ℕ) → slice_get ps i ≡ Some p
+  pub delivered_one : (n : ℕ) (ps : List ℕ) (old mid new : WorldState ReplicaValue) (i p : ℕ) → slice_get ps i ≡ Some p
       → ((xs : List Content) × StandAt old n ps xs) → GoesWell m IsText mid (event.Deliver p) new
       → DeliversEach n ps old i mid → DeliversEach n ps old (i + 1) new
   delivered_one n ps old mid new i p at stand goes so_far = (still_up, λ xs all. later xs all)
@@ -256,7 +257,7 @@ module _ (m : Meaning) (IsText : List ℕ → Type 0) where
           let one = one_stands mid n ps xs i p (so_far.1 xs all).0 at in
           (one.0, one.1, hears_there n p one.0 mid new one.2 goes)
 
-      still_up : IsUp new.seats n
+      still_up : IsUp new.sim_nodes n
       still_up = let first = h stand.0 stand.1 in stays_up m IsText n first.0 mid new first.2 n so_far.0
 
       later : (xs : List Content) → StandAt old n ps xs
@@ -269,7 +270,7 @@ module _ (m : Meaning) (IsText : List ℕ → Type 0) where
                 (turn_more n (take i xs) one.0 old mid new (so_far.1 xs all).1 one.2)),
           )
 
-  pub delivered_all : (n : ℕ) (ps : List ℕ) (old now : Scene ReplicaValue) (i : ℕ) → length ps ≤ i
+  pub delivered_all : (n : ℕ) (ps : List ℕ) (old now : WorldState ReplicaValue) (i : ℕ) → length ps ≤ i
       → DeliversEach n ps old i now → (xs : List Content) → StandAt old n ps xs → HearsInTurn m IsText n xs old now
   delivered_all n ps old now i enough so_far xs all =
       let many = as_many old n ps xs all in

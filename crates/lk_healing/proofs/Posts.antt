@@ -7,13 +7,13 @@ use Rattle.lk_messages.specs.declared.message.Content.{Content}
 use Rattle.lk_agreement_laws.specs.Datagrams.{Datagram}
 use Rattle.lk_agreement_laws.specs.declared.party.Party.TheVariants as party
 use Rattle.lk_replica.specs.ReplicaValue.{ReplicaValue}
-use Rattle.lk_sim.specs.Scenes.{Scene}
+use Rattle.lk_sim.specs.WorldStates.{WorldState}
 use Rattle.lk_healing.proofs.Places.{at_end}
 use Rattle.lk_healing.specs.Feeds.{places_from}
 use Rattle.lk_healing.specs.Polls.{StandAt}
 
 -- these datagrams have these contents, in order, and are addressed to the node
-abbrev pub Carry : Scene ReplicaValue → ℕ → List Datagram → List Content → Type 0
+abbrev pub Carry : WorldState ReplicaValue → ℕ → List Datagram → List Content → Type 0
 Carry w n [] [] = Unit {0}
 Carry w n [] (x ∷ xs) = ⊥
 Carry w n (d ∷ ds) [] = ⊥
@@ -22,7 +22,7 @@ Carry w n (d ∷ ds) (x ∷ xs) =
     × Carry w n ds xs
 
 -- so they stand at the places after those that were there before
-stand_after : (w : Scene ReplicaValue) (n : ℕ) (ds before : List Datagram) (xs : List Content)
+stand_after : (w : WorldState ReplicaValue) (n : ℕ) (ds before : List Datagram) (xs : List Content)
     → w.sent ≡ before ++ ds → Carry w n ds xs → StandAt w n (places_from (length before) (length ds)) xs
 stand_after w n [] before [] is carry = tt
 stand_after w n [] before (x ∷ xs) is carry = absurd carry
@@ -41,7 +41,7 @@ stand_after w n (d ∷ ds) before (x ∷ xs) is carry = (
     longer : length (before ++ d ∷ []) ≡ suc (length before)
     longer = omega (arith, length-append before (d ∷ []))
 
-pub all_stand : (w : Scene ReplicaValue) (n : ℕ) (ds before : List Datagram) (xs : List Content)
+pub all_stand : (w : WorldState ReplicaValue) (n : ℕ) (ds before : List Datagram) (xs : List Content)
     → w.sent ≡ before ++ ds → Carry w n ds xs
     → StandAt w n (places_from (length before) (length w.sent - length before)) xs
 all_stand w n ds before xs is carry = subst (λ (k : ℕ). StandAt w n (places_from (length before) k) xs)

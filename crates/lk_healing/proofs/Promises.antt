@@ -26,11 +26,11 @@ use Rattle.lk_node.specs.Leavings.{StandsAs, header_of}
 use Rattle.lk_node.specs.NodeValue.{NodeValue}
 use Rattle.lk_replica.specs.ReplicaValue.{ReplicaValue, device_of}
 use Rattle.lk_sim.specs.Events.{GoesDown}
-use Rattle.lk_sim.specs.Scenes.{Scene}
-use Rattle.lk_sim_nodes.specs.Seats.{stopped_on}
-use Rattle.lk_sim_nodes.specs.declared.seat.Life.{Life}
-use Rattle.lk_sim_nodes.specs.declared.seat.Life.TheVariants.{Up, Down}
-use Rattle.lk_world_progress.proofs.Stepping.{is_there, one_life, one_replica, shown, stay_there, was_there}
+use Rattle.lk_sim.specs.WorldStates.{WorldState}
+use Rattle.lk_sim_nodes.specs.SimNodes.{stopped_on}
+use Rattle.lk_sim_nodes.specs.declared.sim_node.RunState.{RunState}
+use Rattle.lk_sim_nodes.specs.declared.sim_node.RunState.TheVariants.{Up, Down}
+use Rattle.lk_world_progress.proofs.Stepping.{is_there, one_run_state, one_replica, shown, stay_there, was_there}
 use Rattle.lk_world_progress.specs.Delivering.{AreDistinct}
 use Rattle.lk_world_progress.specs.Restarting.{HaveRestarted, NodeRestarts, NodesRestart, RestartInTurn, RestartsIn}
 use Rattle.lk_world_progress.specs.Restarting.{StopsAndRestarts}
@@ -40,7 +40,7 @@ use Rattle.lk_healing.proofs.Restarts.{sits_of}
 use Rattle.lk_healing.specs.Heals.{HasRoundOnDisks}
 use Rattle.lk_healing.specs.Restarts.{AreStarted}
 
-same_down : (d e : Memory) → ◌≡◌ {A = Life ReplicaValue} (Down d) (Down e) → d ≡ e
+same_down : (d e : Memory) → ◌≡◌ {A = RunState ReplicaValue} (Down d) (Down e) → d ≡ e
 same_down d e is = cc is
 
 -- ---- what is not synced has no ballot
@@ -90,7 +90,7 @@ module _ (m : Meaning) (IsText : List ℕ → Type 0) (law : NodeRestarts m IsTe
   -- ---- a restart
 
   -- the node has promised what its disks tell
-  disks_tell : (old new : Scene ReplicaValue) (n : ℕ) (r : RestartsIn m IsText n old new)
+  disks_tell : (old new : WorldState ReplicaValue) (n : ℕ) (r : RestartsIn m IsText n old new)
       → (zero_text : List ℕ) × (s : StandingValue)
       × StandsAs (header_of old.genesis n) zero_text (seen (disk_of r.device)) s
       × (r.after.node.acceptor.state.promised ≡ s.promised)
@@ -115,7 +115,8 @@ module _ (m : Meaning) (IsText : List ℕ → Type 0) (law : NodeRestarts m IsTe
         | inr is ↦ ap (λ (node : NodeValue). node.acceptor.state.promised) is.1 ∙ node_promised
       ]
 
-  one_promised : (old new : Scene ReplicaValue) (n : ℕ) → HasRoundOnDisks old n → StopsAndRestarts m IsText n old new
+  one_promised : (old new : WorldState ReplicaValue) (n : ℕ) → HasRoundOnDisks old n → StopsAndRestarts m
+      IsText n old new
       → (r : ReplicaValue) → IsUpAs new n r → r.node.acceptor.state.promised.round < 281474976710656
   one_promised old new n round (inl goes) r up =
       let back : RestartsIn m IsText n old new = law old new n goes in
@@ -130,12 +131,12 @@ module _ (m : Meaning) (IsText : List ℕ → Type 0) (law : NodeRestarts m IsTe
       let back : RestartsIn m IsText n off new = law off new n stops.4 in
       let tells = disks_tell off new n back in
       let was : IsUpAs old n down.replica =
-      was_there old off n down.seat down.next down.number down.replaces (Up down.replica) down.up in
+      was_there old off n down.sim_node down.next down.number down.replaces (Up down.replica) down.up in
       let device : back.device ≡ stopped_on stops.0 stops.1 (device_of down.replica.store) =
       same_down back.device (stopped_on stops.0 stops.1 (device_of down.replica.store))
-      (one_life m IsText off stops.3.after n (Down back.device)
+      (one_run_state m IsText off stops.3.after n (Down back.device)
       (Down (stopped_on stops.0 stops.1 (device_of down.replica.store))) back.was
-      (is_there old off n down.seat down.next down.number down.replaces
+      (is_there old off n down.sim_node down.next down.number down.replaces
       (Down (stopped_on stops.0 stops.1 (device_of down.replica.store))) down.down)) in
       let kept : StoreKeeps (header_of old.genesis n) down.replica.store down.replica.node.acceptor.state =
       (shown m IsText old stops.3.before n down.replica was).1.keeps in
@@ -154,46 +155,48 @@ module _ (m : Meaning) (IsText : List ℕ → Type 0) (law : NodeRestarts m IsTe
   -- ---- several
 
   -- another node is as before
-  other_stays : (old new : Scene ReplicaValue) (n j : ℕ) → (j ≡ n → ⊥) → StopsAndRestarts m IsText n old new
-      → (life : Life ReplicaValue) → Lives old j life → Lives new j life
-  other_stays old new n j ne (inl goes) life c = (law old new n goes).others j life ne c
-  other_stays old new n j ne (inr stops) life c =
+  other_stays : (old new : WorldState ReplicaValue) (n j : ℕ) → (j ≡ n → ⊥) → StopsAndRestarts m IsText n old new
+      → (run_state : RunState ReplicaValue) → Lives old j run_state → Lives new j run_state
+  other_stays old new n j ne (inl goes) run_state c = (law old new n goes).others j run_state ne c
+  other_stays old new n j ne (inr stops) run_state c =
       let down : GoesDown (behaviour m IsText) old stops.2 n stops.0 stops.1 = stops.3.done.1 in
-      (law stops.2 new n stops.4).others j life ne
-      (stay_there old stops.2 n down.seat down.next down.number down.replaces j life ne c)
+      (law stops.2 new n stops.4).others j run_state ne
+      (stay_there old stops.2 n down.sim_node down.next down.number down.replaces j run_state ne c)
 
-  same_genesis : (old new : Scene ReplicaValue) (n : ℕ) → StopsAndRestarts m IsText n old new
+  same_genesis : (old new : WorldState ReplicaValue) (n : ℕ) → StopsAndRestarts m IsText n old new
       → new.genesis ≡ old.genesis
   same_genesis old new n (inl goes) = (law old new n goes).genesis
   same_genesis old new n (inr stops) =
       let down : GoesDown (behaviour m IsText) old stops.2 n stops.0 stops.1 = stops.3.done.1 in
       (law stops.2 new n stops.4).genesis ∙ down.adds.genesis
 
-  after_holds : (old new : Scene ReplicaValue) (n : ℕ) → StopsAndRestarts m IsText n old new → Holds m IsText new
+  after_holds : (old new : WorldState ReplicaValue) (n : ℕ) → StopsAndRestarts m IsText n old new → Holds m IsText new
   after_holds old new n (inl goes) = goes.after
   after_holds old new n (inr stops) = stops.4.after
 
-  pub turn_holds : (ns : List ℕ) (old new : Scene ReplicaValue) → Holds m IsText old → RestartInTurn m IsText ns old new
+  pub turn_holds : (ns : List ℕ) (old new : WorldState ReplicaValue) → Holds m IsText old → RestartInTurn m
+      IsText ns old new
       → Holds m IsText new
-  turn_holds [] old new holds same = subst (λ (w : Scene ReplicaValue). Holds m IsText w) (sym same) holds
+  turn_holds [] old new holds same = subst (λ (w : WorldState ReplicaValue). Holds m IsText w) (sym same) holds
   turn_holds (n ∷ ns) old new holds turn = turn_holds ns turn.0 new (after_holds old turn.0 n turn.1) turn.2
 
-  round_stays : (old new : Scene ReplicaValue) (n j : ℕ) (life : Life ReplicaValue) → Lives old j life → (j ≡ n → ⊥)
+  round_stays : (old new : WorldState ReplicaValue) (n j : ℕ) (run_state : RunState ReplicaValue)
+      → Lives old j run_state → (j ≡ n → ⊥)
       → StopsAndRestarts m IsText n old new → HasRoundOnDisks old j → HasRoundOnDisks new j
-  round_stays old new n j life c ne k round = record {
+  round_stays old new n j run_state c ne k round = record {
     up = λ r up.
-        let is : life ≡ Up r = one_life m IsText new (after_holds old new n k) j life (Up r)
-        (other_stays old new n j ne k life c) up in
-        round.up r (subst (λ (l : Life ReplicaValue). Lives old j l) is c);
+        let is : run_state ≡ Up r = one_run_state m IsText new (after_holds old new n k) j run_state (Up r)
+        (other_stays old new n j ne k run_state c) up in
+        round.up r (subst (λ (l : RunState ReplicaValue). Lives old j l) is c);
     down = λ d at zero_text s tells.
-        let is : life ≡ Down d = one_life m IsText new (after_holds old new n k) j life (Down d)
-        (other_stays old new n j ne k life c) at in
-        round.down d (subst (λ (l : Life ReplicaValue). Lives old j l) is c) zero_text s
+        let is : run_state ≡ Down d = one_run_state m IsText new (after_holds old new n k) j run_state (Down d)
+        (other_stays old new n j ne k run_state c) at in
+        round.down d (subst (λ (l : RunState ReplicaValue). Lives old j l) is c) zero_text s
         (subst (λ (g : Genesis). StandsAs (header_of g j) zero_text (seen (disk_of d)) s)
         (same_genesis old new n k) tells);
   }
 
-  pub all_promised : NodesRestart m IsText → (ns : List ℕ) (old new : Scene ReplicaValue) → AreDistinct ns
+  pub all_promised : NodesRestart m IsText → (ns : List ℕ) (old new : WorldState ReplicaValue) → AreDistinct ns
       → AreStarted old ns → ((n : ℕ) → Contains ns n → HasRoundOnDisks old n) → RestartInTurn m IsText ns old new
       → Holds m IsText new
       → (n : ℕ) → Contains ns n → (r : ReplicaValue) → IsUpAs new n r
@@ -225,7 +228,7 @@ module _ (m : Meaning) (IsText : List ℕ → Type 0) (law : NodeRestarts m IsTe
       differs : (i : ℕ) → Contains ns i → i ≡ j → ⊥
       differs i d is = distinct.0 (subst (λ (y : ℕ). Contains ns y) is d)
 
-      law_up : (mid : Scene ReplicaValue) → (q : ReplicaValue) × IsUpAs turn.0 j q
+      law_up : (mid : WorldState ReplicaValue) → (q : ReplicaValue) × IsUpAs turn.0 j q
       law_up mid = by_case turn.1
         where
           by_case : StopsAndRestarts m IsText j old turn.0 → (q : ReplicaValue) × IsUpAs turn.0 j q

@@ -26,9 +26,9 @@ use Rattle.lk_node_interface.specs.Outboxes.{OutboxValue}
 use Rattle.lk_progress.specs.Hearing.{Takes}
 use Rattle.lk_replica.specs.ReplicaValue.{ReplicaValue}
 use Rattle.lk_sim.specs.Refusals.{datagram_at}
-use Rattle.lk_sim.specs.Scenes.{Scene}
-use Rattle.lk_sim_nodes.specs.Seats.{IsUp}
-use Rattle.lk_sim_nodes.specs.declared.seat.Life.TheVariants.{Up}
+use Rattle.lk_sim.specs.WorldStates.{WorldState}
+use Rattle.lk_sim_nodes.specs.SimNodes.{IsUp}
+use Rattle.lk_sim_nodes.specs.declared.sim_node.RunState.TheVariants.{Up}
 use Rattle.lk_world_progress.proofs.Delivering.{TakesFrom, found_as, heard_from, still}
 use Rattle.lk_world_progress.proofs.Stepping.{has_header, one_replica, up_fits}
 use Rattle.lk_world_progress.specs.Delivering.{Hears, IsRested}
@@ -51,7 +51,7 @@ unfolding whole_after roster_after
 state_executed m genesis L = refl
 
 -- a node has executed at most 2^48 positions
-pub executed_short : (m : Meaning) (IsText : List ℕ → Type 0) (w : Scene ReplicaValue) → Holds m IsText w → (n : ℕ)
+pub executed_short : (m : Meaning) (IsText : List ℕ → Type 0) (w : WorldState ReplicaValue) → Holds m IsText w → (n : ℕ)
     (r : ReplicaValue) → IsUpAs w n r → executed r.node.learner ≤ 281474976710656
 executed_short m IsText w holds n r up =
     let u = up_fits m IsText w holds n r up in
@@ -62,18 +62,18 @@ executed_short m IsText w holds n r up =
 
 -- a delivery to another node leaves a node as it is, and one to either of two leaves the rest
 pub delivery_rests_but : (m : Meaning) (IsText : List ℕ → Type 0) (n b a : ℕ) (x : Content)
-    (old new : Scene ReplicaValue) → ((k : ℕ) → (k ≡ b → ⊥) → (k ≡ a → ⊥) → k ≡ n → ⊥) → Hears m IsText n x old new
+    (old new : WorldState ReplicaValue) → ((k : ℕ) → (k ≡ b → ⊥) → (k ≡ a → ⊥) → k ≡ n → ⊥) → Hears m IsText n x old new
     → RestsBut b a old new
 delivery_rests_but m IsText n b a x old new other h =
     let s : TakesFrom m IsText n x old new = heard_from m IsText n x old new h in
     let asks = hears_asks m IsText n x old new h in record {
-      rests = λ k life not_b not_a c. s.others k life (other k not_b not_a) c;
+      rests = λ k run_state not_b not_a c. s.others k run_state (other k not_b not_a) c;
       sent = still old new (batch_of n s.out.envelopes) s.sent;
       asked = asks.asked;
       genesis = s.genesis;
     }
 
-module _ (m : Meaning) (IsText : List ℕ → Type 0) (b a : ℕ) (told : Progress) (old : Scene ReplicaValue)
+module _ (m : Meaning) (IsText : List ℕ → Type 0) (b a : ℕ) (told : Progress) (old : WorldState ReplicaValue)
     (k : MayFeed m IsText old b a told) where
   abbrev r : ReplicaValue
   r = k.behind
@@ -89,7 +89,7 @@ module _ (m : Meaning) (IsText : List ℕ → Type 0) (b a : ℕ) (told : Progre
 
   -- ---- before it
 
-  pub own_up : IsUp old.seats b
+  pub own_up : IsUp old.sim_nodes b
   own_up = is_up old b r k.own.up
 
   pub nack_sent : (x : Message) → x ≡ record { cluster = told.cluster; content = content.Node a (kinds.Nack told.nack) }
@@ -111,7 +111,7 @@ module _ (m : Meaning) (IsText : List ℕ → Type 0) (b a : ℕ) (told : Progre
 
   -- ---- it takes the rejection
 
-  module _ (mid : Scene ReplicaValue)
+  module _ (mid : WorldState ReplicaValue)
       (h : Hears m IsText b (content.Node a (kinds.Nack told.nack)) old mid) where
     s : TakesFrom m IsText b (content.Node a (kinds.Nack told.nack)) old mid
     s = heard_from m IsText b (content.Node a (kinds.Nack told.nack)) old mid h

@@ -16,7 +16,7 @@ use Rattle.lk_progress.specs.Electing.{promises}
 use Rattle.lk_progress.specs.Exchanges.{prepare_by}
 use Rattle.lk_leftovers.specs.Filling.{FilledLeaderIsReady}
 use Rattle.lk_replica.specs.ReplicaValue.{ReplicaValue}
-use Rattle.lk_sim.specs.Scenes.{Scene}
+use Rattle.lk_sim.specs.WorldStates.{WorldState}
 use Rattle.lk_world_progress.proofs.Stepping.{has_header, one_replica}
 use Rattle.lk_world_progress.specs.Exchanging.{HasAnswered, HasNoted, number_of}
 use Rattle.lk_world_leftovers.proofs.Filling.{found_vote}
@@ -34,7 +34,7 @@ use Rattle.lk_healing.specs.Serving.{IsReadyFor}
 use Rattle.lk_healing.specs.Waits.{BeginsAfter, MayBeginIn}
 use Rattle.lk_healing.specs.declared.asking.Asking.{Asking}
 
-module _ (m : Meaning) (IsText : List ℕ → Type 0) (w : Scene ReplicaValue) (x : ℕ) (nodes : List ℕ)
+module _ (m : Meaning) (IsText : List ℕ → Type 0) (w : WorldState ReplicaValue) (x : ℕ) (nodes : List ℕ)
     (r : RequestValue) (q : IsQuietFor m IsText w x nodes r) where
   pub may_begin : NodesKnowMembers m IsText → MayBeginIn w x
   may_begin law = record {
@@ -79,7 +79,7 @@ module _ (m : Meaning) (IsText : List ℕ → Type 0) (w : Scene ReplicaValue) (
     distinct = q.contends.distinct;
   }
 
-  module _ (now : Scene ReplicaValue) (asking : Asking) (b : BeginsAfter m IsText x w now asking) where
+  module _ (now : WorldState ReplicaValue) (asking : Asking) (b : BeginsAfter m IsText x w now asking) where
     same : AsksNothing w b.due
     same = waits_ask m IsText x b.ticks w b.due b.waits
 
@@ -114,7 +114,7 @@ module _ (m : Meaning) (IsText : List ℕ → Type 0) (w : Scene ReplicaValue) (
 
 -- it asks nothing
 pub led_asks : (m : Meaning) (IsText : List ℕ → Type 0) (x : ℕ) (nodes : List ℕ) (asking : Asking)
-    (old new : Scene ReplicaValue) (k : HasBegun m IsText x nodes asking old)
+    (old new : WorldState ReplicaValue) (k : HasBegun m IsText x nodes asking old)
     → LeadsNow m IsText x nodes asking old new k → AsksNothing k.due new
 led_asks m IsText x nodes asking old new k l = asks_both k.due l.run.ticked new
     (tick_asks m IsText k.due l.run.ticked (number_of k.candidate) l.run.ticks)
@@ -127,7 +127,7 @@ led_asks m IsText x nodes asking old new k l = asks_both k.due l.run.ticked new
 
 module _ (m : Meaning) (IsText : List ℕ → Type 0) (ready_law : FilledLeaderIsReady)
     (new_law : FreshRequestsAreNew m IsText) (x : ℕ) (nodes : List ℕ) (asking : Asking)
-    (old new : Scene ReplicaValue) (r : RequestValue) (k more : HasBegun m IsText x nodes asking old)
+    (old new : WorldState ReplicaValue) (r : RequestValue) (k more : HasBegun m IsText x nodes asking old)
     (exact : k.highest ≡ executed k.candidate.node.learner) (next : more.highest ≡ k.highest + 1)
     (one : LeadsNow m IsText x nodes asking old new k) (two : LeadsNow m IsText x nodes asking old new more)
     (fresh : IsFresh new r) where
@@ -218,8 +218,8 @@ module _ (m : Meaning) (IsText : List ℕ → Type 0) (ready_law : FilledLeaderI
 -- ---- all of it
 
 module _ (m : Meaning) (IsText : List ℕ → Type 0) (ready_law : FilledLeaderIsReady)
-    (new_law : FreshRequestsAreNew m IsText) (w : Scene ReplicaValue) (x : ℕ)
-    (nodes : List ℕ) (r : RequestValue) (q : IsQuietFor m IsText w x nodes r) (now last : Scene ReplicaValue)
+    (new_law : FreshRequestsAreNew m IsText) (w : WorldState ReplicaValue) (x : ℕ)
+    (nodes : List ℕ) (r : RequestValue) (q : IsQuietFor m IsText w x nodes r) (now last : WorldState ReplicaValue)
     (asking : Asking) (b : BeginsAfter m IsText x w now asking) where
   abbrev pub exact : HasBegun m IsText x nodes asking now
   exact = begun_as m IsText w x nodes r q now asking b q.e (omega arith) (omega (arith, q.room)) q.contends
@@ -253,7 +253,7 @@ module _ (m : Meaning) (IsText : List ℕ → Type 0) (ready_law : FilledLeaderI
       (more_highest ∙ ap (λ (i : ℕ). i + 1) (sym exact_highest)) (leads exact) (leads more)
       (λ z c. q.fresh z (subst (λ (rs : List RequestValue). Contains rs z) all.asked c))
 
-pub answered_by : (m : Meaning) (IsText : List ℕ → Type 0) (old new : Scene ReplicaValue) (x : ℕ) (nodes : List ℕ)
+pub answered_by : (m : Meaning) (IsText : List ℕ → Type 0) (old new : WorldState ReplicaValue) (x : ℕ) (nodes : List ℕ)
     (asking : Asking) (r : RequestValue) (k : IsReadyFor m IsText old x nodes asking r)
     → HasAnswered m new k.replica.node r × HasNoted m new k.replica.node r → IsAnswered m new x r
 answered_by m IsText old new x nodes asking r k a = record {

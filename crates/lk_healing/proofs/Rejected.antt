@@ -27,10 +27,10 @@ use Rattle.lk_progress.specs.Electing.{AsksWindow, IsDue}
 use Rattle.lk_progress.specs.Exchanges.{prepare_by}
 use Rattle.lk_rebases.proofs.Rebases.{HasSame, Handled, handled, idle_begins, proposed_same}
 use Rattle.lk_replica.specs.ReplicaValue.{ReplicaValue}
-use Rattle.lk_sim.specs.Scenes.{Scene}
+use Rattle.lk_sim.specs.WorldStates.{WorldState}
 use Rattle.lk_sim.specs.declared.event.Event.TheVariants as event
-use Rattle.lk_sim_nodes.specs.declared.seat.Life.{Life}
-use Rattle.lk_sim_nodes.specs.declared.seat.Life.TheVariants.{Up}
+use Rattle.lk_sim_nodes.specs.declared.sim_node.RunState.{RunState}
+use Rattle.lk_sim_nodes.specs.declared.sim_node.RunState.TheVariants.{Up}
 use Rattle.lk_world_progress.proofs.Balloting.{found_has, found_tells}
 use Rattle.lk_world_progress.proofs.Delivering.{EachHeard, HeardIt, each_heard, heard_from, heard_it}
 use Rattle.lk_world_progress.proofs.Overtaking.{nack_raises, promised_is, promised_round, responds, round_above}
@@ -48,7 +48,7 @@ use Rattle.lk_healing.proofs.Prepared.{seen_round, seen_within, still_begun, wit
 -- ---- the ballot
 
 module _ (m : Meaning) (IsText : List ℕ → Type 0) (x : ℕ) (c : ReplicaValue) (others : List ℕ)
-    (due now : Scene ReplicaValue) (e top last : ℕ) (k : Contends m IsText due x e top others last)
+    (due now : WorldState ReplicaValue) (e top last : ℕ) (k : Contends m IsText due x e top others last)
     (up : IsUpAs due x c) (is_due : IsDue c.node)
     (unchanged : is_changing_at c.node.learner.whole.roster (executed c.node.learner + 1) ≡ false)
     (ticks : GoesWell m IsText due (event.Tick x) now) where
@@ -117,10 +117,11 @@ module _ (m : Meaning) (IsText : List ℕ → Type 0) (x : ℕ) (c : ReplicaValu
   pub begun_promised : begun_replica.node.acceptor.state.promised ≡ next_ballot c.node
   begun_promised = began.promised
 
-  pub others_stay : (n : ℕ) (life : Life ReplicaValue) → (n ≡ x → ⊥) → Lives due n life → Lives now n life
-  others_stay n life ne there = s.others n life ne there
+  pub others_stay : (n : ℕ) (run_state : RunState ReplicaValue) → (n ≡ x → ⊥) → Lives due n run_state
+      → Lives now n run_state
+  others_stay n run_state ne there = s.others n run_state ne there
 
-  module _ (polled : Scene ReplicaValue)
+  module _ (polled : WorldState ReplicaValue)
       (polls : HearsEach m IsText (content.Node x (prepare_by c.node)) (x ∷ others) now polled) where
     heard : EachHeard m IsText prepare (x ∷ others) now polled
     heard = each_heard m IsText prepare (x ∷ others) now polled ticks.after tt k.distinct polls
@@ -174,7 +175,7 @@ module _ (m : Meaning) (IsText : List ℕ → Type 0) (x : ℕ) (c : ReplicaValu
 
     -- ---- the rejection
 
-    module _ (new : Scene ReplicaValue) (rival : ℕ) (is_rival : IsRival due b rival)
+    module _ (new : WorldState ReplicaValue) (rival : ℕ) (is_rival : IsRival due b rival)
         (tells : Hears m IsText x (content.Node rival (kinds.Nack (refusal b is_rival.replica.node))) polled new) where
       abbrev nack : Nack
       nack = refusal b is_rival.replica.node

@@ -38,10 +38,10 @@ use Rattle.lk_replica.specs.Behaviours.{Behaviour}
 use Rattle.lk_replica.specs.ReplicaValue.{ReplicaValue}
 use Rattle.lk_replica.specs.Taking.{IsTaken, IsTakenAs}
 use Rattle.lk_sim.specs.Events.{GoesOn, IsDelivered, IsGiven}
-use Rattle.lk_sim.specs.Scenes.{Scene}
+use Rattle.lk_sim.specs.WorldStates.{WorldState}
 use Rattle.lk_sim.specs.declared.event.Event.TheVariants as event
 use Rattle.lk_sim_nodes.specs.Sends.{after_sends, counting}
-use Rattle.lk_sim_nodes.specs.declared.seat.Life.TheVariants.{Up}
+use Rattle.lk_sim_nodes.specs.declared.sim_node.RunState.TheVariants.{Up}
 use Rattle.lk_world_progress.proofs.Stepping.{counted, due_or_not, found_header, has_header, is_there, one_replica}
 use Rattle.lk_world_progress.proofs.Stepping.{shown, was_there}
 use Rattle.lk_world_progress.specs.Delivering.{Hears, IsRested}
@@ -87,7 +87,7 @@ module _ (m : Meaning) (IsText : List ℕ → Type 0) where
   counted_due (Fail count) sends r d = d
   counted_due (Arm count bytes) sends r d = d
 
-  module _ (old new : Scene ReplicaValue) (n : ℕ) (i : Input) (holds : Holds m IsText old)
+  module _ (old new : WorldState ReplicaValue) (n : ℕ) (i : Input) (holds : Holds m IsText old)
       (k : IsGiven b old new n i []) (g : GoesOn b old new k.replica k.next i []) where
     is_taken : IsTakenAs m IsText k.replica i g.replica g.notes g.batch
     is_taken = g.takes
@@ -97,7 +97,7 @@ module _ (m : Meaning) (IsText : List ℕ → Type 0) where
     taken = is_taken.taken
 
     was : IsUpAs old n k.replica
-    was = was_there old new n k.seat k.next k.number k.replaces (Up k.replica) k.up
+    was = was_there old new n k.sim_node k.next k.number k.replaces (Up k.replica) k.up
 
     kept : StoreKeeps (header_of old.genesis n) k.replica.store k.replica.node.acceptor.state
     kept = (shown m IsText old holds n k.replica was).1.keeps
@@ -170,13 +170,13 @@ module _ (m : Meaning) (IsText : List ℕ → Type 0) where
       not_due : IsDue g.replica.node g.replica.store → ⊥
       not_due = elim (due_or_not k.replica) [ inl d ↦ after_rebase d | inr d ↦ after_rest d ]
 
-  module _ (old new : Scene ReplicaValue) (n : ℕ) (i : Input) (before : Holds m IsText old)
+  module _ (old new : WorldState ReplicaValue) (n : ℕ) (i : Input) (before : Holds m IsText old)
       (after : Holds m IsText new) (k : IsGiven b old new n i []) (alive : new.ended ≡ None)
       (quiet : (start last : NodeValue) (out : OutboxValue) → IsFound k.replica start
       → Steps m IsText start i last out → WritesNothing start last out) where
     went_on : GoesOn b old new k.replica k.next i [] → IsRested new n
     went_on g q up due =
-        let is : IsUpAs new n (after_sends b (length g.batch) g.replica) = is_there old new n k.seat k.next k.number
+        let is : IsUpAs new n (after_sends b (length g.batch) g.replica) = is_there old new n k.sim_node k.next k.number
         k.replaces (Up (after_sends b (length g.batch) g.replica)) g.up in
         let t = taken old new n i before k g in
         let trap : Trap = (b.memory g.replica).meter.trap in
@@ -202,7 +202,7 @@ module _ (m : Meaning) (IsText : List ℕ → Type 0) where
 
   -- ---- a nudge
 
-  pub nudge_rests : (old new : Scene ReplicaValue) (n : ℕ) (r : ReplicaValue) → IsUpAs old n r
+  pub nudge_rests : (old new : WorldState ReplicaValue) (n : ℕ) (r : ReplicaValue) → IsUpAs old n r
       → GoesWell m IsText old (event.Nudge n TicksWithheld) new
       → ((start last : NodeValue) (out : OutboxValue) → IsFound r start
       → Steps m IsText start (Nudge TicksWithheld) last out
@@ -212,7 +212,7 @@ module _ (m : Meaning) (IsText : List ℕ → Type 0) where
       by_given : IsGiven b old new n (Nudge TicksWithheld) [] → IsRested new n
       by_given k =
           let was_up : IsUpAs old n k.replica =
-          was_there old new n k.seat k.next k.number k.replaces (Up k.replica) k.up in
+          was_there old new n k.sim_node k.next k.number k.replaces (Up k.replica) k.up in
           let same : k.replica ≡ r = one_replica m IsText old goes.before n k.replica r was_up up in
           given_rested old new n (Nudge TicksWithheld) goes.before goes.after k goes.alive
           (λ start last out found steps. quiet start last out
@@ -220,7 +220,7 @@ module _ (m : Meaning) (IsText : List ℕ → Type 0) where
 
   -- ---- a datagram
 
-  pub delivery_rests : (n : ℕ) (x : Content) (old new : Scene ReplicaValue) (r : ReplicaValue) → IsUpAs old n r
+  pub delivery_rests : (n : ℕ) (x : Content) (old new : WorldState ReplicaValue) (r : ReplicaValue) → IsUpAs old n r
       → Hears m IsText n x old new
       → ((start last : NodeValue) (out : OutboxValue) → IsFound r start → Takes m IsText start x last out
       → WritesNothing start last out) → IsRested new n
@@ -249,5 +249,5 @@ module _ (m : Meaning) (IsText : List ℕ → Type 0) where
           replica : d.given.replica ≡ r
           replica = one_replica m IsText old h.goes.before n d.given.replica r
               (subst (λ (j : ℕ). IsUpAs old j d.given.replica) whose
-              (was_there old new d.node d.given.seat d.given.next d.given.number d.given.replaces
+              (was_there old new d.node d.given.sim_node d.given.next d.given.number d.given.replaces
               (Up d.given.replica) d.given.up)) up

@@ -6,8 +6,8 @@ use Rattle.lk_types.specs.declared.genesis.Genesis.{Genesis}
 use Rattle.lk_state.specs.Meanings.{Meaning}
 use Rattle.lk_learner.specs.Learners.{executed}
 use Rattle.lk_replica.specs.ReplicaValue.{ReplicaValue}
-use Rattle.lk_sim.specs.Scenes.{Scene}
-use Rattle.lk_sim_nodes.specs.declared.seat.Life.TheVariants.{Up}
+use Rattle.lk_sim.specs.WorldStates.{WorldState}
+use Rattle.lk_sim_nodes.specs.declared.sim_node.RunState.TheVariants.{Up}
 use Rattle.lk_world_progress.proofs.Stepping.{one_replica}
 use Rattle.lk_world_progress.specs.Stepping.{Holds, IsUpAs}
 use Rattle.lk_healing.proofs.Levels.{among_others, differs, first_or_other, is_first, later_one, levels_again}
@@ -18,17 +18,17 @@ use Rattle.lk_healing.specs.Gaps.{HasClosed}
 use Rattle.lk_healing.specs.Levels.{AreEqual, HasFed, HasRisen, MayLevel, StillLevels}
 
 -- two replicas of one node have executed the same
-as_one : (m : Meaning) (IsText : List ℕ → Type 0) (w : Scene ReplicaValue) → Holds m IsText w → (n : ℕ)
+as_one : (m : Meaning) (IsText : List ℕ → Type 0) (w : WorldState ReplicaValue) → Holds m IsText w → (n : ℕ)
     (r q : ReplicaValue) → IsUpAs w n r → IsUpAs w n q → executed r.node.learner ≡ executed q.node.learner
 as_one m IsText w holds n r q up up_too =
     ap (λ (y : ReplicaValue). executed y.node.learner) (one_replica m IsText w holds n r q up up_too)
 
-module _ (m : Meaning) (IsText : List ℕ → Type 0) (x : ℕ) (nodes : List ℕ) (start : Scene ReplicaValue)
+module _ (m : Meaning) (IsText : List ℕ → Type 0) (x : ℕ) (nodes : List ℕ) (start : WorldState ReplicaValue)
     (k : MayLevel m IsText start x nodes) where
   -- ---- the first one rises
 
   -- it has executed as much as those before this place, and the others as much as at the start
-  pub record IsRising (i reached : ℕ) (now : Scene ReplicaValue) : Type 0 where
+  pub record IsRising (i reached : ℕ) (now : WorldState ReplicaValue) : Type 0 where
     pub still : StillLevels m IsText x nodes start now k
     pub rest : (n : ℕ) → Contains k.others n → (r q : ReplicaValue) → IsUpAs start n r → IsUpAs now n q
         → executed q.node.learner ≡ executed r.node.learner
@@ -45,12 +45,12 @@ module _ (m : Meaning) (IsText : List ℕ → Type 0) (x : ℕ) (nodes : List �
     reach = λ high c up. absurd (omega (arith, high));
   }
 
-  module _ (i reached : ℕ) (now : Scene ReplicaValue) (s : IsRising i reached now) (n : ℕ) (low : 1 ≤ i)
+  module _ (i reached : ℕ) (now : WorldState ReplicaValue) (s : IsRising i reached now) (n : ℕ) (low : 1 ≤ i)
       (at : slice_get nodes i ≡ Some n) where
     pub there : Contains k.others n
     there = later_one x k.others nodes i n k.are low at
 
-    module _ (new : Scene ReplicaValue) (next : ℕ) (h : HasClosed m IsText x n now new next
+    module _ (new : WorldState ReplicaValue) (next : ℕ) (h : HasClosed m IsText x n now new next
         (may_close_first m IsText x nodes start k now s.still n there)) where
       others_same : (j : ℕ) → Contains k.others j → (p q : ReplicaValue) → IsUpAs now j p → IsUpAs new j q
           → executed q.node.learner ≡ executed p.node.learner
@@ -108,7 +108,7 @@ module _ (m : Meaning) (IsText : List ℕ → Type 0) (x : ℕ) (nodes : List �
         reach = λ more c up. as_one m IsText new h.own.holds x c h.after up h.own.up ∙ h.reach;
       }
 
-  pub has_risen : (i reached : ℕ) (now : Scene ReplicaValue) → IsRising i reached now → length nodes ≤ i
+  pub has_risen : (i reached : ℕ) (now : WorldState ReplicaValue) → IsRising i reached now → length nodes ≤ i
       → HasRisen m IsText x nodes start now reached k
   has_risen i reached now s enough = record {
     still = s.still;
@@ -130,7 +130,7 @@ module _ (m : Meaning) (IsText : List ℕ → Type 0) (x : ℕ) (nodes : List �
   -- ---- the others are fed
 
   -- those before this place have executed as much as the first one, and this as much as at the start
-  pub record IsRaising (i : ℕ) (now : Scene ReplicaValue) : Type 0 where
+  pub record IsRaising (i : ℕ) (now : WorldState ReplicaValue) : Type 0 where
     pub still : StillLevels m IsText x nodes start now k
     pub rest : (r q : ReplicaValue) → IsUpAs start x r → IsUpAs now x q
         → executed q.node.learner ≡ executed r.node.learner
@@ -145,12 +145,12 @@ module _ (m : Meaning) (IsText : List ℕ → Type 0) (x : ℕ) (nodes : List �
     fed = λ j n low high at r c up up_too. absurd (omega (arith, low, high));
   }
 
-  module _ (i : ℕ) (now : Scene ReplicaValue) (s : IsRaising i now) (n : ℕ) (low : 1 ≤ i)
+  module _ (i : ℕ) (now : WorldState ReplicaValue) (s : IsRaising i now) (n : ℕ) (low : 1 ≤ i)
       (at : slice_get nodes i ≡ Some n) where
     pub there_too : Contains k.others n
     there_too = later_one x k.others nodes i n k.are low at
 
-    module _ (new : Scene ReplicaValue) (next : ℕ) (h : HasClosed m IsText n x now new next
+    module _ (new : WorldState ReplicaValue) (next : ℕ) (h : HasClosed m IsText n x now new next
         (may_close_other m IsText x nodes start k now s.still n there_too)) where
       first_same : (p q : ReplicaValue) → IsUpAs now x p → IsUpAs new x q
           → executed q.node.learner ≡ executed p.node.learner
@@ -199,7 +199,7 @@ module _ (m : Meaning) (IsText : List ℕ → Type 0) (x : ℕ) (nodes : List �
             ];
       }
 
-  pub has_fed : (i : ℕ) (now : Scene ReplicaValue) → IsRaising i now → length nodes ≤ i
+  pub has_fed : (i : ℕ) (now : WorldState ReplicaValue) → IsRaising i now → length nodes ≤ i
       → HasFed m IsText x nodes start now k
   has_fed i now s enough = record {
     still = s.still;
@@ -218,17 +218,17 @@ module _ (m : Meaning) (IsText : List ℕ → Type 0) (x : ℕ) (nodes : List �
   -- ---- one round after another
 
   -- the first one has executed as much as any, and so much if there are others
-  pub record IsLeveling (reached : ℕ) (now : Scene ReplicaValue) : Type 0 where
+  pub record IsLeveling (reached : ℕ) (now : WorldState ReplicaValue) : Type 0 where
     pub still : StillLevels m IsText x nodes start now k
     pub above : (n : ℕ) → Contains nodes n → (r c : ReplicaValue) → IsUpAs now n r → IsUpAs now x c
         → executed r.node.learner ≤ executed c.node.learner
     pub reach : (n : ℕ) → Contains k.others n → (c : ReplicaValue) → IsUpAs now x c → executed c.node.learner ≡ reached
 
-  pub begins_leveling : (reached : ℕ) (now : Scene ReplicaValue) → HasRisen m IsText x nodes start now reached k
+  pub begins_leveling : (reached : ℕ) (now : WorldState ReplicaValue) → HasRisen m IsText x nodes start now reached k
       → IsLeveling reached now
   begins_leveling reached now h = record { still = h.still; above = h.above; reach = h.reach }
 
-  module _ (reached : ℕ) (now mid new : Scene ReplicaValue) (next : ℕ) (s : IsLeveling reached now)
+  module _ (reached : ℕ) (now mid new : WorldState ReplicaValue) (next : ℕ) (s : IsLeveling reached now)
       (f : HasFed m IsText x nodes now mid (levels_again m IsText x nodes start k now s.still))
       (h : HasRisen m IsText x nodes mid new next (levels_again m IsText x nodes start k mid
       (still_both m IsText x nodes start k now s.still mid f.still))) where

@@ -21,10 +21,10 @@ use Rattle.lk_state.specs.Meanings.{Meaning}
 use Rattle.lk_progress.specs.Deciding.{FreshRequestIsProposed, NearNodeAccepts, acceptances}
 use Rattle.lk_replica.specs.ReplicaValue.{ReplicaValue}
 use Rattle.lk_sim.specs.Events.{IsAsked}
-use Rattle.lk_sim.specs.Scenes.{Scene}
+use Rattle.lk_sim.specs.WorldStates.{WorldState}
 use Rattle.lk_sim.specs.declared.event.Event.TheVariants as event
-use Rattle.lk_sim_nodes.specs.Seats.{IsUp}
-use Rattle.lk_sim_nodes.specs.declared.seat.Seat.{Seat}
+use Rattle.lk_sim_nodes.specs.SimNodes.{IsUp}
+use Rattle.lk_sim_nodes.specs.declared.sim_node.SimNode.{SimNode}
 use Rattle.lk_world_progress.specs.Balloting.{HasSentTo}
 use Rattle.lk_world_progress.specs.Delivering.{HearsEach, HearsInTurn}
 use Rattle.lk_world_progress.specs.Exchanging.{HasAnswered, HasNoted}
@@ -47,7 +47,7 @@ member_there (m ∷ set) n is = elim (cases_Bool (m.node == n)) [
 
 -- ---- the request
 
-module _ (m : Meaning) (IsText : List ℕ → Type 0) (old asked : Scene ReplicaValue) (x : ℕ) (r : RequestValue)
+module _ (m : Meaning) (IsText : List ℕ → Type 0) (old asked : WorldState ReplicaValue) (x : ℕ) (r : RequestValue)
     (goes : GoesWell m IsText old (event.Client x r) asked) where
   asking : IsAsked old asked x r
   asking = goes.done.1
@@ -55,8 +55,8 @@ module _ (m : Meaning) (IsText : List ℕ → Type 0) (old asked : Scene Replica
   pub asked_genesis : asked.genesis ≡ old.genesis
   asked_genesis = asking.adds.genesis
 
-  pub asked_up : (n : ℕ) → IsUp old.seats n → IsUp asked.seats n
-  asked_up n up = subst (λ (seats : List (Seat ReplicaValue)). IsUp seats n) (sym asking.seats) up
+  pub asked_up : (n : ℕ) → IsUp old.sim_nodes n → IsUp asked.sim_nodes n
+  asked_up n up = subst (λ (sim_nodes : List (SimNode ReplicaValue)). IsUp sim_nodes n) (sym asking.sim_nodes) up
 
   pub asked_sent : (y : Message) → y ≡ record { cluster = old.genesis.cluster; content = content.Request r }
       → IsOnItsWay asked x y
@@ -71,7 +71,7 @@ module _ (m : Meaning) (IsText : List ℕ → Type 0) (old asked : Scene Replica
 -- ---- what follows
 
 module _ (m : Meaning) (IsText : List ℕ → Type 0) (law : FreshRequestIsProposed m IsText)
-    (old mid : Scene ReplicaValue) (x : ℕ) (nodes : List ℕ) (asking : Asking) (r : RequestValue)
+    (old mid : WorldState ReplicaValue) (x : ℕ) (nodes : List ℕ) (asking : Asking) (r : RequestValue)
     (k : IsReadyFor m IsText old x nodes asking r) (p : TakesRequest m IsText x r old mid) where
   abbrev vote : Vote
   vote = vote_in k.replica k.term r
@@ -84,14 +84,14 @@ module _ (m : Meaning) (IsText : List ℕ → Type 0) (law : FreshRequestIsPropo
   among : (n : ℕ) → Contains nodes n → Contains (x ∷ k.others) n
   among n c = subst (λ (ns : List ℕ). Contains ns n) k.are c
 
-  pub was_up : (n : ℕ) → Contains nodes n → IsUp old.seats n
+  pub was_up : (n : ℕ) → Contains nodes n → IsUp old.sim_nodes n
   was_up n c = elim (cons_cases x k.others n (among n c)) [
-    | inl is ↦ subst (λ (i : ℕ). IsUp old.seats i) is (is_up old x k.replica k.ready.up)
+    | inl is ↦ subst (λ (i : ℕ). IsUp old.sim_nodes i) is (is_up old x k.replica k.ready.up)
     | inr other ↦
         let v = k.ready.voters n other in is_up old n v.0 v.1
   ]
 
-  pub proposed_up : (n : ℕ) → IsUp old.seats n → IsUp mid.seats n
+  pub proposed_up : (n : ℕ) → IsUp old.sim_nodes n → IsUp mid.sim_nodes n
   proposed_up n up = stays_up m IsText x (content.Request r) p.asked mid p.takes n
       (asked_up m IsText old p.asked x r p.asks n up)
 
@@ -119,17 +119,17 @@ module _ (m : Meaning) (IsText : List ℕ → Type 0) (law : FreshRequestIsPropo
   leader_there : Contains nodes x
   leader_there = subst (λ (ns : List ℕ). Contains ns x) (sym k.are) (0, omega arith, refl)
 
-  module _ (near : NearNodeAccepts m IsText) (polled : Scene ReplicaValue)
+  module _ (near : NearNodeAccepts m IsText) (polled : WorldState ReplicaValue)
       (polls : HearsEach m IsText (content.Node x (kinds.Accept vote)) nodes mid polled) where
     polls_them : HearsEach m IsText (content.Node x (kinds.Accept vote)) (x ∷ k.others) mid polled
     polls_them = subst (λ (ns : List ℕ). HearsEach m IsText (content.Node x (kinds.Accept vote)) ns mid polled)
         k.are polls
 
-    pub polled_up : (n : ℕ) → Contains nodes n → IsUp polled.seats n
+    pub polled_up : (n : ℕ) → Contains nodes n → IsUp polled.sim_nodes n
     polled_up n c = each_up m IsText (content.Node x (kinds.Accept vote)) nodes mid polled polls n
         (proposed_up n (was_up n c))
 
-    pub leader_up : IsUp polled.seats x
+    pub leader_up : IsUp polled.sim_nodes x
     leader_up = polled_up x leader_there
 
     pub polled_cluster : asking.cluster ≡ polled.genesis.cluster
@@ -140,7 +140,7 @@ module _ (m : Meaning) (IsText : List ℕ → Type 0) (law : FreshRequestIsPropo
     replies_sent n c = replied m IsText law x k.replica k.term k.set r k.others old k.ready k.fresh p.asked p.asks mid
         p.takes near polled polls_them n (among n c)
 
-    pub answered : ReadyLeaderAnswers m IsText → (last : Scene ReplicaValue)
+    pub answered : ReadyLeaderAnswers m IsText → (last : WorldState ReplicaValue)
         → HearsInTurn m IsText x (acceptances nodes vote) polled last
         → HasAnswered m last k.replica.node r × HasNoted m last k.replica.node r
     answered answers last turn =
@@ -160,9 +160,9 @@ module _ (m : Meaning) (IsText : List ℕ → Type 0) (law : FreshRequestIsPropo
 -- ---- the same of what was said
 
 module _ (m : Meaning) (IsText : List ℕ → Type 0) (law : FreshRequestIsProposed m IsText)
-    (old mid : Scene ReplicaValue) (x : ℕ) (nodes : List ℕ) (asking : Asking) (r : RequestValue)
+    (old mid : WorldState ReplicaValue) (x : ℕ) (nodes : List ℕ) (asking : Asking) (r : RequestValue)
     (k : IsReadyFor m IsText old x nodes asking r) (p : TakesRequest m IsText x r old mid)
-    (near : NearNodeAccepts m IsText) (polled : Scene ReplicaValue) (v : Vote) (y : Message)
+    (near : NearNodeAccepts m IsText) (polled : WorldState ReplicaValue) (v : Vote) (y : Message)
     (v_is : v ≡ record { position = asking.first; ballot = asking.ballot; command = Request r })
     (y_is : y ≡ record { cluster = asking.cluster; content = content.Node x (kinds.Accept v) })
     (said : HearsEach m IsText y.content nodes mid polled) where
@@ -173,10 +173,10 @@ module _ (m : Meaning) (IsText : List ℕ → Type 0) (law : FreshRequestIsPropo
   polls = subst (λ (z : Message). HearsEach m IsText z.content nodes mid polled)
       (accept_is m IsText law old mid x nodes asking r k p y v same_vote y_is) said
 
-  pub up_then : (n : ℕ) → Contains nodes n → IsUp polled.seats n
+  pub up_then : (n : ℕ) → Contains nodes n → IsUp polled.sim_nodes n
   up_then n c = polled_up m IsText law old mid x nodes asking r k p near polled polls n c
 
-  pub leader_then : IsUp polled.seats x
+  pub leader_then : IsUp polled.sim_nodes x
   leader_then = leader_up m IsText law old mid x nodes asking r k p near polled polls
 
   pub cluster_then : asking.cluster ≡ polled.genesis.cluster
@@ -186,7 +186,7 @@ module _ (m : Meaning) (IsText : List ℕ → Type 0) (law : FreshRequestIsPropo
   sent_then n c = subst (λ (w : Vote). HasSentTo polled n x (kinds.Accepted w)) (sym same_vote)
       (replies_sent m IsText law old mid x nodes asking r k p near polled polls n c)
 
-  pub answered_then : ReadyLeaderAnswers m IsText → (last : Scene ReplicaValue)
+  pub answered_then : ReadyLeaderAnswers m IsText → (last : WorldState ReplicaValue)
       → HearsInTurn m IsText x (acceptances nodes v) polled last
       → HasAnswered m last k.replica.node r × HasNoted m last k.replica.node r
   answered_then answers last turn = answered m IsText law old mid x nodes asking r k p near polled polls answers last

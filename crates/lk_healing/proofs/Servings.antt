@@ -24,9 +24,9 @@ use Rattle.lk_node.specs.Telling.{envelope_to}
 use Rattle.lk_progress.specs.Feeding.{MayServe}
 use Rattle.lk_progress.specs.Hearing.{Takes}
 use Rattle.lk_replica.specs.ReplicaValue.{ReplicaValue}
-use Rattle.lk_sim.specs.Scenes.{Scene}
+use Rattle.lk_sim.specs.WorldStates.{WorldState}
 use Rattle.lk_sim.specs.declared.event.Event.TheVariants as event
-use Rattle.lk_sim_nodes.specs.declared.seat.Life.TheVariants.{Up}
+use Rattle.lk_sim_nodes.specs.declared.sim_node.RunState.TheVariants.{Up}
 use Rattle.lk_world_feeding.proofs.Knowing.{may_serve}
 use Rattle.lk_world_progress.proofs.Balloting.{found_has}
 use Rattle.lk_world_progress.proofs.Delivering.{HeardIt, TakesFrom, found_as, heard_from, heard_it}
@@ -46,9 +46,9 @@ use Rattle.lk_healing.specs.Feeds.{HasExchanged, HasGatheredMore, MayFeed, MayGa
 use Rattle.lk_healing.specs.Polls.{StandAt}
 use Rattle.lk_healing.specs.declared.progress.Progress.{Progress}
 
-module _ (m : Meaning) (IsText : List ℕ → Type 0) (b a : ℕ) (told : Progress) (old : Scene ReplicaValue)
-    (k : MayFeed m IsText old b a told) (mid : Scene ReplicaValue)
-    (h : Hears m IsText b (content.Node a (kinds.Nack told.nack)) old mid) (served : Scene ReplicaValue)
+module _ (m : Meaning) (IsText : List ℕ → Type 0) (b a : ℕ) (told : Progress) (old : WorldState ReplicaValue)
+    (k : MayFeed m IsText old b a told) (mid : WorldState ReplicaValue)
+    (h : Hears m IsText b (content.Node a (kinds.Nack told.nack)) old mid) (served : WorldState ReplicaValue)
     (goes : GoesWell m IsText mid (event.Deliver (suc (length old.sent))) served) where
   abbrev pub r : ReplicaValue
   r = k.behind
@@ -124,7 +124,8 @@ module _ (m : Meaning) (IsText : List ℕ → Type 0) (b a : ℕ) (told : Progre
         (delivery_rests_but m IsText a b a (content.Node b want) mid served (λ j not_b not_a. not_a) hears)
 
     -- whatever else the first node takes
-    pub exchanged : (new : Scene ReplicaValue) → Holds m IsText new → RestsBut b a served new → IsUpAs new a t.after
+    pub exchanged : (new : WorldState ReplicaValue) → Holds m IsText new → RestsBut b a served new
+        → IsUpAs new a t.after
         → (after : ReplicaValue) → MayGain m IsText new k.last b after
         → (executed k.behind.node.learner < executed after.node.learner) ⊎ HasGatheredMore k.behind k.ahead after
         → HasExchanged m IsText b a told old new k
@@ -142,7 +143,7 @@ module _ (m : Meaning) (IsText : List ℕ → Type 0) (b a : ℕ) (told : Progre
     }
 
   -- a node that contends by itself may gain
-  pub own_from : (new : Scene ReplicaValue) (e : ℕ) (c : Contends m IsText new b e e [] k.last) → e ≤ k.last
+  pub own_from : (new : WorldState ReplicaValue) (e : ℕ) (c : Contends m IsText new b e e [] k.last) → e ≤ k.last
       → greatest_round c.candidate.node < 281474976710656 → new.genesis ≡ old.genesis
       → MayGain m IsText new k.last b c.candidate
   own_from new e c low round genesis = record {
@@ -186,7 +187,7 @@ module _ (m : Meaning) (IsText : List ℕ → Type 0) (b a : ℕ) (told : Progre
         (t.sent ∙ ap (λ (o : OutboxValue). mid.sent ++ batch_of a o.envelopes) sent.comes_to)
         (refl, spelled (kinds.Decided commands) sent.fits, tt)
 
-    module _ (law : LaggingCandidateIsFed m IsText) (new : Scene ReplicaValue)
+    module _ (law : LaggingCandidateIsFed m IsText) (new : WorldState ReplicaValue)
         (took : Hears m IsText b (content.Node a (kinds.Decided commands)) served new) where
       run : IsFedBy m IsText b a old new
       run = record {

@@ -32,10 +32,10 @@ use Rattle.lk_progress.proofs.Electing.{named_by}
 use Rattle.lk_progress.proofs.Proposing.{next_set}
 use Rattle.lk_progress.proofs.Rejecting.{above_or_not}
 use Rattle.lk_replica.specs.ReplicaValue.{ReplicaValue}
-use Rattle.lk_sim.specs.Scenes.{Scene}
+use Rattle.lk_sim.specs.WorldStates.{WorldState}
 use Rattle.lk_sim.specs.declared.event.Event.TheVariants as event
-use Rattle.lk_sim_nodes.specs.declared.seat.Life.{Life}
-use Rattle.lk_sim_nodes.specs.declared.seat.Life.TheVariants.{Up}
+use Rattle.lk_sim_nodes.specs.declared.sim_node.RunState.{RunState}
+use Rattle.lk_sim_nodes.specs.declared.sim_node.RunState.TheVariants.{Up}
 use Rattle.lk_world_progress.proofs.Balloting.{found_has, found_tells, near_snapshot}
 use Rattle.lk_world_progress.proofs.Delivering.{TakesFrom, found_as, heard_from}
 use Rattle.lk_world_progress.proofs.Noting.{header_fits}
@@ -71,14 +71,15 @@ member_place n set is =
     (position_or_len (λ m. m.node == n) set, lt, rw t refl)
 
 module _ (m : Meaning) (IsText : List ℕ → Type 0) where
-  pub header_valid : (w : Scene ReplicaValue) → Holds m IsText w → (n : ℕ) (r : ReplicaValue) → IsUpAs w n r
+  pub header_valid : (w : WorldState ReplicaValue) → Holds m IsText w → (n : ℕ) (r : ReplicaValue) → IsUpAs w n r
       → IsHeader (header_of w.genesis n)
   header_valid w holds n r up =
       let u = up_fits m IsText w holds n r up in
       let kept = u.shown.keeps in
       header_fits kept.entries (plain kept.loose) w.genesis n kept.header kept.holds.on.fit
 
-  pub may_begin_at : (w : Scene ReplicaValue) (x : ℕ) (nodes : List ℕ) → MayStand m IsText w x nodes → MayBeginIn w x
+  pub may_begin_at : (w : WorldState ReplicaValue) (x : ℕ) (nodes : List ℕ) → MayStand m IsText w x nodes
+      → MayBeginIn w x
   may_begin_at w x nodes k =
       let c = k.contends.candidate in
       let knows = nodes_know m IsText w x c k.contends.holds k.fixed.changes k.contends.up in
@@ -104,25 +105,26 @@ module _ (m : Meaning) (IsText : List ℕ → Type 0) where
       }
 
   -- ticks of one node change no other one
-  pub waits_leave : (n j : ℕ) (old new : Scene ReplicaValue) → WaitsIn m IsText n j old new → (k : ℕ)
-      (life : Life ReplicaValue) → (k ≡ n → ⊥) → Lives old k life → Lives new k life
-  waits_leave n zero old new same k life ne there =
-      subst (λ (w : Scene ReplicaValue). Lives w k life) (sym same) there
-  waits_leave n (suc j) old new d k life ne there = waits_leave n j d.0 new d.3 k life ne
-      ((event_steps m IsText old d.0 (event.Tick n) n Tick d.1 (refl, refl)).others k life ne there)
+  pub waits_leave : (n j : ℕ) (old new : WorldState ReplicaValue) → WaitsIn m IsText n j old new → (k : ℕ)
+      (run_state : RunState ReplicaValue) → (k ≡ n → ⊥) → Lives old k run_state → Lives new k run_state
+  waits_leave n zero old new same k run_state ne there =
+      subst (λ (w : WorldState ReplicaValue). Lives w k run_state) (sym same) there
+  waits_leave n (suc j) old new d k run_state ne there = waits_leave n j d.0 new d.3 k run_state ne
+      ((event_steps m IsText old d.0 (event.Tick n) n Tick d.1 (refl, refl)).others k run_state ne there)
 
   -- and so deliveries to one node
-  pub turn_leaves : (n : ℕ) (xs : List Content) (old new : Scene ReplicaValue) → HearsInTurn m IsText n xs old new
-      → (k : ℕ) (life : Life ReplicaValue) → (k ≡ n → ⊥) → Lives old k life → Lives new k life
-  turn_leaves n [] old new same k life ne there =
-      subst (λ (w : Scene ReplicaValue). Lives w k life) (sym same) there
-  turn_leaves n (x ∷ xs) old new turn k life ne there =
-      turn_leaves n xs turn.0 new turn.2 k life ne ((heard_from m IsText n x old turn.0 turn.1).others k life ne there)
+  pub turn_leaves : (n : ℕ) (xs : List Content) (old new : WorldState ReplicaValue) → HearsInTurn m IsText n xs old new
+      → (k : ℕ) (run_state : RunState ReplicaValue) → (k ≡ n → ⊥) → Lives old k run_state → Lives new k run_state
+  turn_leaves n [] old new same k run_state ne there =
+      subst (λ (w : WorldState ReplicaValue). Lives w k run_state) (sym same) there
+  turn_leaves n (x ∷ xs) old new turn k run_state ne there =
+      turn_leaves n xs turn.0 new turn.2 k run_state ne ((heard_from m IsText n x old turn.0 turn.1).others k
+      run_state ne there)
 
 -- ---- replies
 
 -- the node is up, and executed no more than this
-pub record MayReply (w : Scene ReplicaValue) (e n : ℕ) : Type 0 where
+pub record MayReply (w : WorldState ReplicaValue) (e n : ℕ) : Type 0 where
   pub replica : ReplicaValue
   pub up : IsUpAs w n replica
   pub near : AreNear replica.node.acceptor replica.node.learner
@@ -133,13 +135,14 @@ module _ (m : Meaning) (IsText : List ℕ → Type 0) (x e : ℕ) (b : BallotVal
   prepare = content.Node x (kinds.Prepare b (e + 1))
 
   -- a rejection of this node, which has promised a greater ballot, stands there, or a promise
-  abbrev pub Replies : Scene ReplicaValue → ℕ → ℕ → ReplicaValue → Type 0
+  abbrev pub Replies : WorldState ReplicaValue → ℕ → ℕ → ReplicaValue → Type 0
   Replies w n p q =
       (IsBelow b q.node.acceptor.state.promised
       × StandsAt w x p (content.Node n (kinds.Nack (refusal b q.node))))
       ⊎ ((vs : List Vote) × StandsAt w x p (content.Node n (promising b e vs)))
 
-  module _ (n : ℕ) (q : ReplicaValue) (old new : Scene ReplicaValue) (holds : Holds m IsText old) (up : IsUpAs old n q)
+  module _ (n : ℕ) (q : ReplicaValue) (old new : WorldState ReplicaValue) (holds : Holds m IsText old)
+      (up : IsUpAs old n q)
       (h : Hears m IsText n (content.Node x (kinds.Prepare b (e + 1))) old new) where
     s : TakesFrom m IsText n (content.Node x (kinds.Prepare b (e + 1))) old new
     s = heard_from m IsText n (content.Node x (kinds.Prepare b (e + 1))) old new h
@@ -178,7 +181,8 @@ module _ (m : Meaning) (IsText : List ℕ → Type 0) (x e : ℕ) (b : BallotVal
       | inr ballot ↦ inr (promises_there near behind ballot)
     ]
 
-  later_reply : (w : Scene ReplicaValue) (n p : ℕ) (q : ReplicaValue) (ns ps : List ℕ) (new : Scene ReplicaValue)
+  later_reply : (w : WorldState ReplicaValue) (n p : ℕ) (q : ReplicaValue) (ns ps : List ℕ)
+      (new : WorldState ReplicaValue)
       → HearsAt m IsText prepare ns ps w new → Replies w n p q → Replies new n p q
   later_reply w n p q ns ps new run (inl rejects) =
       inl (
@@ -194,7 +198,7 @@ module _ (m : Meaning) (IsText : List ℕ → Type 0) (x e : ℕ) (b : BallotVal
       )
 
   -- each of these places has the reply of a node
-  pub who_replied : (ns ps : List ℕ) (old new : Scene ReplicaValue) → Holds m IsText old → AreDistinct ns
+  pub who_replied : (ns ps : List ℕ) (old new : WorldState ReplicaValue) → Holds m IsText old → AreDistinct ns
       → (each : (n : ℕ) → Contains ns n → MayReply old e n) → HearsAt m IsText prepare ns ps old new → (p : ℕ)
       → Contains ps p → (n : ℕ) × (c : Contains ns n) × Replies new n p (each n c).replica
   who_replied [] [] old new holds distinct each run p c = absurd (omega (arith, c.1))
@@ -226,7 +230,7 @@ module _ (m : Meaning) (IsText : List ℕ → Type 0) (x e : ℕ) (b : BallotVal
       ]
 
   -- and whoever has promised a greater ballot has one for its rejection
-  pub rival_told : (ns ps : List ℕ) (old new : Scene ReplicaValue) → Holds m IsText old → AreDistinct ns
+  pub rival_told : (ns ps : List ℕ) (old new : WorldState ReplicaValue) → Holds m IsText old → AreDistinct ns
       → HearsAt m IsText prepare ns ps old new → (n : ℕ) → Contains ns n → (q : ReplicaValue) → IsUpAs old n q
       → IsBelow b q.node.acceptor.state.promised
       → (p : ℕ) × Contains ps p × StandsAt new x p (content.Node n (kinds.Nack (refusal b q.node)))
@@ -251,7 +255,7 @@ module _ (m : Meaning) (IsText : List ℕ → Type 0) (x e : ℕ) (b : BallotVal
   ]
 
 -- a rejection stands there
-pub rejection_stands : (w : Scene ReplicaValue) (x p n : ℕ) (k : Nack)
+pub rejection_stands : (w : WorldState ReplicaValue) (x p n : ℕ) (k : Nack)
     → StandsAt w x p (content.Node n (kinds.Nack k)) → IsRejectionAt w.sent p
 rejection_stands w x p n k stands = (
   stands.0,
@@ -260,7 +264,7 @@ rejection_stands w x p n k stands = (
 )
 
 -- a promise is none
-pub promise_stands : (w : Scene ReplicaValue) (x p n e : ℕ) (b : BallotValue) (vs : List Vote)
+pub promise_stands : (w : WorldState ReplicaValue) (x p n e : ℕ) (b : BallotValue) (vs : List Vote)
     → StandsAt w x p (content.Node n (promising b e vs)) → IsRejectionAt w.sent p → ⊥
 promise_stands w x p n e b vs stands rejection =
     let same : stands.0 ≡ rejection.0 = same_some stands.0 rejection.0 (sym stands.1 ∙ rejection.1) in

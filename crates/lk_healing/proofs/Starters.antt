@@ -12,9 +12,9 @@ use Rattle.lk_node.specs.NodeValue.{NodeValue}
 use Rattle.lk_progress.specs.Beginnings.{NewClustersAreQuiet, StartsQuietly, new_node}
 use Rattle.lk_progress.specs.Exchanges.{IsQuietVoter}
 use Rattle.lk_replica.specs.ReplicaValue.{ReplicaValue}
-use Rattle.lk_sim.specs.Scenes.{Scene}
-use Rattle.lk_sim_nodes.specs.declared.seat.Life.TheVariants.{Up, Down}
-use Rattle.lk_world_progress.proofs.Stepping.{one_life, one_replica}
+use Rattle.lk_sim.specs.WorldStates.{WorldState}
+use Rattle.lk_sim_nodes.specs.declared.sim_node.RunState.TheVariants.{Up, Down}
+use Rattle.lk_world_progress.proofs.Stepping.{one_run_state, one_replica}
 use Rattle.lk_world_progress.specs.Beginning.{IsNewIn, IsNewWorld}
 use Rattle.lk_world_progress.specs.Exchanging.{number_of}
 use Rattle.lk_world_progress.specs.Stepping.{IsUpAs, Lives}
@@ -27,7 +27,7 @@ use Rattle.lk_healing.specs.Feeds.{MayGain}
 use Rattle.lk_healing.specs.Heals.{HasRoundOnDisks, MayHeal, NewWorldsMayHeal}
 use Rattle.lk_healing.specs.Levels.{MayLevel, NewWorldsMayLevel}
 
-module _ (m : Meaning) (IsText : List ℕ → Type 0) (clusters : NewClustersAreQuiet) (w : Scene ReplicaValue)
+module _ (m : Meaning) (IsText : List ℕ → Type 0) (clusters : NewClustersAreQuiet) (w : WorldState ReplicaValue)
     (c : ReplicaValue) (index ticks : ℕ) (others : List ℕ) (new : IsNewWorld m IsText w c index ticks others)
     (changes : NobodyChanges w) where
   abbrev x : ℕ
@@ -132,7 +132,7 @@ module _ (m : Meaning) (IsText : List ℕ → Type 0) (clusters : NewClustersAre
         (one_replica m IsText w new.holds n (one_new n d).0 q (one_new n d).2.0 up)
         (on_new (λ (y : NodeValue). y.acceptor.state.promised.round < 281474976710656) n d (λ passed. omega arith));
     down = λ device at zero_text s tells. absurd (up_or_down (one_new n d).0 device
-        (one_life m IsText w new.holds n (Up (one_new n d).0) (Down device) (one_new n d).2.0 at));
+        (one_run_state m IsText w new.holds n (Up (one_new n d).0) (Down device) (one_new n d).2.0 at));
   }
 
   may_heal : (r : RequestValue) → IsFresh w r → MayHeal w x (x ∷ others) r

@@ -27,10 +27,10 @@ use Rattle.lk_progress.specs.Deciding.{acceptances}
 use Rattle.lk_replica.specs.ReplicaValue.{ReplicaValue, device_of}
 use Rattle.lk_replica.specs.Taking.{IsTaken, IsTakenAs}
 use Rattle.lk_sim.specs.Events.{GoesOn, IsGiven}
-use Rattle.lk_sim.specs.Scenes.{Scene}
+use Rattle.lk_sim.specs.WorldStates.{WorldState}
 use Rattle.lk_sim_nodes.specs.Sends.{after_sends, counting}
 use Rattle.lk_sim_nodes.specs.Told.{NotesReplies, told_by, told_by_node}
-use Rattle.lk_sim_nodes.specs.declared.seat.Life.TheVariants.{Up}
+use Rattle.lk_sim_nodes.specs.declared.sim_node.RunState.TheVariants.{Up}
 use Rattle.lk_world_progress.proofs.Balloting.{found_has}
 use Rattle.lk_world_progress.proofs.Delivering.{TakesFrom, heard_from}
 use Rattle.lk_world_progress.proofs.Stepping.{found_header, has_header, is_there, one_replica, shown, was_there}
@@ -78,13 +78,13 @@ same_node : (n k : ℕ) → party.Node n ≡ party.Node k → n ≡ k
 same_node n k e = cc e
 
 -- since the first world, as many notes were added, and they tell how far the node has executed
-pub record HasNotes (n : ℕ) (old : Scene ReplicaValue) (r : ReplicaValue) (new : Scene ReplicaValue)
+pub record HasNotes (n : ℕ) (old : WorldState ReplicaValue) (r : ReplicaValue) (new : WorldState ReplicaValue)
     (q : ReplicaValue) : Type 0 where
   pub more : List Note
   pub trace : new.trace ≡ old.trace ++ more
   pub tells : executed q.node.learner ≡ last_ran n (executed r.node.learner) more
 
-module _ (m : Meaning) (IsText : List ℕ → Type 0) (x from : ℕ) (v : Vote) (old new : Scene ReplicaValue)
+module _ (m : Meaning) (IsText : List ℕ → Type 0) (x from : ℕ) (v : Vote) (old new : WorldState ReplicaValue)
     (h : Hears m IsText x (content.Node from (kinds.Accepted v)) old new) (r : ReplicaValue)
     (up : IsUpAs old x r) where
   abbrev bytes : List ℕ
@@ -109,7 +109,7 @@ module _ (m : Meaning) (IsText : List ℕ → Type 0) (x from : ℕ) (v : Vote) 
     taken = is_taken.taken
 
     was : IsUpAs old x given.replica
-    was = was_there old new x given.seat given.next given.number given.replaces (Up given.replica) given.up
+    was = was_there old new x given.sim_node given.next given.number given.replaces (Up given.replica) given.up
 
     same : given.replica ≡ r
     same = one_replica m IsText old h.goes.before x given.replica r was up
@@ -160,7 +160,7 @@ module _ (m : Meaning) (IsText : List ℕ → Type 0) (x from : ℕ) (v : Vote) 
       more = g.notes ++ g.told;
       trace = g.adds.trace;
       tells = ap (λ (y : ReplicaValue). executed y.node.learner) (one_replica m IsText new h.goes.after x q after there
-          (is_there old new x given.seat given.next given.number given.replaces (Up after) g.up))
+          (is_there old new x given.sim_node given.next given.number given.replaces (Up after) g.up))
           ∙ after_is ∙ written ∙ stepped ∙ ap (last_ran x (executed r.node.learner)) (sym taken.noted)
           ∙ sym (last_ran_both x (executed r.node.learner) g.notes g.told
           ∙ replies_run x (last_ran x (executed r.node.learner) g.notes) g.batch g.told g.tells);
@@ -176,14 +176,14 @@ module _ (m : Meaning) (IsText : List ℕ → Type 0) (x from : ℕ) (v : Vote) 
 -- ---- one after another
 
 module _ (m : Meaning) (IsText : List ℕ → Type 0) (x : ℕ) (v : Vote) where
-  pub turn_noted : (ns : List ℕ) (old new : Scene ReplicaValue) → Holds m IsText old
+  pub turn_noted : (ns : List ℕ) (old new : WorldState ReplicaValue) → Holds m IsText old
       → HearsInTurn m IsText x (acceptances ns v) old new → (r : ReplicaValue) → IsUpAs old x r → (q : ReplicaValue)
       → IsUpAs new x q → HasNotes x old r new q
   turn_noted [] old new holds same r up q there = record {
     more = [];
-    trace = ap (λ (w : Scene ReplicaValue). w.trace) same ∙ sym (append-nil old.trace);
+    trace = ap (λ (w : WorldState ReplicaValue). w.trace) same ∙ sym (append-nil old.trace);
     tells = ap (λ (y : ReplicaValue). executed y.node.learner) (one_replica m IsText old holds x q r
-        (subst (λ (w : Scene ReplicaValue). IsUpAs w x q) same there) up);
+        (subst (λ (w : WorldState ReplicaValue). IsUpAs w x q) same there) up);
   }
   turn_noted (n ∷ ns) old new holds turn r up q there =
       let s : TakesFrom m IsText x (content.Node n (kinds.Accepted v)) old turn.0 =

@@ -13,7 +13,7 @@ use Rattle.lk_node_interface.specs.Outboxes.{OutboxValue}
 use Rattle.lk_progress.specs.Gathering.{HasSoFar, parts_from}
 use Rattle.lk_progress.specs.Hearing.{Takes}
 use Rattle.lk_replica.specs.ReplicaValue.{ReplicaValue}
-use Rattle.lk_sim.specs.Scenes.{Scene}
+use Rattle.lk_sim.specs.WorldStates.{WorldState}
 use Rattle.lk_world_feeding.proofs.Gathering.{Follow}
 use Rattle.lk_world_progress.proofs.Delivering.{TakesFrom, found_as, heard_from}
 use Rattle.lk_world_progress.specs.Delivering.{DeliversInTurn, Hears, HearsInTurn, IsRested}
@@ -36,7 +36,7 @@ first_follows position text count p parts follow =
 module _ (m : Meaning) (IsText : List ℕ → Type 0) (n from position : ℕ) (text : List ℕ) where
   -- ---- one part that is not the last one
 
-  record TookPart (count : ℕ) (r : ReplicaValue) (new : Scene ReplicaValue) : Type 0 where
+  record TookPart (count : ℕ) (r : ReplicaValue) (new : WorldState ReplicaValue) : Type 0 where
     after : ReplicaValue
     is : IsUpAs new n after
     rested : IsRested new n
@@ -45,7 +45,7 @@ module _ (m : Meaning) (IsText : List ℕ → Type 0) (n from position : ℕ) (t
     so_far : HasSoFar after.node.learner position text (count + 1024)
     before : after.node.gathered_before ≡ r.node.gathered_before
 
-  module _ (p : PartValue) (count : ℕ) (r : ReplicaValue) (old new : Scene ReplicaValue) (up : IsUpAs old n r)
+  module _ (p : PartValue) (count : ℕ) (r : ReplicaValue) (old new : WorldState ReplicaValue) (up : IsUpAs old n r)
       (rested : IsRested old n) (idle : r.node.leader.term ≡ None) (behind : executed r.node.learner < position)
       (short : count + 1024 < length text) (has : HasSoFar r.node.learner position text count)
       (is : p ≡ part_of position text count) (h : Hears m IsText n (content.Node from (kinds.Part p)) old new) where
@@ -92,7 +92,7 @@ module _ (m : Meaning) (IsText : List ℕ → Type 0) (n from position : ℕ) (t
 
   -- ---- all of them
 
-  pub record TookTurn (count : ℕ) (parts : List PartValue) (r : ReplicaValue) (old new : Scene ReplicaValue)
+  pub record TookTurn (count : ℕ) (parts : List PartValue) (r : ReplicaValue) (old new : WorldState ReplicaValue)
       : Type 0 where
     pub turns : DeliversInTurn m IsText n (parts_from from parts) old new
     -- if they do not complete the snapshot, it still knows how much was gathered at the last nudge
@@ -100,7 +100,7 @@ module _ (m : Meaning) (IsText : List ℕ → Type 0) (n from position : ℕ) (t
         → (q : ReplicaValue) × IsUpAs new n q × (q.node.gathered_before ≡ r.node.gathered_before)
 
   pub parts_turn : (parts : List PartValue) (p : PartValue) (count : ℕ) (r : ReplicaValue)
-      (old new : Scene ReplicaValue)
+      (old new : WorldState ReplicaValue)
       → IsUpAs old n r → IsRested old n → r.node.leader.term ≡ None → executed r.node.learner < position
       → HasSoFar r.node.learner position text count → Follow position text count (p ∷ parts)
       → HearsInTurn m IsText n (parts_from from (p ∷ parts)) old new → TookTurn count (p ∷ parts) r old new
@@ -110,7 +110,7 @@ module _ (m : Meaning) (IsText : List ℕ → Type 0) (n from position : ℕ) (t
         before = λ short.
             let one = took_part p count r old d.0 up rested idle behind (omega (arith, short)) has first.0 d.1 in (
               one.after,
-              subst (λ (w : Scene ReplicaValue). IsUpAs w n one.after) (sym d.2) one.is,
+              subst (λ (w : WorldState ReplicaValue). IsUpAs w n one.after) (sym d.2) one.is,
               one.before,
             );
       }

@@ -28,7 +28,7 @@ use Rattle.lk_node.specs.Waiting.{BeginsWhereDue, index_of, ticked}
 use Rattle.lk_progress.specs.Electing.{IsDue}
 use Rattle.lk_rebases.proofs.Rebases.{idle_begins}
 use Rattle.lk_replica.specs.ReplicaValue.{ReplicaValue}
-use Rattle.lk_sim.specs.Scenes.{Scene}
+use Rattle.lk_sim.specs.WorldStates.{WorldState}
 use Rattle.lk_sim.specs.declared.event.Event.TheVariants as event
 use Rattle.lk_world_progress.proofs.Balloting.{found_has, found_tells}
 use Rattle.lk_world_progress.proofs.Noting.{header_fits}
@@ -45,7 +45,7 @@ same_some : {X : Type 0} (x y : X) → Some x ≡ Some y → x ≡ y
 same_some x y e = cc e
 
 -- a node that is up has a number from 1 on
-pub some_number : (m : Meaning) (IsText : List ℕ → Type 0) (w : Scene ReplicaValue) → Holds m IsText w → (n : ℕ)
+pub some_number : (m : Meaning) (IsText : List ℕ → Type 0) (w : WorldState ReplicaValue) → Holds m IsText w → (n : ℕ)
     (r : ReplicaValue) → IsUpAs w n r → 1 ≤ n
 some_number m IsText w holds n r up =
     let u = up_fits m IsText w holds n r up in
@@ -65,14 +65,14 @@ all_above is low (n ∷ ns) k all above passes =
     ]
 
 module _ (m : Meaning) (IsText : List ℕ → Type 0) (n : ℕ) where
-  waits_more : (k : ℕ) (old mid new : Scene ReplicaValue) → WaitsIn m IsText n k old mid
+  waits_more : (k : ℕ) (old mid new : WorldState ReplicaValue) → WaitsIn m IsText n k old mid
       → GoesWell m IsText mid (event.Tick n) new → IsIdleIn new n → WaitsIn m IsText n (suc k) old new
   waits_more zero old mid new same goes idle =
-      (new, subst (λ (w : Scene ReplicaValue). GoesWell m IsText w (event.Tick n) new) same goes, idle, refl)
+      (new, subst (λ (w : WorldState ReplicaValue). GoesWell m IsText w (event.Tick n) new) same goes, idle, refl)
   waits_more (suc k) old mid new w goes idle = (w.0, w.1, w.2, waits_more k w.0 mid new w.3 goes idle)
 
   -- after this many ticks it has begun no ballot, and may still begin one
-  pub record HasWaited (start : Scene ReplicaValue) (k : ℕ) (now : Scene ReplicaValue) : Type 0 where
+  pub record HasWaited (start : WorldState ReplicaValue) (k : ℕ) (now : WorldState ReplicaValue) : Type 0 where
     pub holds : Holds m IsText now
     pub after : ReplicaValue
     pub is : IsUpAs now n after
@@ -83,7 +83,7 @@ module _ (m : Meaning) (IsText : List ℕ → Type 0) (n : ℕ) where
     pub waits : WaitsIn m IsText n k start now
     pub ticks : TicksInTurn m IsText n k start now
 
-  pub begins_waiting : (start : Scene ReplicaValue) → Holds m IsText start → MayBeginIn start n
+  pub begins_waiting : (start : WorldState ReplicaValue) → Holds m IsText start → MayBeginIn start n
       → HasWaited start 0 start
   begins_waiting start holds may = record {
     holds = holds;
@@ -97,7 +97,7 @@ module _ (m : Meaning) (IsText : List ℕ → Type 0) (n : ℕ) where
     ticks = refl;
   }
 
-  module _ (start old new : Scene ReplicaValue) (k : ℕ) (w : HasWaited start k old)
+  module _ (start old new : WorldState ReplicaValue) (k : ℕ) (w : HasWaited start k old)
       (goes : GoesWell m IsText old (event.Tick n) new) where
     s : TakesStep m IsText old n Tick new
     s = event_steps m IsText old new (event.Tick n) n Tick goes (refl, refl)
@@ -257,7 +257,7 @@ module _ (m : Meaning) (IsText : List ℕ → Type 0) (n : ℕ) where
         after_idle = ap (λ (node : NodeValue). node.leader.term) same ∙ start_idle
 
   -- it does not wait for ever
-  pub not_for_ever : WorldTicksBegin m IsText → (start now : Scene ReplicaValue) (k : ℕ) → Holds m IsText start
+  pub not_for_ever : WorldTicksBegin m IsText → (start now : WorldState ReplicaValue) (k : ℕ) → Holds m IsText start
       → MayBeginIn start n → HasWaited start k now → 28 ≤ k → ⊥
   not_for_ever law start now k holds may w enough =
       let few = may.may.few in

@@ -12,9 +12,9 @@ use Rattle.lk_node.specs.Executing.{NothingToRun}
 use Rattle.lk_node.specs.Nearness.{AreNear}
 use Rattle.lk_node.specs.Nudging.{progress}
 use Rattle.lk_replica.specs.ReplicaValue.{ReplicaValue}
-use Rattle.lk_sim.specs.Scenes.{Scene}
+use Rattle.lk_sim.specs.WorldStates.{WorldState}
 use Rattle.lk_sim.specs.Traces.{asked_in}
-use Rattle.lk_sim_nodes.specs.declared.seat.Life.{Life}
+use Rattle.lk_sim_nodes.specs.declared.sim_node.RunState.{RunState}
 use Rattle.lk_world_progress.specs.Balloting.{HasSentTo}
 use Rattle.lk_world_progress.specs.Delivering.{IsRested}
 use Rattle.lk_world_progress.specs.Stepping.{Holds, IsUpAs, Lives}
@@ -36,7 +36,7 @@ places_from i (suc k) = suc i ∷ places_from (suc i) k
 -- The node is a member of the genesis, and up as this replica. It has no term, nothing waits, and nothing is left to
 -- execute. It has executed no position above the last one, and keeps no vote, and knows no pair, above that. A round is
 -- left.
-pub record MayGain (m : Meaning) (IsText : List ℕ → Type 0) (w : Scene ReplicaValue) (last n : ℕ)
+pub record MayGain (m : Meaning) (IsText : List ℕ → Type 0) (w : WorldState ReplicaValue) (last n : ℕ)
     (r : ReplicaValue) : Type 0 where
   pub holds : Holds m IsText w
   pub member : is_member n w.genesis.members ≡ true
@@ -51,8 +51,9 @@ pub record MayGain (m : Meaning) (IsText : List ℕ → Type 0) (w : Scene Repli
   pub round : greatest_round r.node < max_count
 
 -- every other node is unchanged, what was sent stays, and nothing was asked
-pub record RestsBut (b a : ℕ) (old new : Scene ReplicaValue) : Type 0 where
-  pub rests : (k : ℕ) (life : Life ReplicaValue) → (k ≡ b → ⊥) → (k ≡ a → ⊥) → Lives old k life → Lives new k life
+pub record RestsBut (b a : ℕ) (old new : WorldState ReplicaValue) : Type 0 where
+  pub rests : (k : ℕ) (run_state : RunState ReplicaValue) → (k ≡ b → ⊥) → (k ≡ a → ⊥) → Lives old k run_state
+      → Lives new k run_state
   pub sent : (d : Datagram) → Contains old.sent d → Contains new.sent d
   pub asked : asked_in new.trace ≡ asked_in old.trace
   pub genesis : new.genesis ≡ old.genesis
@@ -60,7 +61,7 @@ pub record RestsBut (b a : ℕ) (old new : Scene ReplicaValue) : Type 0 where
 -- The first node has executed less than the second one, which has told it how much it has executed. What it has
 -- gathered of a snapshot, if anything, is of the other one's, and was gathered since the last nudge. Neither has a
 -- rebase due.
-pub record MayFeed (m : Meaning) (IsText : List ℕ → Type 0) (w : Scene ReplicaValue) (b a : ℕ) (told : Progress)
+pub record MayFeed (m : Meaning) (IsText : List ℕ → Type 0) (w : WorldState ReplicaValue) (b a : ℕ) (told : Progress)
     : Type 0 where
   pub apart : b ≡ a → ⊥
   pub changes : NobodyChanges w
@@ -94,7 +95,7 @@ pub record HasGatheredMore (behind ahead after : ReplicaValue) : Type 0 where
 
 -- It has executed more, or has gathered more. The other one has kept what it had.
 pub record HasExchanged (m : Meaning) (IsText : List ℕ → Type 0) (b a : ℕ) (told : Progress)
-    (old new : Scene ReplicaValue) (k : MayFeed m IsText old b a told) : Type 0 where
+    (old new : WorldState ReplicaValue) (k : MayFeed m IsText old b a told) : Type 0 where
   pub after : ReplicaValue
   pub own : MayGain m IsText new k.last b after
   pub gains : (executed k.behind.node.learner < executed after.node.learner) ⊎ HasGatheredMore k.behind k.ahead after
@@ -107,7 +108,7 @@ pub record HasExchanged (m : Meaning) (IsText : List ℕ → Type 0) (b a : ℕ)
 -- ---- until it has executed more
 
 pub record HasGained (m : Meaning) (IsText : List ℕ → Type 0) (b a : ℕ) (told : Progress)
-    (old new : Scene ReplicaValue) (k : MayFeed m IsText old b a told) : Type 0 where
+    (old new : WorldState ReplicaValue) (k : MayFeed m IsText old b a told) : Type 0 where
   pub after : ReplicaValue
   pub own : MayGain m IsText new k.last b after
   pub gains : executed k.behind.node.learner < executed after.node.learner

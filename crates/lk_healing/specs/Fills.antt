@@ -10,7 +10,7 @@ use Rattle.lk_learner.specs.Learners.{executed}
 use Rattle.lk_node_interface.specs.declared.note.Note.{Note}
 use Rattle.lk_node_interface.specs.declared.note.Note.TheVariants as note
 use Rattle.lk_replica.specs.ReplicaValue.{ReplicaValue}
-use Rattle.lk_sim.specs.Scenes.{Scene}
+use Rattle.lk_sim.specs.WorldStates.{WorldState}
 use Rattle.lk_world_leftovers.specs.Exchanging.{ReachesNext}
 use Rattle.lk_world_leftovers.specs.Filling.{IsFilling, IsNextVote}
 use Rattle.lk_healing.specs.Contending.{AsksNothing}
@@ -24,7 +24,7 @@ last_ran n e (note.Ran k i v ∷ notes) = last_ran n (if k == n then i else e) n
 last_ran n e (_ ∷ notes) = last_ran n e notes
 
 -- the leader fills from this position on, and has proposed this vote there
-pub record OffersFrom (m : Meaning) (IsText : List ℕ → Type 0) (w : Scene ReplicaValue) (x : ℕ) (nodes : List ℕ)
+pub record OffersFrom (m : Meaning) (IsText : List ℕ → Type 0) (w : WorldState ReplicaValue) (x : ℕ) (nodes : List ℕ)
     (asking : Asking) (next : ℕ) (v : Vote) : Type 0 where
   pub fills : FillsFrom m IsText w x nodes asking next
   pub proposed : IsNextVote fills.leader.node fills.term v
@@ -32,25 +32,25 @@ pub record OffersFrom (m : Meaning) (IsText : List ℕ → Type 0) (w : Scene Re
 
 -- it has filled one position at least, and nobody has asked anything
 pub record FillsOnce (m : Meaning) (IsText : List ℕ → Type 0) (x : ℕ) (nodes : List ℕ) (asking : Asking) (next : ℕ)
-    (old new : Scene ReplicaValue) (after : ℕ) : Type 0 where
+    (old new : WorldState ReplicaValue) (after : ℕ) : Type 0 where
   pub fills : FillsFrom m IsText new x nodes asking after
   pub more : next < after
   pub asks : AsksNothing old new
 
 -- no vote is left to fill in
-pub record IsFilledAt (m : Meaning) (IsText : List ℕ → Type 0) (w : Scene ReplicaValue) (x : ℕ) (nodes : List ℕ)
+pub record IsFilledAt (m : Meaning) (IsText : List ℕ → Type 0) (w : WorldState ReplicaValue) (x : ℕ) (nodes : List ℕ)
     (asking : Asking) (next : ℕ) : Type 0 where
   pub fills : FillsFrom m IsText w x nodes asking next
   pub none_left : has_vote_from fills.term.received next ≡ false
 
 -- and nobody has asked anything meanwhile
 pub record HasFilled (m : Meaning) (IsText : List ℕ → Type 0) (x : ℕ) (nodes : List ℕ) (asking : Asking)
-    (old new : Scene ReplicaValue) (next : ℕ) : Type 0 where
+    (old new : WorldState ReplicaValue) (next : ℕ) : Type 0 where
   pub filled : IsFilledAt m IsText new x nodes asking next
   pub asks : AsksNothing old new
 
 -- Besides, the leader's next position is one of the next 2 alpha of each of the others.
-pub record IsLedAt (m : Meaning) (IsText : List ℕ → Type 0) (w : Scene ReplicaValue) (x : ℕ) (nodes : List ℕ)
+pub record IsLedAt (m : Meaning) (IsText : List ℕ → Type 0) (w : WorldState ReplicaValue) (x : ℕ) (nodes : List ℕ)
     (asking : Asking) (next : ℕ) : Type 0 where
   pub others : List ℕ
   pub are : nodes ≡ x ∷ others
@@ -67,6 +67,6 @@ pub record IsLedAt (m : Meaning) (IsText : List ℕ → Type 0) (w : Scene Repli
 
 -- the others have caught up, and nobody has asked anything
 pub record HasCaughtUp (m : Meaning) (IsText : List ℕ → Type 0) (x : ℕ) (nodes : List ℕ) (asking : Asking)
-    (next : ℕ) (old new : Scene ReplicaValue) : Type 0 where
+    (next : ℕ) (old new : WorldState ReplicaValue) : Type 0 where
   pub led : IsLedAt m IsText new x nodes asking next
   pub asks : AsksNothing old new

@@ -3,14 +3,14 @@ use Rattle.std.specs.Prelude.{◌≡◌, ℕ, ◌<◌, ◌≤◌, List, Option, 
 use Rattle.lk_state.specs.Meanings.{Meaning}
 use Rattle.lk_learner.specs.Learners.{executed}
 use Rattle.lk_replica.specs.ReplicaValue.{ReplicaValue}
-use Rattle.lk_sim.specs.Scenes.{Scene}
+use Rattle.lk_sim.specs.WorldStates.{WorldState}
 use Rattle.lk_world_leftovers.specs.Fixed.{NobodyChanges}
 use Rattle.lk_healing.specs.Feeds.{MayGain, RestsBut}
 use Rattle.lk_healing.specs.declared.progress.Progress.{Progress}
 use Rattle.lk_healing.specs.Tellings.{HasTold}
 
 -- two members of a world in which nobody has asked to change them
-pub record MayClose (m : Meaning) (IsText : List ℕ → Type 0) (w : Scene ReplicaValue) (b a : ℕ) : Type 0 where
+pub record MayClose (m : Meaning) (IsText : List ℕ → Type 0) (w : WorldState ReplicaValue) (b a : ℕ) : Type 0 where
   pub apart : b ≡ a → ⊥
   pub changes : NobodyChanges w
   pub last : ℕ
@@ -21,7 +21,8 @@ pub record MayClose (m : Meaning) (IsText : List ℕ → Type 0) (w : Scene Repl
 
 -- The first node has executed so many positions, at least as many as the other one and as before. The other one has
 -- executed as many as before.
-pub record HasClosed (m : Meaning) (IsText : List ℕ → Type 0) (b a : ℕ) (old new : Scene ReplicaValue) (reached : ℕ)
+pub record HasClosed (m : Meaning) (IsText : List ℕ → Type 0) (b a : ℕ) (old new : WorldState ReplicaValue)
+    (reached : ℕ)
     (k : MayClose m IsText old b a) : Type 0 where
   pub after : ReplicaValue
   pub own : MayGain m IsText new k.last b after
@@ -34,9 +35,10 @@ pub record HasClosed (m : Meaning) (IsText : List ℕ → Type 0) (b a : ℕ) (o
   pub rests : RestsBut b a old new
 
 -- it was nudged twice, and has told how many positions it has executed
-pub record HasToldAnew (m : Meaning) (IsText : List ℕ → Type 0) (n : ℕ) (old new : Scene ReplicaValue) (reached : ℕ)
+pub record HasToldAnew (m : Meaning) (IsText : List ℕ → Type 0) (n : ℕ) (old new : WorldState ReplicaValue)
+    (reached : ℕ)
     : Type 0 where
-  pub mid : Scene ReplicaValue
+  pub mid : WorldState ReplicaValue
   pub first : Progress
   pub before : HasTold m IsText n old mid first
   pub second : Progress
@@ -44,7 +46,7 @@ pub record HasToldAnew (m : Meaning) (IsText : List ℕ → Type 0) (n : ℕ) (o
   pub is : reached ≡ second.nack.executed
 
 -- It has executed more than before. The other one has executed as many positions as before.
-pub record HasComeOn (m : Meaning) (IsText : List ℕ → Type 0) (b a : ℕ) (old new : Scene ReplicaValue)
+pub record HasComeOn (m : Meaning) (IsText : List ℕ → Type 0) (b a : ℕ) (old new : WorldState ReplicaValue)
     (k : MayClose m IsText old b a) : Type 0 where
   pub after : ReplicaValue
   pub own : MayGain m IsText new k.last b after
@@ -55,7 +57,7 @@ pub record HasComeOn (m : Meaning) (IsText : List ℕ → Type 0) (b a : ℕ) (o
   pub rests : RestsBut b a old new
 
 -- it has executed so many positions, as many as the other one, or more than before
-abbrev pub ClosesOrGains : (m : Meaning) (IsText : List ℕ → Type 0) (b a : ℕ) (old new : Scene ReplicaValue)
+abbrev pub ClosesOrGains : (m : Meaning) (IsText : List ℕ → Type 0) (b a : ℕ) (old new : WorldState ReplicaValue)
     → MayClose m IsText old b a → Option ℕ → Type 0
 ClosesOrGains m IsText b a old new k (Some reached) = HasClosed m IsText b a old new reached k
 ClosesOrGains m IsText b a old new k None = HasComeOn m IsText b a old new k

@@ -9,7 +9,7 @@ use Rattle.lk_replica.specs.ReplicaValue.{ReplicaValue}
 use Rattle.lk_sim.specs.Events.{IsExecuted, IsRefused}
 use Rattle.lk_sim.specs.Heard.{IsRequestIn}
 use Rattle.lk_sim.specs.Runs.{Runs}
-use Rattle.lk_sim.specs.Scenes.{Scene}
+use Rattle.lk_sim.specs.WorldStates.{WorldState}
 use Rattle.lk_sim.specs.declared.end.RunEnd.{RunEnd}
 use Rattle.lk_sim.specs.declared.event.Event.{Event}
 use Rattle.lk_sim.specs.declared.event.Event.TheVariants as event
@@ -22,23 +22,24 @@ use Rattle.lk_healing.specs.Restarts.{AreStarted}
 -- ---- a history
 
 -- the world in which no node was started and nothing was sent
-abbrev pub new_world : Genesis → Scene ReplicaValue
-new_world genesis = record { genesis = genesis; seats = []; sent = []; trace = []; ended = None }
+abbrev pub new_world : Genesis → WorldState ReplicaValue
+new_world genesis = record { genesis = genesis; sim_nodes = []; sent = []; trace = []; ended = None }
 
 -- `apply` has executed the event, or rejected it
-abbrev pub ComesOf : Meaning → (List ℕ → Type 0) → Event → Scene ReplicaValue → Scene ReplicaValue → Type 0
+abbrev pub ComesOf : Meaning → (List ℕ → Type 0) → Event → WorldState ReplicaValue → WorldState ReplicaValue → Type 0
 ComesOf m IsText e old new =
     IsExecuted (behaviour m IsText) old e new ⊎ ((r : Refused) × IsRefused (behaviour m IsText) old e r new)
 
 -- and so each of these, in order
-abbrev pub ComesOfAll : Meaning → (List ℕ → Type 0) → List Event → Scene ReplicaValue → Scene ReplicaValue → Type 0
+abbrev pub ComesOfAll : Meaning → (List ℕ → Type 0) → List Event → WorldState ReplicaValue
+    → WorldState ReplicaValue → Type 0
 ComesOfAll m IsText [] old new = new ≡ old
 ComesOfAll m IsText (e ∷ es) old new =
-    (mid : Scene ReplicaValue) × ComesOf m IsText e old mid × ComesOfAll m IsText es mid new
+    (mid : WorldState ReplicaValue) × ComesOf m IsText e old mid × ComesOfAll m IsText es mid new
 
 -- what `run` does comes of some of its events
 abbrev pub RunsAreHistories : Meaning → (List ℕ → Type 0) → Type 0
-RunsAreHistories m IsText = (events : List Event) (how : RunEnd) (old new : Scene ReplicaValue)
+RunsAreHistories m IsText = (events : List Event) (how : RunEnd) (old new : WorldState ReplicaValue)
     → Runs (behaviour m IsText) old events how new
     → (es : List Event) × ((e : Event) → Contains es e → Contains events e) × ComesOfAll m IsText es old new
 
@@ -51,7 +52,7 @@ IsAskedBy q (event.Inject n bytes) = IsRequestIn bytes.items (Some q)
 IsAskedBy q _ = ⊥
 
 -- The world has come of these events, from a new one. None of them has asked to change the members.
-pub record NeverChanges (m : Meaning) (IsText : List ℕ → Type 0) (w : Scene ReplicaValue) (events : List Event)
+pub record NeverChanges (m : Meaning) (IsText : List ℕ → Type 0) (w : WorldState ReplicaValue) (events : List Event)
     : Type 0 where
   pub comes : ComesOfAll m IsText events (new_world w.genesis) w
   pub none : (e : Event) (q : RequestValue) → Contains events e → IsAskedBy q e → IsChange q.op → ⊥
@@ -66,7 +67,7 @@ AsksAnew events r = (e : Event) (q : RequestValue) → Contains events e → IsA
 -- Any majority of the members meets the premises of `heal`, for any request that is new, if its nodes are different,
 -- each was started, and each has a round left.
 abbrev pub UnchangedWorldsMayHeal : Meaning → (List ℕ → Type 0) → Type 0
-UnchangedWorldsMayHeal m IsText = (w : Scene ReplicaValue) (events : List Event) (x : ℕ) (others : List ℕ)
+UnchangedWorldsMayHeal m IsText = (w : WorldState ReplicaValue) (events : List Event) (x : ℕ) (others : List ℕ)
     (r : RequestValue) → NeverChanges m IsText w events → AreDistinct (x ∷ others)
     → IsMajority (x ∷ others) w.genesis.members → AreStarted w (x ∷ others)
     → ((n : ℕ) → Contains (x ∷ others) n → HasRoundOnDisks w n) → AsksAnew events r → MayHeal w x (x ∷ others) r

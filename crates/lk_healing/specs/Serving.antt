@@ -8,7 +8,7 @@ use Rattle.lk_state.specs.Sessions.{session_of, is_new}
 use Rattle.lk_leader.specs.Terms.{TermValue}
 use Rattle.lk_learner.specs.Learners.{executed}
 use Rattle.lk_replica.specs.ReplicaValue.{ReplicaValue}
-use Rattle.lk_sim.specs.Scenes.{Scene}
+use Rattle.lk_sim.specs.WorldStates.{WorldState}
 use Rattle.lk_sim.specs.declared.event.Event.TheVariants as event
 use Rattle.lk_world_progress.specs.Delivering.{Hears}
 use Rattle.lk_world_progress.specs.Stepping.{GoesWell}
@@ -17,7 +17,7 @@ use Rattle.lk_healing.specs.declared.asking.Asking.{Asking}
 
 -- The first of these nodes is up and ready, and the others are voters at its next position. The request is fresh there.
 -- Its ballot and its next position are those that it has asked for.
-pub record IsReadyFor (m : Meaning) (IsText : List ℕ → Type 0) (w : Scene ReplicaValue) (x : ℕ) (nodes : List ℕ)
+pub record IsReadyFor (m : Meaning) (IsText : List ℕ → Type 0) (w : WorldState ReplicaValue) (x : ℕ) (nodes : List ℕ)
     (asking : Asking) (r : RequestValue) : Type 0 where
   pub others : List ℕ
   pub are : nodes ≡ x ∷ others
@@ -32,7 +32,7 @@ pub record IsReadyFor (m : Meaning) (IsText : List ℕ → Type 0) (w : Scene Re
 
 -- A client asks the node, which takes the request.
 pub record TakesRequest (m : Meaning) (IsText : List ℕ → Type 0) (x : ℕ) (r : RequestValue)
-    (old new : Scene ReplicaValue) : Type 0 where
-  pub asked : Scene ReplicaValue
+    (old new : WorldState ReplicaValue) : Type 0 where
+  pub asked : WorldState ReplicaValue
   pub asks : GoesWell m IsText old (event.Client x r) asked
   pub takes : Hears m IsText x (content.Request r) asked new

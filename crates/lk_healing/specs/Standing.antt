@@ -13,7 +13,7 @@ use Rattle.lk_leader.specs.Terms.{TermValue}
 use Rattle.lk_learner.specs.Learners.{executed}
 use Rattle.lk_replica.specs.ReplicaValue.{ReplicaValue}
 use Rattle.lk_sim.specs.Refusals.{datagram_at}
-use Rattle.lk_sim.specs.Scenes.{Scene}
+use Rattle.lk_sim.specs.WorldStates.{WorldState}
 use Rattle.lk_world_progress.specs.Stepping.{IsUpAs}
 use Rattle.lk_world_leftovers.specs.Filling.{IsFilling, decided_by}
 use Rattle.lk_world_leftovers.specs.Persisting.{IsNoRival}
@@ -41,7 +41,7 @@ AreThere sent ps = (p : ℕ) → Contains ps p → (d : Datagram) × (datagram_a
 -- One of the others, a rival, has rejected the candidate's ballot, and is no rival of the next one. They may stand
 -- again as before, and nobody has become a rival.
 pub record IsRejectedBy (m : Meaning) (IsText : List ℕ → Type 0) (x : ℕ) (nodes : List ℕ)
-    (old new : Scene ReplicaValue) : Type 0 where
+    (old new : WorldState ReplicaValue) : Type 0 where
   pub stands : MayStand m IsText new x nodes
   pub rival : ℕ
   pub among : Contains stands.others rival
@@ -63,7 +63,7 @@ abbrev pub IsOffer : List Datagram → ℕ → Asking → ℕ → Vote → Type 
 IsOffer sent x asking i v = (d : Datagram) × Contains sent d × IsOfferIn d x asking i v
 
 -- such a vote was decided, and each of the others was told so
-pub record IsTold (w : Scene ReplicaValue) (x : ℕ) (others : List ℕ) (asking : Asking) : Type 0 where
+pub record IsTold (w : WorldState ReplicaValue) (x : ℕ) (others : List ℕ) (asking : Asking) : Type 0 where
   pub vote : Vote
   pub offered : IsOffer w.sent x asking asking.first vote
   pub told : (n : ℕ) → Contains others n → IsOnItsWay w n
@@ -72,7 +72,7 @@ pub record IsTold (w : Scene ReplicaValue) (x : ℕ) (others : List ℕ) (asking
 -- The first of these nodes leads in the ballot that it has asked for, and fills up; the others vote. Its next position
 -- is this one. The others have executed what the leader had when it began the ballot. If it has executed more since,
 -- they were told of the first of these commands.
-pub record FillsFrom (m : Meaning) (IsText : List ℕ → Type 0) (w : Scene ReplicaValue) (x : ℕ) (nodes : List ℕ)
+pub record FillsFrom (m : Meaning) (IsText : List ℕ → Type 0) (w : WorldState ReplicaValue) (x : ℕ) (nodes : List ℕ)
     (asking : Asking) (next : ℕ) : Type 0 where
   pub others : List ℕ
   pub are : nodes ≡ x ∷ others
@@ -91,12 +91,12 @@ pub record FillsFrom (m : Meaning) (IsText : List ℕ → Type 0) (w : Scene Rep
 
 -- the candidate leads, and nobody has asked anything meanwhile
 pub record LeadsAfter (m : Meaning) (IsText : List ℕ → Type 0) (x : ℕ) (nodes : List ℕ)
-    (old new : Scene ReplicaValue) (asking : Asking) : Type 0 where
+    (old new : WorldState ReplicaValue) (asking : Asking) : Type 0 where
   pub fills : FillsFrom m IsText new x nodes asking asking.first
   pub asks : AsksNothing old new
 
 -- what one ballot comes to: it leads, or one of them has rejected it
 abbrev pub ComesToLead : (m : Meaning) (IsText : List ℕ → Type 0) (x : ℕ) (nodes : List ℕ)
-    (old new : Scene ReplicaValue) → Option Asking → Type 0
+    (old new : WorldState ReplicaValue) → Option Asking → Type 0
 ComesToLead m IsText x nodes old new (Some asking) = LeadsAfter m IsText x nodes old new asking
 ComesToLead m IsText x nodes old new None = IsRejectedBy m IsText x nodes old new

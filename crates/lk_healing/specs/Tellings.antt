@@ -10,13 +10,13 @@ use Rattle.lk_state.specs.Meanings.{Meaning}
 use Rattle.lk_node_interface.specs.declared.nudge_reason.NudgeReason.TheVariants.{TicksWithheld}
 use Rattle.lk_node.specs.Nudging.{progress}
 use Rattle.lk_replica.specs.ReplicaValue.{ReplicaValue}
-use Rattle.lk_sim.specs.Scenes.{Scene}
+use Rattle.lk_sim.specs.WorldStates.{WorldState}
 use Rattle.lk_sim.specs.declared.event.Event.TheVariants as event
 use Rattle.lk_world_progress.specs.Stepping.{GoesWell, IsUpAs}
 use Rattle.lk_healing.specs.declared.progress.Progress.{Progress}
 
 -- the node is up and has no term, and its window names another one
-pub record MayTell (w : Scene ReplicaValue) (n : ℕ) : Type 0 where
+pub record MayTell (w : WorldState ReplicaValue) (n : ℕ) : Type 0 where
   pub replica : ReplicaValue
   pub up : IsUpAs w n replica
   pub idle : replica.node.leader.term ≡ None
@@ -33,7 +33,7 @@ pub record IsNack (d : Datagram) : Type 0 where
   pub spelled : Spells (record { cluster = cluster; content = content.Node from (kinds.Nack nack) }) d.bytes
 
 -- it was nudged, and has told this
-pub record HasTold (m : Meaning) (IsText : List ℕ → Type 0) (n : ℕ) (old new : Scene ReplicaValue) (p : Progress)
+pub record HasTold (m : Meaning) (IsText : List ℕ → Type 0) (n : ℕ) (old new : WorldState ReplicaValue) (p : Progress)
     : Type 0 where
   pub nudged : GoesWell m IsText old (event.Nudge n TicksWithheld) new
   pub cluster : p.cluster ≡ new.genesis.cluster

@@ -14,7 +14,7 @@ use Rattle.lk_node.specs.Nearness.{AreNear}
 use Rattle.lk_progress.specs.Electing.{IsDue}
 use Rattle.lk_progress.specs.Ticking.{MayBegin}
 use Rattle.lk_replica.specs.ReplicaValue.{ReplicaValue}
-use Rattle.lk_sim.specs.Scenes.{Scene}
+use Rattle.lk_sim.specs.WorldStates.{WorldState}
 use Rattle.lk_sim.specs.declared.event.Event.TheVariants as event
 use Rattle.lk_world_progress.specs.Stepping.{GoesWell, IsUpAs}
 use Rattle.lk_world_leftovers.specs.Persisting.{WaitsIn}
@@ -22,7 +22,7 @@ use Rattle.lk_healing.specs.declared.asking.Asking.{Asking}
 
 -- The node is up and has no term. It is a member of its next position, and so named by its window. Its acceptor and its
 -- learner are near, and a round and a position are left.
-pub record MayBeginIn (w : Scene ReplicaValue) (n : ℕ) : Type 0 where
+pub record MayBeginIn (w : WorldState ReplicaValue) (n : ℕ) : Type 0 where
   pub replica : ReplicaValue
   pub up : IsUpAs w n replica
   pub near : AreNear replica.node.acceptor replica.node.learner
@@ -42,11 +42,11 @@ pub record IsPrepare (d : Datagram) : Type 0 where
 
 -- After some ticks, none of which began a ballot, it was due. The last tick has begun its next ballot, and this is what
 -- it asks.
-pub record BeginsAfter (m : Meaning) (IsText : List ℕ → Type 0) (n : ℕ) (old new : Scene ReplicaValue)
+pub record BeginsAfter (m : Meaning) (IsText : List ℕ → Type 0) (n : ℕ) (old new : WorldState ReplicaValue)
     (asking : Asking) : Type 0 where
   pub ticks : ℕ
   pub few : ticks < 28
-  pub due : Scene ReplicaValue
+  pub due : WorldState ReplicaValue
   pub waits : WaitsIn m IsText n ticks old due
   pub candidate : ReplicaValue
   pub up : IsUpAs due n candidate

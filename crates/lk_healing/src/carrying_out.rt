@@ -2,7 +2,7 @@
 ghost use Rattle.std.specs.Prelude.{IfErr, OnOk};
 ghost use Rattle.lk_node_interface.specs.declared.nudge_reason.NudgeReason.TheVariants.{TicksWithheld as withheld};
 ghost use Rattle.lk_sim.specs.declared.event.Event.TheVariants as event;
-ghost use Rattle.lk_sim_nodes.specs.Seats.{IsUp};
+ghost use Rattle.lk_sim_nodes.specs.SimNodes.{IsUp};
 ghost use Rattle.lk_world_progress.specs.Stepping.{GoesWell};
 ghost use Rattle.lk_healing.specs.Halts.{HaltsFor, MayBeTaken, NeedsRoomAlone};
 
@@ -39,7 +39,7 @@ pub fn carry_out<M: Machine>(
 
 /// Gives a tick to a node that is up.
 pub fn tick<M: Machine>(world: &mut World<Replica<M, MemoryDisk>>, node: NodeNo) -> Result<(), Halt>
-    requires up { IsUp world.old.seats node }
+    requires up { IsUp world.old.sim_nodes node }
     ensures ok { OnOk result (GoesWell M.meaning M.IsText world.old (event.Tick node) world.new) }
     ensures err { IfErr result (λ h. HaltsFor h world.new) }
 {
@@ -52,7 +52,7 @@ pub fn nudge<M: Machine>(
     world: &mut World<Replica<M, MemoryDisk>>,
     node: NodeNo,
 ) -> Result<(), Halt>
-    requires up { IsUp world.old.seats node }
+    requires up { IsUp world.old.sim_nodes node }
     ensures ok { OnOk result (GoesWell M.meaning M.IsText world.old (event.Nudge node withheld) world.new) }
     ensures err { IfErr result (λ h. HaltsFor h world.new) }
 {
@@ -79,7 +79,7 @@ pub fn ask<M: Machine>(
     node: NodeNo,
     request: &Request,
 ) -> Result<(), Halt>
-    requires up { IsUp world.old.seats node }
+    requires up { IsUp world.old.sim_nodes node }
     ensures ok { OnOk result (GoesWell M.meaning M.IsText world.old (event.Client node request.now) world.new) }
     ensures err { IfErr result (λ h. HaltsFor h world.new) }
 {

@@ -2,7 +2,7 @@
 ghost use Rattle.std.specs.Prelude.{◌≡◌, IfErr, IfOk, OnOk};
 ghost use Rattle.lk_messages.specs.Grammar.{Spells, spelling};
 ghost use Rattle.lk_messages.specs.declared.message.Content.TheVariants as content;
-ghost use Rattle.lk_sim_nodes.specs.Seats.{IsUp};
+ghost use Rattle.lk_sim_nodes.specs.SimNodes.{IsUp};
 ghost use Rattle.lk_world_progress.specs.Delivering.{Hears, HearsEach};
 ghost use Rattle.lk_healing.specs.Halts.{AreOnTheirWay, HaltsFor, IsAddressed, IsOnItsWay};
 
@@ -54,7 +54,7 @@ pub fn hand<M: Machine>(
     to: NodeNo,
     message: &Message,
 ) -> Result<(), Halt>
-    requires up { IsUp world.old.seats to }
+    requires up { IsUp world.old.sim_nodes to }
     requires sent { IsOnItsWay world.old to message.now }
     requires cluster { message.now.cluster ≡ world.old.genesis.cluster }
     ensures ok { OnOk result (Hears M.meaning M.IsText to message.now.content world.old world.new) }

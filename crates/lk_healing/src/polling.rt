@@ -1,7 +1,7 @@
 // A candidate that has begun a ballot asks a majority, and hears it promise.
 ghost use Rattle.std.specs.Prelude.{◌≡◌, ◌++◌, ◌∷◌, [], List, IfErr, IfOk, OnOk};
 ghost use Rattle.lk_messages.specs.declared.message.Content.{Content as ContentValue};
-ghost use Rattle.lk_sim_nodes.specs.Seats.{IsUp};
+ghost use Rattle.lk_sim_nodes.specs.SimNodes.{IsUp};
 ghost use Rattle.lk_world_progress.specs.Delivering.{HearsInTurn};
 ghost use Rattle.lk_healing.specs.Halts.{AreOnTheirWay, HaltsFor};
 ghost use Rattle.lk_healing.specs.Polls.{HasBegun, HearsAt, LeadsNow, StandAt};
@@ -59,7 +59,7 @@ pub fn deliver_all<M: Machine>(
     node: NodeNo,
     places: &[usize],
 ) -> Result<(), Halt>
-    requires up { IsUp world.old.seats node }
+    requires up { IsUp world.old.sim_nodes node }
     requires stand { (xs : List ContentValue) × StandAt world.old node places.now xs }
     ensures ok { (xs : List ContentValue) → StandAt world.old node places.now xs
         → OnOk result (HearsInTurn M.meaning M.IsText node xs world.old world.new) }

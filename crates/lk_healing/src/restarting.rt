@@ -1,6 +1,6 @@
 // Nodes restart, one after another.
 ghost use Rattle.std.specs.Prelude.{◌≡◌, IfErr, OnOk, Contains};
-ghost use Rattle.lk_sim_nodes.specs.Seats.{IsStarted};
+ghost use Rattle.lk_sim_nodes.specs.SimNodes.{IsStarted};
 ghost use Rattle.lk_world_progress.specs.Restarting.{RestartInTurn, StopsAndRestarts};
 ghost use Rattle.lk_healing.specs.Halts.{HaltsFor};
 ghost use Rattle.lk_healing.specs.Restarts.{AreStarted, HasStopped};
@@ -16,7 +16,7 @@ use lk_world_progress::laws::a_restart_is_fresh;
 
 // Stops a node if it is up: it loses what is not synced.
 fn stop<M: Machine>(world: &mut World<Replica<M, MemoryDisk>>, node: NodeNo)
-    requires { IsStarted world.old.seats node }
+    requires { IsStarted world.old.sim_nodes node }
     ensures { HasStopped M.meaning M.IsText node world.old world.new }
 {
     world.facts();
@@ -30,7 +30,7 @@ pub fn restart<M: Machine>(
     world: &mut World<Replica<M, MemoryDisk>>,
     node: NodeNo,
 ) -> Result<(), Halt>
-    requires { IsStarted world.old.seats node }
+    requires { IsStarted world.old.sim_nodes node }
     ensures ok { OnOk result (StopsAndRestarts M.meaning M.IsText node world.old world.new) }
     ensures err { IfErr result (λ h. HaltsFor h world.new) }
 {

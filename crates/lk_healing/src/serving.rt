@@ -1,7 +1,7 @@
 // A leader that is ready answers a request.
 ghost use Rattle.std.specs.Prelude.{◌≡◌, ℕ, IfErr, OnOk, Contains};
 ghost use Rattle.lk_messages.specs.declared.message.NodeMessage.TheVariants as kinds;
-ghost use Rattle.lk_sim_nodes.specs.Seats.{IsUp};
+ghost use Rattle.lk_sim_nodes.specs.SimNodes.{IsUp};
 ghost use Rattle.lk_progress.specs.Deciding.{acceptances};
 ghost use Rattle.lk_world_progress.specs.Balloting.{HasSentTo};
 ghost use Rattle.lk_world_progress.specs.Delivering.{HearsInTurn};
@@ -35,8 +35,8 @@ pub fn hand_replies<M: Machine>(
     vote: &Vote,
 ) -> Result<(), Halt>
     requires cluster { cluster ≡ world.old.genesis.cluster }
-    requires up { (n : ℕ) → Contains nodes.now n → IsUp world.old.seats n }
-    requires leader { IsUp world.old.seats leader }
+    requires up { (n : ℕ) → Contains nodes.now n → IsUp world.old.sim_nodes n }
+    requires leader { IsUp world.old.sim_nodes leader }
     requires sent { (n : ℕ) → Contains nodes.now n → HasSentTo world.old n leader (kinds.Accepted vote.now) }
     ensures ok { OnOk result
         (HearsInTurn M.meaning M.IsText leader (acceptances nodes.now vote.now) world.old world.new) }
@@ -58,7 +58,7 @@ fn propose<M: Machine>(
     request: &Request,
 ) -> Result<(), Halt>
     requires cluster { cluster ≡ world.old.genesis.cluster }
-    requires up { IsUp world.old.seats leader }
+    requires up { IsUp world.old.sim_nodes leader }
     ensures ok { OnOk result (TakesRequest M.meaning M.IsText leader request.now world.old world.new) }
     ensures err { IfErr result (λ h. HaltsFor h world.new) }
 {

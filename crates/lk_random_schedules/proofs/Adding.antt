@@ -5,12 +5,12 @@ use Rattle.std.proofs.Math.Seq.{take-append_seam}
 use Rattle.lk_replica.specs.Behaviours.{Behaviour}
 use Rattle.lk_script_lines.specs.EventLines.{line_of, lines_for}
 use Rattle.lk_sim.specs.Runs.{AreExecuted}
-use Rattle.lk_sim.specs.Scenes.{Scene}
+use Rattle.lk_sim.specs.WorldStates.{WorldState}
 use Rattle.lk_sim.specs.declared.event.Event.{Event}
 use Rattle.lk_random_schedules.specs.Transcripts.{kept_lines, AddsSome}
 use Rattle.lk_random_schedules.specs.declared.transcript.Transcript.{Transcript}
 
-passes_on : {R : Type 0} (b : Behaviour R) (es fs : List Event) (old mid new : Scene R) → AreExecuted b es old mid
+passes_on : {R : Type 0} (b : Behaviour R) (es fs : List Event) (old mid new : WorldState R) → AreExecuted b es old mid
     → AreExecuted b fs mid new → AreExecuted b (es ++ fs) old new
 passes_on b [] fs old mid new p q = subst (λ w. AreExecuted b fs w new) p q
 passes_on b (e ∷ es) fs old mid new p q = (p.0, p.1, passes_on b es fs p.0 mid new p.2 q)
@@ -23,7 +23,7 @@ lines_on true (e ∷ es) fs =
     ∙ sym (append_assoc (line_of e) (10 ∷ lines_for es) (lines_for fs))
 
 -- some events, and then some more
-pub adds_on : {R : Type 0} (b : Behaviour R) (old mid new : Scene R) (t u v : Transcript) → AddsSome b old t mid u
+pub adds_on : {R : Type 0} (b : Behaviour R) (old mid new : WorldState R) (t u v : Transcript) → AddsSome b old t mid u
     → AddsSome b mid u new v → AddsSome b old t new v
 adds_on b old mid new t u v p q =
     let es : List Event = p.0 in
@@ -55,7 +55,7 @@ cut_back kept text more cut is =
     is ∙ take-append_seam text more ∙ sym (append-nil text) ∙ ap (λ (l : List ℕ). text ++ l) (no_lines kept)
 
 -- no event
-pub adds_none : {R : Type 0} (b : Behaviour R) (old : Scene R) (t : Transcript) → AddsSome b old t old t
+pub adds_none : {R : Type 0} (b : Behaviour R) (old : WorldState R) (t : Transcript) → AddsSome b old t old t
 adds_none b old t =
     ([], (refl, refl, sym (append-nil t.text.items) ∙ ap (λ (l : List ℕ). t.text.items ++ l) (no_lines t.is_kept)))
 

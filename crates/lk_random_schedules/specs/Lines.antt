@@ -6,7 +6,7 @@ use Rattle.lk_node_interface.specs.declared.note.Note.TheVariants.{Ran}
 use Rattle.lk_replica.specs.Behaviours.{Behaviour}
 use Rattle.lk_script_lines.specs.EventLines.{lines_for}
 use Rattle.lk_sim.specs.Runs.{AreExecuted}
-use Rattle.lk_sim.specs.Scenes.{Scene}
+use Rattle.lk_sim.specs.WorldStates.{WorldState}
 use Rattle.lk_sim.specs.declared.event.Event.{Event}
 use Rattle.lk_random_schedules.specs.Schedules.{IsNew, Fuzzes}
 use Rattle.lk_random_schedules.specs.declared.plan.Plan.{Plan}
@@ -31,14 +31,14 @@ abbrev pub done_line : ℕ → ℕ → List ℕ
 done_line count furthest = (codes "done " ++ decimal count) ++ (codes " positions " ++ decimal furthest) ++ 10 ∷ []
 
 -- a run of the plan in a new world, and how it ends
-pub record IsRun {R : Type 0} (b : Behaviour R) (plan : Plan) (begun ended : Scene R) : Type 0 where
+pub record IsRun {R : Type 0} (b : Behaviour R) (plan : Plan) (begun ended : WorldState R) : Type 0 where
   pub new_world : IsNew begun
   pub fuzzes : Fuzzes b plan begun ended
 
 -- the text is what a run of the plan prints
 pub record Reports {R : Type 0} (b : Behaviour R) (plan : Plan) (text : List ℕ) : Type 0 where
-  pub begun : Scene R
-  pub ended : Scene R
+  pub begun : WorldState R
+  pub ended : WorldState R
   pub run : IsRun b plan begun ended
   pub furthest : ℕ
   pub is_furthest : IsFurthest ended.trace furthest
@@ -50,8 +50,8 @@ world_line = codes "genesis 5 2 1:7001 2:7002 3:7003\n"
 
 -- the text is a script of a run of the plan: its events lead from the new world to the end of that run
 pub record IsScript {R : Type 0} (b : Behaviour R) (plan : Plan) (text : List ℕ) : Type 0 where
-  pub begun : Scene R
-  pub ended : Scene R
+  pub begun : WorldState R
+  pub ended : WorldState R
   pub run : IsRun b plan begun ended
   pub events : List Event
   pub are_executed : AreExecuted b events begun ended

@@ -6,7 +6,7 @@ use Rattle.std.proofs.lemmas.List.{take-replicate, length-replicate}
 use Rattle.lk_replica.specs.Behaviours.{Behaviour}
 use Rattle.lk_sim.specs.Events.{IsExecuted, IsRefused}
 use Rattle.lk_sim.specs.Runs.{AreExecuted}
-use Rattle.lk_sim.specs.Scenes.{Scene}
+use Rattle.lk_sim.specs.WorldStates.{WorldState}
 use Rattle.lk_sim.specs.declared.event.Event.{Event}
 use Rattle.lk_sim_nodes.specs.declared.refused.Refused.{Refused}
 use Rattle.lk_script_lines.specs.WorldLines.{SpellsInstruction}
@@ -22,7 +22,7 @@ module _ {R : Type 0} (b : Behaviour R) where
       × (new.done ≡ old.done + k)
 
   -- where none was refused, all events have happened
-  pub all_passed : (events : List Event) (k : ℕ) (old new : Scene R) → Follows b old events k None new
+  pub all_passed : (events : List Event) (k : ℕ) (old new : WorldState R) → Follows b old events k None new
       → AreExecuted b events old new
   all_passed events k old new f =
       subst (λ w. AreExecuted b events old w) (sym f.stops.1)
@@ -31,7 +31,7 @@ module _ {R : Type 0} (b : Behaviour R) where
 
   -- ---- one event
 
-  pub once : {E : Type 0} (e : Event) (result : Result (Option Refused) E) (old new : Scene R) (before after : ℕ)
+  pub once : {E : Type 0} (e : Event) (result : Result (Option Refused) E) (old new : WorldState R) (before after : ℕ)
       → (result ≡ Ok None → IsExecuted b old e new × (after ≡ before + 1))
       → ((r : Refused) → result ≡ Ok (Some r) → IsRefused b old e r new × (after ≡ before))
       → IfOk result (λ refused. (k : ℕ) × Follows b old (e ∷ []) k refused new × (after ≡ before + k))
@@ -45,12 +45,12 @@ module _ {R : Type 0} (b : Behaviour R) where
   -- ---- the same event many times
 
   module _ (e : Event) where
-    more : (n : ℕ) (old mid new : Scene R) → AreExecuted b (replicate n e) old mid → IsExecuted b mid e new
+    more : (n : ℕ) (old mid new : WorldState R) → AreExecuted b (replicate n e) old mid → IsExecuted b mid e new
         → AreExecuted b (replicate (suc n) e) old new
     more zero old mid new p d = (new, subst (λ w. IsExecuted b w e new) p d, refl)
     more (suc n) old mid new p d = (p.0, p.1, more n p.0 mid new p.2 d)
 
-    pub one_more : (n : ℕ) (old mid new : Scene R) → AreExecuted b (replicate n e) old mid → IsExecuted b mid e new
+    pub one_more : (n : ℕ) (old mid new : WorldState R) → AreExecuted b (replicate n e) old mid → IsExecuted b mid e new
         → AreExecuted b (replicate (n + 1) e) old new
     one_more n old mid new p d =
         subst (λ k. AreExecuted b (replicate k e) old new) (sym (add-one n)) (more n old mid new p d)
@@ -61,7 +61,7 @@ module _ {R : Type 0} (b : Behaviour R) where
     at (suc times) (suc i) below = at times i (omega (arith, below))
 
     -- the next one was refused
-    pub cut_short : (times i : ℕ) (old mid new : Scene R) (r : Refused) → i < times
+    pub cut_short : (times i : ℕ) (old mid new : WorldState R) (r : Refused) → i < times
         → AreExecuted b (replicate i e) old mid
         → IsRefused b mid e r new → Follows b old (replicate times e) i (Some r) new
     cut_short times i old mid new r below p refused = record {
@@ -71,7 +71,7 @@ module _ {R : Type 0} (b : Behaviour R) where
     }
 
     -- none was
-    pub done : (times : ℕ) (old new : Scene R) → AreExecuted b (replicate times e) old new
+    pub done : (times : ℕ) (old new : WorldState R) → AreExecuted b (replicate times e) old new
         → Follows b old (replicate times e) times None new
     done times old new p = record {
       last = new;

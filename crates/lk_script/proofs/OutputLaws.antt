@@ -136,12 +136,12 @@ cluster_once line c d x y = decimal_injective c d x.0 y.0 (ap (λ (t : List ℕ)
 abbrev pub IsPlain : {R : Type 0} → Script R → List (List ℕ) → Type 0
 IsPlain begun lines = OpensWorld lines → ⊥
 IsPlain (table cluster L) lines = ⊤
-IsPlain (world scene done) lines = ⊥
+IsPlain (world world_state done) lines = ⊥
 
 plain_skipped : {R : Type 0} (s : Script R) (lines : List (List ℕ)) → IsPlain s ([] ∷ lines) → IsPlain s lines
 plain_skipped begun lines plain = λ opened. plain (later lines opened)
 plain_skipped (table cluster L) lines plain = tt
-plain_skipped (world scene done) lines plain = absurd plain
+plain_skipped (world world_state done) lines plain = absurd plain
 
 plain_taken : {R : Type 0} (b : Behaviour R) (s after : Script R) (line out : List ℕ) (lines : List (List ℕ))
     → IsPlain s (line ∷ lines) → RunsLine b s line out after → IsPlain after lines
@@ -155,7 +155,7 @@ not_refused : {R : Type 0} (b : Behaviour R) (s : Script R) (line out : List ℕ
     → IsPlain s lines → Refuses b s line out r → ⊥
 not_refused b begun line out r lines plain refused = refused
 not_refused b (table cluster L) line out r lines plain refused = refused
-not_refused b (world scene done) line out r lines plain refused = plain
+not_refused b (world world_state done) line out r lines plain refused = plain
 
 takes_once : {R : Type 0} (b : Behaviour R) (s : Script R) (line out out' : List ℕ) (after after' : Script R)
     (lines : List (List ℕ)) → IsPlain s (line ∷ lines) → RunsLine b s line out after → RunsLine b s line out' after'

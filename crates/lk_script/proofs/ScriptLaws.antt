@@ -48,7 +48,7 @@ some_line b (table cluster L) server new line text fits same printed =
           (prints cluster L line p.0 p.1 p.2 p.3 (subst (λ (k : ℕ). Prints k L p.0 p.1 p.2) fits.0 p.4)),
       (same ∙ fits.0, p.6),
     )
-some_line b (world scene done) server new line text fits same printed = absurd fits
+some_line b (world world_state done) server new line text fits same printed = absurd fits
 
 -- the line that sets something up
 pub none_line : {R : Type 0} (b : Behaviour R) (s : Script R) (new : Mode R) (line text : List ℕ) → Fits s mode.Unset
@@ -57,7 +57,7 @@ pub none_line : {R : Type 0} (b : Behaviour R) (s : Script R) (new : Mode R) (li
 none_line b begun new line text fits set_up empty =
     (set_up.0, subst (λ (t : List ℕ). RunsLine b begun line t set_up.0) (sym empty) set_up.1, set_up.2)
 none_line b (table k L) new line text fits set_up empty = absurd fits
-none_line b (world scene done) new line text fits set_up empty = absurd fits
+none_line b (world world_state done) new line text fits set_up empty = absurd fits
 
 -- the first line is neither that of a table nor that of a world
 pub no_first : (line : List ℕ) → ((cluster : ℕ) → IsTableLine line cluster → ⊥)
@@ -70,19 +70,19 @@ pub no_begin : {R : Type 0} (s : Script R) (line : List ℕ) → Fits s mode.Uns
     → IsUnderstood s line → ⊥
 no_begin begun line fits none u = none u
 no_begin (table cluster L) line fits none u = absurd fits
-no_begin (world scene done) line fits none u = absurd fits
+no_begin (world world_state done) line fits none u = absurd fits
 
 pub no_bytes : {R : Type 0} (s : Script R) (server : TableRun) (line : List ℕ) → Fits s (mode.Table server)
     → ((bytes : List ℕ) → SpellsBytes line bytes → ⊥) → IsUnderstood s line → ⊥
 no_bytes begun server line fits none u = absurd fits
 no_bytes (table cluster L) server line fits none u = none u.0 u.1
-no_bytes (world scene done) server line fits none u = absurd fits
+no_bytes (world world_state done) server line fits none u = absurd fits
 
 pub no_instruction : {R : Type 0} (s : Script R) (run : WorldRun R) (line : List ℕ) → Fits s (mode.World run)
     → ((o : Instruction) → SpellsInstruction line o → ⊥) → IsUnderstood s line → ⊥
 no_instruction begun run line fits none u = absurd fits
 no_instruction (table cluster L) run line fits none u = absurd fits
-no_instruction (world scene done) run line fits none u = none u.0 u.1
+no_instruction (world world_state done) run line fits none u = none u.0 u.1
 
 -- a line of a world, of which no event is refused
 pub world_line : {R : Type 0} (b : Behaviour R) (s : Script R) (run new : WorldRun R) (line text : List ℕ)
@@ -90,12 +90,12 @@ pub world_line : {R : Type 0} (b : Behaviour R) (s : Script R) (run new : WorldR
     → (after : Script R) × RunsLine b s line text after × Fits after (mode.World new)
 world_line b begun run new line text fits went = absurd fits
 world_line b (table cluster L) run new line text fits went = absurd fits
-world_line b (world scene done) run new line text fits went =
+world_line b (world world_state done) run new line text fits went =
     let o = went.0 in
     let passes = subst (λ w. AreExecuted b (events_of o) w new.world) fits.0
     (all_passed b (events_of o) went.1 run.world new.world went.3) in (
       world new.world (done + length (events_of o)),
-      happens scene new.world done line text o went.2 passes,
+      happens world_state new.world done line text o went.2 passes,
       (refl, went.4 ∙ ap₂ (λ (m n : ℕ). m + n) fits.1 went.3.stops.0),
     )
 
@@ -105,7 +105,7 @@ pub world_refusal : {R : Type 0} (b : Behaviour R) (s : Script R) (run new : Wor
     → (printed : List ℕ) × (text ≡ printed ++ refused_line r) → Refuses b s line text r
 world_refusal b begun run new line text r fits went printed = absurd fits
 world_refusal b (table cluster L) run new line text r fits went printed = absurd fits
-world_refusal b (world scene done) run new line text r fits went printed = record {
+world_refusal b (world world_state done) run new line text r fits went printed = record {
   instruction = went.0;
   spelled = went.2;
   done = went.1;

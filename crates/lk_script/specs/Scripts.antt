@@ -5,7 +5,7 @@ use Rattle.lk_members.specs.Effects.{Command}
 use Rattle.lk_members.specs.Rosters.{Genesis}
 use Rattle.lk_replica.specs.Behaviours.{Behaviour}
 use Rattle.lk_sim.specs.Runs.{AreExecuted}
-use Rattle.lk_sim.specs.Scenes.{Scene}
+use Rattle.lk_sim.specs.WorldStates.{WorldState}
 use Rattle.lk_sim_nodes.specs.declared.refused.Refused.{Refused}
 use Rattle.lk_script_lines.specs.HexLines.{SpellsBytes}
 use Rattle.lk_script.specs.TableMode.{Prints, IsTableLine}
@@ -19,7 +19,7 @@ use Rattle.lk_script_lines.specs.declared.instruction.Instruction.{Instruction}
 pub data Script (R : Type 0) : Type 0 where
   begun : Script R
   table : (cluster : ℕ) (L : List Command) → Script R
-  world : (scene : Scene R) (done : ℕ) → Script R
+  world : (world_state : WorldState R) (done : ℕ) → Script R
 
 -- the line sets up a table, or a world
 abbrev pub IsFirstLine : List ℕ → Type 0
@@ -30,7 +30,7 @@ IsFirstLine line = ((cluster : ℕ) × IsTableLine line cluster)
 abbrev pub IsUnderstood : {R : Type 0} → Script R → List ℕ → Type 0
 IsUnderstood begun line = IsFirstLine line
 IsUnderstood (table cluster L) line = (bytes : List ℕ) × SpellsBytes line bytes
-IsUnderstood (world scene done) line = (o : Instruction) × SpellsInstruction line o
+IsUnderstood (world world_state done) line = (o : Instruction) × SpellsInstruction line o
 
 -- a valid line, what it prints and what is set up after it, if the replicas of a world behave like this
 pub data RunsLine {R : Type 0} (b : Behaviour R) : Script R → List ℕ → List ℕ → Script R → Type 0 where
@@ -44,17 +44,18 @@ pub data RunsLine {R : Type 0} (b : Behaviour R) : Script R → List ℕ → Lis
       → Prints cluster L bytes text after
       → RunsLine b (table cluster L) line (text ++ 10 ∷ []) (table cluster after)
   -- or an event of the world, or several, which happen in order; nothing is said here of what they print
-  happens : (old new : Scene R) (done : ℕ) (line out : List ℕ) (o : Instruction) → SpellsInstruction line o
+  happens : (old new : WorldState R) (done : ℕ) (line out : List ℕ) (o : Instruction) → SpellsInstruction line o
       → AreExecuted b (events_of o) old new
       → RunsLine b (world old done) line out (world new (done + length (events_of o)))
 
 -- a valid line, of which an event is rejected: those before it happen in order, the rejection leaves this world, and
 -- what the line prints ends with it
-pub record IsCutShort {R : Type 0} (b : Behaviour R) (old : Scene R) (line out : List ℕ) (r : Refused) : Type 0 where
+pub record IsCutShort {R : Type 0} (b : Behaviour R) (old : WorldState R) (line out : List ℕ) (r : Refused)
+    : Type 0 where
   pub instruction : Instruction
   pub spelled : SpellsInstruction line instruction
   pub done : ℕ
-  pub new : Scene R
+  pub new : WorldState R
   pub follows : Follows b old (events_of instruction) done (Some r) new
   pub printed : List ℕ
   pub out_is : out ≡ printed ++ refused_line r
@@ -63,7 +64,7 @@ pub record IsCutShort {R : Type 0} (b : Behaviour R) (old : Scene R) (line out :
 abbrev pub Refuses : {R : Type 0} → Behaviour R → Script R → List ℕ → List ℕ → Refused → Type 0
 Refuses b begun line out r = ⊥
 Refuses b (table cluster L) line out r = ⊥
-Refuses b (world scene done) line out r = IsCutShort b scene line out r
+Refuses b (world world_state done) line out r = IsCutShort b world_state line out r
 
 -- how lines end: all are valid, and this is set up; or this line is not; or an event was rejected
 pub data Stop (R : Type 0) : Type 0 where
@@ -93,7 +94,7 @@ pub data Runs {R : Type 0} (b : Behaviour R) : Script R → ℕ → List (List �
 abbrev pub last_line : {R : Type 0} → Script R → List ℕ
 last_line begun = []
 last_line (table cluster L) = []
-last_line (world scene done) = done_line done
+last_line (world world_state done) = done_line done
 
 -- the first line that is not empty begins a world
 pub data OpensWorld : List (List ℕ) → Type 0 where

@@ -42,9 +42,9 @@ Fits begun (mode.World run) = ⊥
 Fits (table cluster L) mode.Unset = ⊥
 Fits (table cluster L) (mode.Table server) = (server.cluster ≡ cluster) × HasExecuted L server
 Fits (table cluster L) (mode.World run) = ⊥
-Fits (world scene done) mode.Unset = ⊥
-Fits (world scene done) (mode.Table server) = ⊥
-Fits (world scene done) (mode.World run) = (run.world ≡ scene) × (run.done ≡ done)
+Fits (world world_state done) mode.Unset = ⊥
+Fits (world world_state done) (mode.Table server) = ⊥
+Fits (world world_state done) (mode.World run) = (run.world ≡ world_state) × (run.done ≡ done)
 
 -- how many positions, or events, were done for a script so far
 abbrev pub done_in : {R : Type 0} → Mode R → ℕ

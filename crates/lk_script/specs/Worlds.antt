@@ -5,7 +5,7 @@ use Rattle.lk_members.specs.Rosters.{Genesis}
 use Rattle.lk_replica.specs.Behaviours.{Behaviour}
 use Rattle.lk_sim_nodes.specs.Refusals.{refusal_number}
 use Rattle.lk_sim.specs.Runs.{Runs}
-use Rattle.lk_sim.specs.Scenes.{Scene}
+use Rattle.lk_sim.specs.WorldStates.{WorldState}
 use Rattle.lk_sim.specs.declared.event.Event.{Event}
 use Rattle.lk_sim.specs.declared.event.Event.TheVariants.{Tick}
 use Rattle.lk_sim_nodes.specs.declared.refused.Refused.{Refused}
@@ -15,8 +15,8 @@ use Rattle.lk_script_lines.specs.declared.instruction.Instruction.{Instruction}
 use Rattle.lk_script_lines.specs.declared.instruction.Instruction.TheVariants.{Ticks, Once}
 
 -- a world in which nothing has happened
-abbrev pub new_world : {R : Type 0} → Genesis → Scene R
-new_world genesis = record { genesis = genesis; seats = []; sent = []; trace = []; ended = None }
+abbrev pub new_world : {R : Type 0} → Genesis → WorldState R
+new_world genesis = record { genesis = genesis; sim_nodes = []; sent = []; trace = []; ended = None }
 
 -- the events of an instruction, one after another
 abbrev pub events_of : Instruction → List Event
@@ -24,7 +24,7 @@ events_of (Ticks n times) = replicate times (Tick n)
 events_of (Once e) = e ∷ []
 
 -- this many of the events happened in order: all of them, or the next one was rejected for this reason
-abbrev pub Follows : {R : Type 0} → Behaviour R → Scene R → List Event → ℕ → Option Refused → Scene R → Type 0
+abbrev pub Follows : {R : Type 0} → Behaviour R → WorldState R → List Event → ℕ → Option Refused → WorldState R → Type 0
 Follows b old events done refused new = Runs b old events (record { done = done; refused = refused }) new
 
 -- the name of a rejection

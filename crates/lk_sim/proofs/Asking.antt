@@ -26,9 +26,9 @@ use Rattle.lk_sim_nodes.specs.Told.{NotesReplies}
 use Rattle.lk_sim.specs.Traces.{asked_in, happened, told_in}
 use Rattle.lk_sim_nodes.proofs.Tellings.{tells_append}
 use Rattle.lk_sim.proofs.Told.{told_in-append}
-use Rattle.lk_sim_nodes.specs.Seats.{SeatFits, At}
+use Rattle.lk_sim_nodes.specs.SimNodes.{SimNodeFits, At}
 use Rattle.lk_sim.specs.Worlds.{WorldInvariant}
-use Rattle.lk_sim_nodes.specs.declared.seat.Seat.{Seat}
+use Rattle.lk_sim_nodes.specs.declared.sim_node.SimNode.{SimNode}
 use Rattle.lk_sim.proofs.Lists.{asked_in-append, asked_among}
 use Rattle.lk_sim.proofs.Growth.{disks_move, still_asked, still_holding, still_bears}
 use Rattle.lk_sim.proofs.Ordering.{still_in_time}
@@ -40,8 +40,8 @@ asked_last trace r = subst (λ l. Contains l r) (sym (asked_in-append trace (not
     (Contains-append_right (asked_in trace) (r ∷ []) r (0, omega arith, refl))
 
 module _ {R : Type 0} (Shows : R → Genesis → ℕ → Holding → Type 0) (disks : R → Side → Disk) (m : Meaning)
-    (genesis : Genesis) (seats : List (Seat R)) (sent : List Datagram) (trace : List Note)
-    (w : WorldInvariant Shows disks m genesis seats sent trace) (r : RequestValue) where
+    (genesis : Genesis) (sim_nodes : List (SimNode R)) (sent : List Datagram) (trace : List Note)
+    (w : WorldInvariant Shows disks m genesis sim_nodes sent trace) (r : RequestValue) where
   -- datagrams of clients
   module _ (more : List Datagram) (fits : WorldFits genesis (record { sent = sent ++ more; states = w.states }))
       (silent : (d : Datagram) → Contains more d → (n : ℕ) (x : NodeMessage) → Spells (said_by genesis n x) d.bytes → ⊥)
@@ -64,8 +64,8 @@ module _ {R : Type 0} (Shows : R → Genesis → ℕ → Holding → Type 0) (di
     images n d f = disks_move m genesis sent (sent ++ more) (asked_in trace) (asked_in (trace ++ notes)) n d
         (λ s c x h. c x (old_sent n x h)) (still_stems genesis sent more) f
 
-    seated : (k : ℕ) (t : Seat R) → At seats k t → SeatFits Shows disks m since (w.states t.number) t
-    seated k t at = let f = w.seated k t at in record {
+    as_sim_nodes : (k : ℕ) (t : SimNode R) → At sim_nodes k t → SimNodeFits Shows disks m since (w.states t.number) t
+    as_sim_nodes k t at = let f = w.as_sim_nodes k t at in record {
       up = λ q is. let u = f.up q is in record {
         holding = u.holding;
         paxos = u.paxos;
@@ -79,11 +79,11 @@ module _ {R : Type 0} (Shows : R → Genesis → ℕ → Holding → Type 0) (di
       room = f.room;
     }
 
-    goes_on : WorldInvariant Shows disks m genesis seats (sent ++ more) (trace ++ notes)
+    goes_on : WorldInvariant Shows disks m genesis sim_nodes (sent ++ more) (trace ++ notes)
     goes_on = record {
       states = w.states;
       world = fits;
-      seated = seated;
+      as_sim_nodes = as_sim_nodes;
       apart = w.apart;
       known = λ n x h. w.known n x (old_sent n x h);
       requests = λ d q cluster c said. elim (Contains-append_cases sent more d c) [
@@ -108,15 +108,15 @@ module _ {R : Type 0} (Shows : R → Genesis → ℕ → Holding → Type 0) (di
     }
 
   -- a request that is injected
-  pub injected_holds : WorldInvariant Shows disks m genesis seats sent (trace ++ note.Asked r ∷ [])
-  injected_holds = subst (λ l. WorldInvariant Shows disks m genesis seats l (trace ++ note.Asked r ∷ []))
+  pub injected_holds : WorldInvariant Shows disks m genesis sim_nodes sent (trace ++ note.Asked r ∷ [])
+  injected_holds = subst (λ l. WorldInvariant Shows disks m genesis sim_nodes l (trace ++ note.Asked r ∷ []))
       (append-nil sent)
       (goes_on [] (subst (λ l. WorldFits genesis (record { sent = l; states = w.states }))
       (sym (append-nil sent)) w.world) (λ d c. absurd (omega (arith, c.1))) refl (λ d c. absurd (omega (arith, c.1))))
 
   -- a client's datagram
   pub asked_holds : (d : Datagram) (a : IsClientRequest d) → a.request ≡ r
-      → WorldInvariant Shows disks m genesis seats (sent ++ d ∷ []) (trace ++ note.Asked r ∷ [])
+      → WorldInvariant Shows disks m genesis sim_nodes (sent ++ d ∷ []) (trace ++ note.Asked r ∷ [])
   asked_holds d a is = goes_on (d ∷ []) (asked_fits genesis (record { sent = sent; states = w.states }) d w.world a)
       (λ x c n k said. asked_is_no_saying genesis d a n k
       (subst (λ (z : Datagram). Spells (said_by genesis n k) z.bytes) (sym (only d x c)) said))

@@ -10,23 +10,23 @@ use Rattle.lk_sim_nodes.specs.Ends.{IsEndByCalls}
 use Rattle.lk_sim.specs.Events.{IsGiven, IsGivenTogether, ComesUp, HasEffect, IsExecuted, Wants, IsRefused}
 use Rattle.lk_sim.specs.Groups.{given_by}
 use Rattle.lk_sim.specs.Runs.{AreExecuted, StopsAt, Runs}
-use Rattle.lk_sim.specs.Scenes.{Scene}
+use Rattle.lk_sim.specs.WorldStates.{WorldState}
 use Rattle.lk_sim.specs.Traces.{asked_note}
 use Rattle.lk_sim.specs.declared.end.RunEnd.{RunEnd}
 use Rattle.lk_sim.specs.declared.event.Event.{Event}
 use Rattle.lk_sim.specs.declared.event.Event.TheVariants as event
 use Rattle.lk_sim_nodes.specs.declared.refused.Refused.{Refused}
-use Rattle.lk_sim_nodes.specs.declared.seat.Seat.{Seat}
+use Rattle.lk_sim_nodes.specs.declared.sim_node.SimNode.{SimNode}
 use Rattle.lk_sim_nodes.proofs.Faults.{told_as}
 
 module _ {R : Type 0} (b : Behaviour R) where
-  nothing_told : (new : Scene R) → new.ended ≡ None → IsEndByCalls new.ended
+  nothing_told : (new : WorldState R) → new.ended ≡ None → IsEndByCalls new.ended
   nothing_told new is = told_as new.ended None is tt
 
-  come_told : (old new : Scene R) (t : Seat R) (d : Memory) → ComesUp b old new t d → IsEndByCalls new.ended
+  come_told : (old new : WorldState R) (t : SimNode R) (d : Memory) → ComesUp b old new t d → IsEndByCalls new.ended
   come_told old new t d c = elim c [ inl r ↦ nothing_told new r.ended | inr f ↦ f.told ]
 
-  given_told : (old new : Scene R) (n : ℕ) (x : Input) (asked : List Note)
+  given_told : (old new : WorldState R) (n : ℕ) (x : Input) (asked : List Note)
       → IsGiven b old new n x asked → IsEndByCalls new.ended
   given_told old new n x asked k =
       elim k.comes_to [
@@ -36,7 +36,7 @@ module _ {R : Type 0} (b : Behaviour R) where
         | inr (inr f) ↦ f.told
       ]
 
-  together_told : (old new : Scene R) (n : ℕ) (given : List Input)
+  together_told : (old new : WorldState R) (n : ℕ) (given : List Input)
       → IsGivenTogether b old new n given → IsEndByCalls new.ended
   together_told old new n given k =
       elim k.comes_to [
@@ -46,8 +46,8 @@ module _ {R : Type 0} (b : Behaviour R) where
         | inr (inr f) ↦ f.told
       ]
 
-  brings_told : (old new : Scene R) (e : Event) → HasEffect b old e new → IsEndByCalls new.ended
-  brings_told old new (event.Start n) k = come_told old new k.seat empty k.comes
+  brings_told : (old new : WorldState R) (e : Event) → HasEffect b old e new → IsEndByCalls new.ended
+  brings_told old new (event.Start n) k = come_told old new k.sim_node empty k.comes
   brings_told old new (event.Restart n) k = come_told old new k.next k.device k.comes
   brings_told old new (event.Tick n) k = given_told old new n input.Tick [] k
   brings_told old new (event.Nudge n reason) k = given_told old new n (input.Nudge reason) [] k
@@ -62,13 +62,14 @@ module _ {R : Type 0} (b : Behaviour R) where
   brings_told old new (event.FailAt n count) k = nothing_told new k.ended
   brings_told old new (event.Arm n count bytes) k = nothing_told new k.ended
 
-  pub done_told : (old new : Scene R) (e : Event) → IsExecuted b old e new → IsEndByCalls new.ended
+  pub done_told : (old new : WorldState R) (e : Event) → IsExecuted b old e new → IsEndByCalls new.ended
   done_told old new e k = brings_told old new e k.1
 
-  same_told : (old new : Scene R) → new ≡ old → IsEndByCalls old.ended → IsEndByCalls new.ended
-  same_told old new same told = subst (λ (z : Scene R). IsEndByCalls z.ended) (sym same) told
+  same_told : (old new : WorldState R) → new ≡ old → IsEndByCalls old.ended → IsEndByCalls new.ended
+  same_told old new same told = subst (λ (z : WorldState R). IsEndByCalls z.ended) (sym same) told
 
-  wants_told : (old new : Scene R) (e : Event) → Wants b old e new → IsEndByCalls old.ended → IsEndByCalls new.ended
+  wants_told : (old new : WorldState R) (e : Event) → Wants b old e new → IsEndByCalls old.ended
+      → IsEndByCalls new.ended
   wants_told old new (event.Start m) k told = same_told old new k told
   wants_told old new (event.Restart m) k told = told_as new.ended old.ended k.ended told
   wants_told old new (event.Tick m) k told = told_as new.ended old.ended k.ended told
@@ -85,22 +86,23 @@ module _ {R : Type 0} (b : Behaviour R) where
   wants_told old new (event.FailAt m count) k told = absurd k
   wants_told old new (event.Arm m count bytes) k told = absurd k
 
-  pub refused_told : (old new : Scene R) (e : Event) (r : Refused) → IsEndByCalls old.ended
+  pub refused_told : (old new : WorldState R) (e : Event) (r : Refused) → IsEndByCalls old.ended
       → IsRefused b old e r new → IsEndByCalls new.ended
   refused_told old new e r told k =
       elim k [ inl same ↦ same_told old new same.1 told | inr wants ↦ wants_told old new e wants.2 told ]
 
-  passes_told : (es : List Event) (old new : Scene R) → AreExecuted b es old new → IsEndByCalls old.ended
+  passes_told : (es : List Event) (old new : WorldState R) → AreExecuted b es old new → IsEndByCalls old.ended
       → IsEndByCalls new.ended
   passes_told [] old new p told = same_told old new p told
   passes_told (e ∷ es) old new p told = passes_told es p.0 new p.2 (done_told old p.0 e p.1)
 
-  stops_told : (es : List Event) (done : ℕ) (o : Option Refused) (last new : Scene R) → StopsAt b es done o last new
+  stops_told : (es : List Event) (done : ℕ) (o : Option Refused) (last new : WorldState R)
+      → StopsAt b es done o last new
       → IsEndByCalls last.ended → IsEndByCalls new.ended
   stops_told es done None last new k told = same_told last new k.1 told
   stops_told es done (Some r) last new k told = refused_told last new k.0 r told k.2
 
-  pub run_told : (old new : Scene R) (es : List Event) (how : RunEnd) → Runs b old es how new
+  pub run_told : (old new : WorldState R) (es : List Event) (how : RunEnd) → Runs b old es how new
       → IsEndByCalls old.ended → IsEndByCalls new.ended
   run_told old new es how k told =
       stops_told es how.done how.refused k.last new k.stops (passes_told

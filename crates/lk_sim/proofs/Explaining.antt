@@ -22,10 +22,10 @@ use Rattle.lk_node.specs.Leavings.{DisksFit}
 use Rattle.lk_sim.specs.Traces.{asked_by, asked_in, happened}
 use Rattle.lk_sim.specs.Explained.{Explains}
 use Rattle.lk_sim.specs.Orders.{InOrder, ToldInTime}
-use Rattle.lk_sim_nodes.specs.Seats.{At}
+use Rattle.lk_sim_nodes.specs.SimNodes.{At}
 use Rattle.lk_sim.specs.States.{KeepsPacked, SumsUpChosen}
 use Rattle.lk_sim.specs.Worlds.{WorldInvariant}
-use Rattle.lk_sim_nodes.specs.declared.seat.Seat.{Seat}
+use Rattle.lk_sim_nodes.specs.declared.sim_node.SimNode.{SimNode}
 use Rattle.lk_sim.proofs.Ordering as ordering
 
 asked_of : (x : Note) (r : RequestValue) → Contains (asked_by x) r → x ≡ note.Asked r
@@ -46,8 +46,8 @@ at_place : (L : List Command) (v : Command) → Contains L v → (k : ℕ) × (c
 at_place L v c = (c.0, slice_get-get_or L c.0 v c.1 ∙ ap Some c.2)
 
 module _ {R : Type 0} (Shows : R → Genesis → ℕ → Holding → Type 0) (disks : R → Side → Disk) (m : Meaning)
-    (genesis : Genesis) (seats : List (Seat R)) (sent : List Datagram) (trace : List Note)
-    (w : WorldInvariant Shows disks m genesis seats sent trace) where
+    (genesis : Genesis) (sim_nodes : List (SimNode R)) (sent : List Datagram) (trace : List Note)
+    (w : WorldInvariant Shows disks m genesis sim_nodes sent trace) where
   abbrev sound : Sound genesis sent
   sound = w.world.sound
 
@@ -114,8 +114,8 @@ module _ {R : Type 0} (Shows : R → Genesis → ℕ → Holding → Type 0) (di
 
   pub states : (whole : R → WholeValue)
       → ((r : R) (g : Genesis) (n : ℕ) (x : Holding) → Shows r g n x → SumsUp m g x.paxos.done (whole r))
-      → (k : ℕ) (s : Seat R) → At seats k s → SumsUpChosen whole disks m genesis sent s
-  states whole sums k s at = let f = w.seated k s at in record {
+      → (k : ℕ) (s : SimNode R) → At sim_nodes k s → SumsUpChosen whole disks m genesis sent s
+  states whole sums k s at = let f = w.as_sim_nodes k s at in record {
     executed = λ r is. let u = f.up r is in
         (u.holding.paxos.done, u.fits.paxos.stems.done, sums r genesis s.number u.holding u.shown);
     kept = λ r is. packed_lists s.number (disks r) (f.up r is).left;

@@ -27,17 +27,17 @@ use Rattle.lk_sim_nodes.specs.Outcomes.{HasTakenTogether, HasFallenTogether, Sto
 use Rattle.lk_sim.specs.Concluded.{HasConcludedSteps, HasGivenUp}
 use Rattle.lk_sim.specs.Refusals.{AreFor, IsFor}
 use Rattle.lk_sim_nodes.specs.Rooms.{AreShort}
-use Rattle.lk_sim.specs.Scenes.{Scene}
-use Rattle.lk_sim_nodes.specs.Seats.{At, SeatFits, stopped_on, fallen_on, device_in}
+use Rattle.lk_sim.specs.WorldStates.{WorldState}
+use Rattle.lk_sim_nodes.specs.SimNodes.{At, SimNodeFits, stopped_on, fallen_on, device_in}
 use Rattle.lk_sim_nodes.specs.Told.{NotesReplies}
 use Rattle.lk_sim.specs.Traces.{happened}
 use Rattle.lk_sim.specs.Worlds.{WorldInvariant}
 use Rattle.lk_sim_nodes.specs.declared.end.End.{End}
 use Rattle.lk_sim.specs.declared.event.GroupInput.{GroupInput}
 use Rattle.lk_sim.specs.declared.event.GroupInput.TheVariants as group_input
-use Rattle.lk_sim_nodes.specs.declared.seat.Seat.{Seat}
-use Rattle.lk_sim_nodes.specs.declared.seat.Life.{Life}
-use Rattle.lk_sim_nodes.specs.declared.seat.Life.TheVariants.{Up, Down}
+use Rattle.lk_sim_nodes.specs.declared.sim_node.SimNode.{SimNode}
+use Rattle.lk_sim_nodes.specs.declared.sim_node.RunState.{RunState}
+use Rattle.lk_sim_nodes.specs.declared.sim_node.RunState.TheVariants.{Up, Down}
 use Rattle.lk_sim.proofs.Doing.{StopsOn, at_same, falls}
 use Rattle.lk_sim_nodes.proofs.Fitting.{stopped_fit, down_fits}
 use Rattle.lk_sim.proofs.Given.{set_twice, went_down}
@@ -52,17 +52,17 @@ use Rattle.lk_sim_nodes.proofs.Together.{parts_cut, still_whole}
 
 -- datagrams that were sent may be heard
 pub all_heard : {R : Type 0} (Shows : R → Genesis → ℕ → Holding → Type 0) (disks : R → Side → Disk) (m : Meaning)
-    (genesis : Genesis) (seats : List (Seat R)) (sent : List Datagram) (trace : List Note)
-    → WorldInvariant Shows disks m genesis seats sent trace → (is : List Input) → WereSentTo sent is
+    (genesis : Genesis) (sim_nodes : List (SimNode R)) (sent : List Datagram) (trace : List Note)
+    → WorldInvariant Shows disks m genesis sim_nodes sent trace → (is : List Input) → WereSentTo sent is
     → AllByRecursion (InputFits (happened genesis sent trace)) is
-all_heard Shows disks m genesis seats sent trace w [] were = tt
-all_heard Shows disks m genesis seats sent trace w (Tick ∷ is) were =
-    (tt, all_heard Shows disks m genesis seats sent trace w is were.1)
-all_heard Shows disks m genesis seats sent trace w (Nudge reason ∷ is) were =
-    (tt, all_heard Shows disks m genesis seats sent trace w is were.1)
-all_heard Shows disks m genesis seats sent trace w (Heard bytes ∷ is) were = (
-  heard_sent Shows disks m genesis seats sent trace w were.0.0 were.0.1 bytes were.0.2,
-  all_heard Shows disks m genesis seats sent trace w is were.1,
+all_heard Shows disks m genesis sim_nodes sent trace w [] were = tt
+all_heard Shows disks m genesis sim_nodes sent trace w (Tick ∷ is) were =
+    (tt, all_heard Shows disks m genesis sim_nodes sent trace w is were.1)
+all_heard Shows disks m genesis sim_nodes sent trace w (Nudge reason ∷ is) were =
+    (tt, all_heard Shows disks m genesis sim_nodes sent trace w is were.1)
+all_heard Shows disks m genesis sim_nodes sent trace w (Heard bytes ∷ is) were = (
+  heard_sent Shows disks m genesis sim_nodes sent trace w were.0.0 were.0.1 bytes were.0.2,
+  all_heard Shows disks m genesis sim_nodes sent trace w is were.1,
 )
 
 -- the inputs of a group bring what was sent
@@ -86,9 +86,9 @@ were_brought sent n (t ∷ group_inputs) (i ∷ is) for_it same =
 
 -- ---- what it has done
 
-module _ {R : Type 0} (b : Behaviour R) (old new : Scene R) where
+module _ {R : Type 0} (b : Behaviour R) (old new : WorldState R) where
   -- a node that went on, up to an armed stop at a send if there was one
-  went_together : (r : R) (t next : Seat R) (given : List Input) (steps : List Step) (notes : List Note)
+  went_together : (r : R) (t next : SimNode R) (given : List Input) (steps : List Step) (notes : List Note)
       (batch : List Datagram) (how : Option End) (stop : Option ℕ)
       → (k : HasTakenTogether b r given t steps batch how stop)
       → AreAllOfNodes (parts_of steps k.all) → AreNotesOf (parts_of steps batch) notes → Adds old new notes batch
@@ -104,7 +104,7 @@ module _ {R : Type 0} (b : Behaviour R) (old new : Scene R) where
         calls_succeed = k.calls_succeed;
         no_stop = subst (λ (l : List Datagram). stop_among (b.memory k.replica).meter.trap (length l) ≡ None) k.whole
             k.sends.0;
-        up = ap (λ (z : Seat R). z.life) rests ∙ k.up
+        up = ap (λ (z : SimNode R). z.run_state) rests ∙ k.up
             ∙ ap Up (k.sends.1 ∙ ap (λ (l : List Datagram). after_sends b (length l) k.replica) k.whole);
         of_nodes = of_nodes;
         tells = subst (λ (l : List Datagram). AreNotesOf (parts_of steps l) notes) k.sends.2 tells;
@@ -123,7 +123,7 @@ module _ {R : Type 0} (b : Behaviour R) (old new : Scene R) where
         bytes = bytes;
         stop = subst (λ (l : List Datagram). stop_among (b.memory k.replica).meter.trap (length l)
             ≡ Some (k.sends.0, bytes)) k.whole k.sends.1;
-        down = rests ∙ ap (λ (z : Life R). Down (stopped_on bytes bytes (device_in b z))) (k.up ∙ ap Up k.sends.2);
+        down = rests ∙ ap (λ (z : RunState R). Down (stopped_on bytes bytes (device_in b z))) (k.up ∙ ap Up k.sends.2);
         of_nodes = of_nodes;
         tells = subst (λ (l : List Said). AreNotesOf l notes)
             (ap (parts_of steps) k.sends.3 ∙ parts_cut steps k.all k.sends.0) tells;
@@ -136,7 +136,7 @@ module _ {R : Type 0} (b : Behaviour R) (old new : Scene R) where
       → AreNotesOf (parts_of steps batch) notes → notes ≡ []
   no_notes steps batch notes none tells = subst (λ (l : List Step). AreNotesOf (parts_of l batch) notes) none tells
 
-  fell_together : (Ends : ℕ → Memory → Type 0) (t next : Seat R) (steps : List Step) (notes : List Note)
+  fell_together : (Ends : ℕ → Memory → Type 0) (t next : SimNode R) (steps : List Step) (notes : List Note)
       (batch : List Datagram) (how : Option End) (stop : Option ℕ) → HasFallenTogether Ends t steps batch how stop
       → AreNotesOf (parts_of steps batch) notes → Adds old new notes batch → new.ended ≡ how → next.number ≡ t.number
       → StopsIfArmed b stop t next → IsEndByCalls how → EndsByFault Ends old new next []
@@ -149,21 +149,27 @@ module _ {R : Type 0} (b : Behaviour R) (old new : Scene R) where
       nothing none = subst (λ (l : List Datagram). NotesReplies l []) (sym none) refl
 
   -- a node that was given a group
-  pub given_together : (Shows : R → Genesis → ℕ → Holding → Type 0) (m : Meaning) (i n : ℕ) (s t : Seat R) (r : R)
+  pub given_together : (Shows : R → Genesis → ℕ → Holding → Type 0) (m : Meaning) (i n : ℕ) (s t : SimNode R) (r : R)
       (given : List Input) (steps : List Step) (batch : List Datagram) (how : Option End) (stop : Option ℕ)
-      → At old.seats i s → s.number ≡ n → s.life ≡ Up r → t.number ≡ s.number
+      → At old.sim_nodes i s → s.number ≡ n → s.run_state ≡ Up r → t.number ≡ s.number
       → ((k : HasTakenTogether b r given t steps batch how stop) → AreAllOfNodes (parts_of steps k.all))
-      → HasConcludedSteps Shows b m (record old { seats = set old.seats i t }) i new steps batch how stop
+      → HasConcludedSteps Shows b m (record old { sim_nodes = set old.sim_nodes i t }) i new steps batch how stop
       → IsEndByCalls how
       → HasTakenTogether b r given t steps batch how stop
       ⊎ HasFallenTogether (BreaksTogether b r given) t steps batch how stop → IsGivenTogether b old new n given
   given_together Shows m i n s t r given steps batch how stop at is up number of_nodes k tellable cases = record {
-    seat = s;
+    sim_node = s;
     number = is;
     replica = r;
     up = up;
     next = k.next;
-    replaces = record { index = i; at = at; number = on ∙ number; seats = k.seats ∙ set_twice old.seats i t k.next };
+    replaces = record {
+      index = i;
+      at = at;
+      number = on ∙ number;
+      sim_nodes =
+          k.sim_nodes ∙ set_twice old.sim_nodes i t k.next;
+    };
     comes_to = elim cases [
       | inl q ↦ went_together r t k.next given steps k.notes batch how stop q (of_nodes q) k.tells adds k.ended on rests
       | inr f ↦ inr (inr (fell_together
@@ -171,11 +177,11 @@ module _ {R : Type 0} (b : Behaviour R) (old new : Scene R) where
     ];
   }
     where
-      same : k.seat ≡ t
-      same = at_same (set old.seats i t) i k.seat t k.at (at_set_here old.seats i t at.0)
+      same : k.sim_node ≡ t
+      same = at_same (set old.sim_nodes i t) i k.sim_node t k.at (at_set_here old.sim_nodes i t at.0)
 
       on : k.next.number ≡ t.number
-      on = k.number ∙ ap (λ (z : Seat R). z.number) same
+      on = k.number ∙ ap (λ (z : SimNode R). z.number) same
 
       rests : StopsIfArmed b stop t k.next
       rests = subst (λ z. StopsIfArmed b stop z k.next) same k.rests
@@ -189,12 +195,13 @@ none_taken (s ∷ steps) sent e = absurd (cc e)
 
 -- whatever a group came to, a stop leaves of the node's device what it leaves of the one that the call left
 pub group_left : {R : Type 0} (b : Behaviour R) → TrapsAlone b
-    → (r : R) (given : List Input) (life : Life R) (t : Seat R) (steps : List Step) (batch : List Datagram)
+    → (r : R) (given : List Input) (run_state : RunState R) (t : SimNode R) (steps : List Step) (batch : List Datagram)
     (how : Option End) (stop : Option ℕ)
-    → (steps ≡ [] → batch ≡ [] → ⊥) → life ≡ Up r
+    → (steps ≡ [] → batch ≡ [] → ⊥) → run_state ≡ Up r
     → HasTakenTogether b r given t steps batch how stop
-    ⊎ HasFallenTogether (BreaksTogether b r given) t steps batch how stop → StopsOn b (LeftByGroup b given life) t.life
-group_left b alone r given life t steps batch how stop some up (inl k) = (
+    ⊎ HasFallenTogether (BreaksTogether b r given) t steps batch how stop
+    → StopsOn b (LeftByGroup b given run_state) t.run_state
+group_left b alone r given run_state t steps batch how stop some up (inl k) = (
   b.memory k.replica,
   (
     r,
@@ -206,10 +213,10 @@ group_left b alone r given life t steps batch how stop some up (inl k) = (
     λ none. some (none_taken steps k.all none)
         (nothing_sent b stop k.replica k.after k.all batch k.sends (k.whole ∙ ap sent_of none)),
   ),
-  ap (λ (z : Life _). stopped_on 0 0 (device_in b z)) k.up
+  ap (λ (z : RunState _). stopped_on 0 0 (device_in b z)) k.up
       ∙ stopped_sent b alone stop k.replica k.after k.all batch k.sends,
 )
-group_left b alone r given life t steps batch how stop some up (inr f) = absurd (some f.no_steps f.fallen.no_batch)
+group_left b alone r given run_state t steps batch how stop some up (inr f) = absurd (some f.no_steps f.fallen.no_batch)
 
 -- ---- what keeps all that holds
 
@@ -218,92 +225,95 @@ kept_none m A = (0, refl)
 kept_none m B = (0, refl)
 
 module _ {R : Type 0} (Shows : R → Genesis → ℕ → Holding → Type 0) (b : Behaviour R) (m : Meaning) (genesis : Genesis)
-    (seats : List (Seat R)) (sent : List Datagram) (trace : List Note)
-    (w : WorldInvariant Shows (disks_by b) m genesis seats sent trace) (i : ℕ) (s t : Seat R) (at : At seats i s)
+    (sim_nodes : List (SimNode R)) (sent : List Datagram) (trace : List Note)
+    (w : WorldInvariant Shows (disks_by b) m genesis sim_nodes sent trace) (i : ℕ) (s t : SimNode R)
+    (at : At sim_nodes i s)
     (number : t.number ≡ s.number) where
   abbrev h : History
   h = happened genesis sent trace
 
   -- a node that went down on such disks
-  pub down_holds : (off : Seat R) → off.number ≡ s.number → (d : Memory) → off.life ≡ Down d
+  pub down_holds : (off : SimNode R) → off.number ≡ s.number → (d : Memory) → off.run_state ≡ Down d
       → DisksFit m h off.number (disk_of d) → AreShort (disk_of d)
-      → WorldInvariant Shows (disks_by b) m genesis (set seats i off) sent trace
+      → WorldInvariant Shows (disks_by b) m genesis (set sim_nodes i off) sent trace
   down_holds off same d down fit short =
-      went_down Shows (disks_by b) m genesis seats sent trace w i s off at same
+      went_down Shows (disks_by b) m genesis sim_nodes sent trace w i s off at same
       (down_fits Shows (disks_by b) m h (w.states s.number) off d down fit short)
 
   -- one that is up, with what it noted and sent
   taken_holds : (r q : R) (is : List Input) (steps : List Step) (batch : List Datagram) (notes : List Note)
-      → s.life ≡ Up r → t.life ≡ Up q → WereSentTo sent is
+      → s.run_state ≡ Up r → t.run_state ≡ Up q → WereSentTo sent is
       → EachLeavesFit Shows (disks_by b) m s.number r is q (parts_of steps batch)
       → batch ≡ sent_of (parts_of steps batch) → AreNotesOf (parts_of steps batch) notes
-      → WorldInvariant Shows (disks_by b) m genesis (set seats i t) (sent ++ batch) (trace ++ notes)
+      → WorldInvariant Shows (disks_by b) m genesis (set sim_nodes i t) (sent ++ batch) (trace ++ notes)
   taken_holds r q is steps batch notes was up were goes whole tells =
-      let made : ℕ → Life R → Seat R = λ k l. record { number = k; life = l } in
+      let made : ℕ → RunState R → SimNode R = λ k l. record { number = k; run_state = l } in
       let same : made s.number (Up q) ≡ t = ap (λ k. made k (Up q)) (sym number) ∙ ap (made t.number) (sym up) in
-      subst (λ (z : Seat R). WorldInvariant Shows (disks_by b) m genesis (set seats i z) (sent ++ batch) (trace
+      subst (λ (z : SimNode R). WorldInvariant Shows (disks_by b) m genesis (set sim_nodes i z) (sent ++ batch) (trace
       ++ notes)) same
-      (subst (λ (l : List Datagram). WorldInvariant Shows (disks_by b) m genesis (set seats i (made s.number (Up q)))
+      (subst (λ (l : List Datagram). WorldInvariant Shows (disks_by b) m genesis
+      (set sim_nodes i (made s.number (Up q)))
       (sent ++ l) (trace ++ notes)) (sym whole)
       (group_holds Shows (disks_by b) m genesis i is r q
-      (parts_of steps batch) seats sent trace notes s w at was were goes tells))
+      (parts_of steps batch) sim_nodes sent trace notes s w at was were goes tells))
 
   module _ (before : Option End) (steps : List Step) (batch : List Datagram) (how : Option End) (stop : Option ℕ) where
-    abbrev mid : Scene R
-    mid = record { genesis = genesis; seats = set seats i t; sent = sent; trace = trace; ended = before }
+    abbrev mid : WorldState R
+    mid = record { genesis = genesis; sim_nodes = set sim_nodes i t; sent = sent; trace = trace; ended = before }
 
     -- the node rests, where it has come to an armed stop
-    rested_holds : (new : Scene R) → (k : HasConcludedSteps Shows b m mid i new steps batch how stop)
-        → WorldInvariant Shows (disks_by b) m genesis (set seats i t) (sent ++ batch) (trace ++ k.notes)
-        → WorldInvariant Shows (disks_by b) m new.genesis new.seats new.sent new.trace
+    rested_holds : (new : WorldState R) → (k : HasConcludedSteps Shows b m mid i new steps batch how stop)
+        → WorldInvariant Shows (disks_by b) m genesis (set sim_nodes i t) (sent ++ batch) (trace ++ k.notes)
+        → WorldInvariant Shows (disks_by b) m new.genesis new.sim_nodes new.sent new.trace
     rested_holds new k now =
-        let same : k.seat ≡ t = at_same (set seats i t) i k.seat t k.at (at_set_here seats i t at.0) in
-        let here : At (set seats i t) i t = at_set_here seats i t at.0 in
-        let f : SeatFits Shows (disks_by b) m (happened genesis (sent ++ batch) (trace ++ k.notes))
-        (now.states t.number) t = now.seated i t here in
-        subst (λ g. WorldInvariant Shows (disks_by b) m g new.seats new.sent new.trace) (sym k.adds.genesis)
-        (subst (λ z. WorldInvariant Shows (disks_by b) m genesis z new.sent new.trace) (sym k.seats)
-        (subst₂ (λ x y. WorldInvariant Shows (disks_by b) m genesis (set (set seats i t) i k.next) x y)
+        let same : k.sim_node ≡ t = at_same (set sim_nodes i t) i k.sim_node t k.at (at_set_here sim_nodes i t at.0) in
+        let here : At (set sim_nodes i t) i t = at_set_here sim_nodes i t at.0 in
+        let f : SimNodeFits Shows (disks_by b) m (happened genesis (sent ++ batch) (trace ++ k.notes))
+        (now.states t.number) t = now.as_sim_nodes i t here in
+        subst (λ g. WorldInvariant Shows (disks_by b) m g new.sim_nodes new.sent new.trace) (sym k.adds.genesis)
+        (subst (λ z. WorldInvariant Shows (disks_by b) m genesis z new.sent new.trace) (sym k.sim_nodes)
+        (subst₂ (λ x y. WorldInvariant Shows (disks_by b) m genesis (set (set sim_nodes i t) i k.next) x y)
         (sym k.adds.sent) (sym k.adds.trace)
-        (went_down Shows (disks_by b) m genesis (set seats i t) (sent ++ batch) (trace ++ k.notes) now i t k.next here
-        (k.number ∙ ap (λ (z : Seat R). z.number) same)
-        (k.fits _ _ (subst (λ z. SeatFits Shows (disks_by b) m (happened genesis (sent ++ batch) (trace ++ k.notes))
+        (went_down Shows (disks_by b) m genesis (set sim_nodes i t) (sent ++ batch) (trace ++ k.notes) now i
+        t k.next here
+        (k.number ∙ ap (λ (z : SimNode R). z.number) same)
+        (k.fits _ _ (subst (λ z. SimNodeFits Shows (disks_by b) m (happened genesis (sent ++ batch) (trace ++ k.notes))
         (now.states t.number) z) (sym same) f)))))
 
     -- what a group came to keeps all that holds
-    pub settled_steps_hold : (new : Scene R) (r : R) (is : List Input) (given : List Input)
-        (Ends : ℕ → Memory → Type 0) → s.life ≡ Up r → WereSentTo sent is
-        → ((q : R) → t.life ≡ Up q → EachLeavesFit Shows (disks_by b) m s.number r is q (parts_of steps batch))
-        → DisksFit m h t.number (disk_of (device_in b t.life)) → AreShort (disk_of (device_in b t.life))
+    pub settled_steps_hold : (new : WorldState R) (r : R) (is : List Input) (given : List Input)
+        (Ends : ℕ → Memory → Type 0) → s.run_state ≡ Up r → WereSentTo sent is
+        → ((q : R) → t.run_state ≡ Up q → EachLeavesFit Shows (disks_by b) m s.number r is q (parts_of steps batch))
+        → DisksFit m h t.number (disk_of (device_in b t.run_state)) → AreShort (disk_of (device_in b t.run_state))
         → HasTakenTogether b r given t steps batch how stop ⊎ HasFallenTogether Ends t steps batch how stop
         → HasConcludedSteps Shows b m mid i new steps batch how stop
-        → WorldInvariant Shows (disks_by b) m new.genesis new.seats new.sent new.trace
+        → WorldInvariant Shows (disks_by b) m new.genesis new.sim_nodes new.sent new.trace
     settled_steps_hold new r is given Ends was were goes left short cases k = rested_holds new k (elim cases [
       | inl q ↦ taken_holds r q.after is steps batch k.notes was q.up were (goes q.after q.up)
           (still_whole b stop q.replica q.after steps q.all batch q.sends q.whole) k.tells
-      | inr f ↦ subst₂ (λ x y. WorldInvariant Shows (disks_by b) m genesis (set seats i t) x y)
+      | inr f ↦ subst₂ (λ x y. WorldInvariant Shows (disks_by b) m genesis (set sim_nodes i t) x y)
           (sym (ap (λ l. sent ++ l) f.fallen.no_batch ∙ append-nil sent))
           (sym (ap (λ l. trace ++ l)
           (subst (λ (l : List Step). AreNotesOf (parts_of l batch) k.notes) f.no_steps k.tells) ∙ append-nil trace))
           (down_holds t number (fallen_on f.fallen.left) f.fallen.down
-          (subst (λ (l : Life R). DisksFit m h t.number (disk_of (device_in b l))) f.fallen.down left)
-          (subst (λ (l : Life R). AreShort (disk_of (device_in b l))) f.fallen.down short))
+          (subst (λ (l : RunState R). DisksFit m h t.number (disk_of (device_in b l))) f.fallen.down left)
+          (subst (λ (l : RunState R). AreShort (disk_of (device_in b l))) f.fallen.down short))
     ])
 
     -- that it was given up does too
-    pub given_up_still : (new : Scene R) → DisksFit m h t.number (disk_of (device_in b t.life))
-        → AreShort (disk_of (device_in b t.life)) → HasGivenUp Shows b m mid i new
-        → WorldInvariant Shows (disks_by b) m new.genesis new.seats new.sent new.trace
+    pub given_up_still : (new : WorldState R) → DisksFit m h t.number (disk_of (device_in b t.run_state))
+        → AreShort (disk_of (device_in b t.run_state)) → HasGivenUp Shows b m mid i new
+        → WorldInvariant Shows (disks_by b) m new.genesis new.sim_nodes new.sent new.trace
     given_up_still new left short k =
-        let same : k.seat ≡ t = at_same (set seats i t) i k.seat t k.at (at_set_here seats i t at.0) in
-        let device = device_in b t.life in
-        let off : k.next.number ≡ t.number = k.number ∙ ap (λ (z : Seat R). z.number) same in
-        let down : k.next.life ≡ Down (stopped_on 0 0 device) = k.halted
-        ∙ ap (λ (z : Seat R). Down (stopped_on 0 0 (device_in b z.life))) same in
-        subst (λ g. WorldInvariant Shows (disks_by b) m g new.seats new.sent new.trace) (sym k.adds.genesis)
+        let same : k.sim_node ≡ t = at_same (set sim_nodes i t) i k.sim_node t k.at (at_set_here sim_nodes i t at.0) in
+        let device = device_in b t.run_state in
+        let off : k.next.number ≡ t.number = k.number ∙ ap (λ (z : SimNode R). z.number) same in
+        let down : k.next.run_state ≡ Down (stopped_on 0 0 device) = k.halted
+        ∙ ap (λ (z : SimNode R). Down (stopped_on 0 0 (device_in b z.run_state))) same in
+        subst (λ g. WorldInvariant Shows (disks_by b) m g new.sim_nodes new.sent new.trace) (sym k.adds.genesis)
         (subst (λ z. WorldInvariant Shows (disks_by b) m genesis z new.sent new.trace)
-        (sym (k.seats ∙ set_twice seats i t k.next))
-        (subst₂ (λ x y. WorldInvariant Shows (disks_by b) m genesis (set seats i k.next) x y)
+        (sym (k.sim_nodes ∙ set_twice sim_nodes i t k.next))
+        (subst₂ (λ x y. WorldInvariant Shows (disks_by b) m genesis (set sim_nodes i k.next) x y)
         (sym (k.adds.sent ∙ append-nil sent)) (sym (k.adds.trace ∙ append-nil trace))
         (down_holds k.next (off ∙ number) (stopped_on 0 0 device) down
         (subst (λ n. DisksFit m h n (disk_of (stopped_on 0 0 device))) (sym off)
@@ -322,14 +332,15 @@ own_too (s ∷ steps) some others of_nodes = (
 )
 
 pub all_own : {R : Type 0} (Shows : R → Genesis → ℕ → Holding → Type 0) (disks : R → Side → Disk) (m : Meaning)
-    (genesis : Genesis) (seats : List (Seat R)) (sent : List Datagram) (trace notes : List Note)
-    → WorldInvariant Shows disks m genesis seats sent trace → (i : ℕ) (s : Seat R) → At seats i s
-    → (is : List Input) (r q : R) (steps : List Step) (batch all : List Datagram) → s.life ≡ Up r → WereSentTo sent is
+    (genesis : Genesis) (sim_nodes : List (SimNode R)) (sent : List Datagram) (trace notes : List Note)
+    → WorldInvariant Shows disks m genesis sim_nodes sent trace → (i : ℕ) (s : SimNode R) → At sim_nodes i s
+    → (is : List Input) (r q : R) (steps : List Step) (batch all : List Datagram) → s.run_state ≡ Up r
+    → WereSentTo sent is
     → EachLeavesFit Shows disks m s.number r is q (parts_of steps batch) → AreNotesOf (parts_of steps batch) notes
     → AreAllOfNodes (parts_of steps all)
-all_own Shows disks m genesis seats sent trace notes w i s at is r q steps batch all up were goes tells =
+all_own Shows disks m genesis sim_nodes sent trace notes w i s at is r q steps batch all up were goes tells =
     own_too steps batch all (group_own Shows disks m genesis i is r q
-    (parts_of steps batch) seats sent trace notes s w at up were goes tells)
+    (parts_of steps batch) sim_nodes sent trace notes s w at up were goes tells)
 
 -- ---- no more than there are
 pub take_min : {X : Type 0} (k : ℕ) (xs : List X) → take (min k (length xs)) xs ≡ take k xs

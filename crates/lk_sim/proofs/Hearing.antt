@@ -18,15 +18,15 @@ use Rattle.lk_sim.specs.Heard.{Reads, IsRequestIn, IsForged}
 use Rattle.lk_sim.specs.Traces.{asked_in, happened, asked_note}
 use Rattle.lk_sim.specs.Refusals.{datagram_at}
 use Rattle.lk_sim.specs.Worlds.{WorldInvariant}
-use Rattle.lk_sim_nodes.specs.declared.seat.Seat.{Seat}
+use Rattle.lk_sim_nodes.specs.declared.sim_node.SimNode.{SimNode}
 use Rattle.lk_sim.proofs.Asking.{asked_last}
 
 -- a datagram of the list
 pub heard_sent : {R : Type 0} (Shows : R → Genesis → ℕ → Holding → Type 0) (disks : R → Side → Disk) (m : Meaning)
-    (genesis : Genesis) (seats : List (Seat R)) (sent : List Datagram) (trace : List Note)
-    → WorldInvariant Shows disks m genesis seats sent trace → (d : Datagram) → Contains sent d → (bytes : List ℕ)
+    (genesis : Genesis) (sim_nodes : List (SimNode R)) (sent : List Datagram) (trace : List Note)
+    → WorldInvariant Shows disks m genesis sim_nodes sent trace → (d : Datagram) → Contains sent d → (bytes : List ℕ)
     → bytes ≡ d.bytes → IsHeard (happened genesis sent trace) bytes
-heard_sent Shows disks m genesis seats sent trace w d c bytes e = record {
+heard_sent Shows disks m genesis sim_nodes sent trace w d c bytes e = record {
   said = λ n x said. heard_was_sent genesis sent w.world.sound d c n x
       (subst (λ b. Spells (said_by genesis n x) b) e said);
   asked = λ r said. w.requests d r genesis.cluster c
@@ -52,12 +52,12 @@ one_datagram sent k d e a b = one_some (datagram_at sent k) d e a b
 
 -- where nothing more was asked
 pub heard_delivered : {R : Type 0} (Shows : R → Genesis → ℕ → Holding → Type 0) (disks : R → Side → Disk) (m : Meaning)
-    (genesis : Genesis) (seats : List (Seat R)) (sent : List Datagram) (trace : List Note)
-    → WorldInvariant Shows disks m genesis seats sent trace → (k : ℕ) (d : Datagram) → datagram_at sent k ≡ Some d
+    (genesis : Genesis) (sim_nodes : List (SimNode R)) (sent : List Datagram) (trace : List Note)
+    → WorldInvariant Shows disks m genesis sim_nodes sent trace → (k : ℕ) (d : Datagram) → datagram_at sent k ≡ Some d
     → (bytes : List ℕ) → bytes ≡ d.bytes → IsHeard (happened genesis sent (trace ++ [])) bytes
-heard_delivered Shows disks m genesis seats sent trace w k d at bytes e =
+heard_delivered Shows disks m genesis sim_nodes sent trace w k d at bytes e =
     subst (λ l. IsHeard (happened genesis sent l) bytes) (sym (append-nil trace))
-    (heard_sent Shows disks m genesis seats sent trace w d (datagram_listed sent k d at) bytes e)
+    (heard_sent Shows disks m genesis sim_nodes sent trace w d (datagram_listed sent k d at) bytes e)
 
 nobody : (n : ℕ) (x : NodeMessage) (r : RequestValue) → content.Node n x ≡ content.Request r → ⊥
 nobody n x r e = cc e

@@ -12,41 +12,42 @@ use Rattle.lk_node.specs.Histories.{Genesis, Datagram, Command}
 use Rattle.lk_node.specs.Holdings.{Holding}
 use Rattle.lk_node.specs.Leavings.{paxos_of, DisksFit}
 use Rattle.lk_sim.specs.Traces.{happened}
-use Rattle.lk_sim_nodes.specs.Seats.{disks_of, At, SeatFits}
+use Rattle.lk_sim_nodes.specs.SimNodes.{disks_of, At, SimNodeFits}
 use Rattle.lk_sim.specs.Kept.{CoversAll, IsKeptBy}
 use Rattle.lk_sim_nodes.specs.Rooms.{AreShort}
 use Rattle.lk_sim.specs.Worlds.{WorldInvariant}
-use Rattle.lk_sim_nodes.specs.declared.seat.Life.{Life}
-use Rattle.lk_sim_nodes.specs.declared.seat.Life.TheVariants.{Up, Down}
-use Rattle.lk_sim_nodes.specs.declared.seat.Seat.{Seat}
+use Rattle.lk_sim_nodes.specs.declared.sim_node.RunState.{RunState}
+use Rattle.lk_sim_nodes.specs.declared.sim_node.RunState.TheVariants.{Up, Down}
+use Rattle.lk_sim_nodes.specs.declared.sim_node.SimNode.{SimNode}
 
 module _ {R : Type 0} (Shows : R → Genesis → ℕ → Holding → Type 0) (disks : R → Side → Disk) (m : Meaning)
-    (genesis : Genesis) (seats : List (Seat R)) (sent : List Datagram) (trace : List Note)
-    (w : WorldInvariant Shows disks m genesis seats sent trace) where
-  its_disks_fit : (s : Seat R) (life : Life R) → s.life ≡ life
-      → SeatFits Shows disks m (happened genesis sent trace) (w.states s.number) s
-      → DisksFit m (happened genesis sent trace) s.number (disks_of disks life)
+    (genesis : Genesis) (sim_nodes : List (SimNode R)) (sent : List Datagram) (trace : List Note)
+    (w : WorldInvariant Shows disks m genesis sim_nodes sent trace) where
+  its_disks_fit : (s : SimNode R) (run_state : RunState R) → s.run_state ≡ run_state
+      → SimNodeFits Shows disks m (happened genesis sent trace) (w.states s.number) s
+      → DisksFit m (happened genesis sent trace) s.number (disks_of disks run_state)
   its_disks_fit s (Up r) is f = (f.up r is).left
   its_disks_fit s (Down d) is f = f.down d is
 
-  fit_at : (k : ℕ) (s : Seat R) → At seats k s
-      → DisksFit m (happened genesis sent trace) s.number (disks_of disks s.life)
-  fit_at k s at = its_disks_fit s s.life refl (w.seated k s at)
+  fit_at : (k : ℕ) (s : SimNode R) → At sim_nodes k s
+      → DisksFit m (happened genesis sent trace) s.number (disks_of disks s.run_state)
+  fit_at k s at = its_disks_fit s s.run_state refl (w.as_sim_nodes k s at)
 
-  its_files_are_short : (s : Seat R) (life : Life R) → s.life ≡ life
-      → SeatFits Shows disks m (happened genesis sent trace) (w.states s.number) s → AreShort (disks_of disks life)
+  its_files_are_short : (s : SimNode R) (run_state : RunState R) → s.run_state ≡ run_state
+      → SimNodeFits Shows disks m (happened genesis sent trace) (w.states s.number) s
+      → AreShort (disks_of disks run_state)
   its_files_are_short s (Up r) is f = (f.up r is).room
   its_files_are_short s (Down d) is f = f.room d is
 
-  pub room : (k : ℕ) (s : Seat R) → At seats k s → AreShort (disks_of disks s.life)
-  room k s at = its_files_are_short s s.life refl (w.seated k s at)
+  pub room : (k : ℕ) (s : SimNode R) → At sim_nodes k s → AreShort (disks_of disks s.run_state)
+  room k s at = its_files_are_short s s.run_state refl (w.as_sim_nodes k s at)
 
-  pub covered : (k : ℕ) (s : Seat R) → At seats k s → CoversAll disks m genesis sent s
+  pub covered : (k : ℕ) (s : SimNode R) → At sim_nodes k s → CoversAll disks m genesis sent s
   covered k s at image may = let i = fit_at k s at image may in (i.standing, i.stands, i.covers)
 
   module _ (L : List Command) (chosen : Chosen genesis sent L) (i : ℕ) (v : Command)
       (at : command_at L i ≡ Some v) where
-    pub kept : IsKeptBy disks m genesis seats sent L i v
+    pub kept : IsKeptBy disks m genesis sim_nodes sent L i v
     kept =
         let k = kept_by_majority genesis sent w.world.sound L chosen i v at in
         record {

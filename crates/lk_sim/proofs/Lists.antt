@@ -8,7 +8,7 @@ use Rattle.std.proofs.lemmas.List.Elements.{Contains-append_left}
 use Rattle.lk_node_interface.specs.declared.note.Note.{Note}
 use Rattle.lk_node.specs.Histories.{RequestValue}
 use Rattle.lk_sim.specs.Traces.{asked_by, asked_in}
-use Rattle.lk_sim_nodes.specs.Seats.{At}
+use Rattle.lk_sim_nodes.specs.SimNodes.{At}
 
 pub at_set : {X : Type 0} (xs : List X) (i : ℕ) (y : X) (j : ℕ) (x : X) → At (set xs i y) j x
     → ((j ≡ i) × (y ≡ x)) ⊎ ((j ≡ i → ⊥) × At xs j x)

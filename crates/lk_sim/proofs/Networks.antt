@@ -19,14 +19,14 @@ use Rattle.lk_sim.specs.Networks.{MayCome, IsRequestIn, AreAsking, MayHear, Reco
 use Rattle.lk_sim.specs.Networks.{IsStillDown}
 use Rattle.lk_sim.specs.Networks.{GoesOn}
 use Rattle.lk_sim.specs.Networks.{Ends, Stops, Steps, StepsAll, nothing}
-use Rattle.lk_sim.specs.Scenes.{Scene}
-use Rattle.lk_sim_nodes.specs.Seats.{UpFits, SeatFits, SeatGoes, At}
+use Rattle.lk_sim.specs.WorldStates.{WorldState}
+use Rattle.lk_sim_nodes.specs.SimNodes.{UpFits, SimNodeFits, SimNodeGoes, At}
 use Rattle.lk_sim_nodes.specs.Told.{NotesReplies}
 use Rattle.lk_sim.specs.Traces.{asked_in, happened, asked_note}
 use Rattle.lk_sim.specs.Worlds.{WorldInvariant}
-use Rattle.lk_sim_nodes.specs.declared.seat.Seat.{Seat}
-use Rattle.lk_sim_nodes.specs.declared.seat.Life.{Life}
-use Rattle.lk_sim_nodes.specs.declared.seat.Life.TheVariants.{Up, Down}
+use Rattle.lk_sim_nodes.specs.declared.sim_node.SimNode.{SimNode}
+use Rattle.lk_sim_nodes.specs.declared.sim_node.RunState.{RunState}
+use Rattle.lk_sim_nodes.specs.declared.sim_node.RunState.TheVariants.{Up, Down}
 use Rattle.lk_sim.proofs.Asking.{asked_last}
 use Rattle.lk_sim_nodes.proofs.Fitting.{stopped_fit, node_fits, down_fits}
 use Rattle.lk_sim.proofs.Explaining.{lawful, asked as all_asked, explains, agree, states, ordered, told_in_time}
@@ -71,41 +71,44 @@ tells_all (d ∷ batch) told reads (inr t) = let r = reads d (0, omega arith, re
 
 module _ {R : Type 0} (Shows : R → Genesis → ℕ → Holding → Type 0) (disks : R → Side → Disk) (m : Meaning) where
   -- what holds of the parts of a network
-  abbrev pub HoldsOf : Scene R → Type 0
-  HoldsOf w = WorldInvariant Shows disks m w.genesis w.seats w.sent w.trace
+  abbrev pub HoldsOf : WorldState R → Type 0
+  HoldsOf w = WorldInvariant Shows disks m w.genesis w.sim_nodes w.sent w.trace
 
-  moved : (old new : Scene R) (seats : List (Seat R)) (notes : List Note) (batch : List Datagram) → new.seats ≡ seats
+  moved : (old new : WorldState R) (sim_nodes : List (SimNode R)) (notes : List Note) (batch : List Datagram)
+      → new.sim_nodes ≡ sim_nodes
       → Adds old new notes batch
-      → WorldInvariant Shows disks m old.genesis seats (old.sent ++ batch) (old.trace ++ notes) → HoldsOf new
-  moved old new seats notes batch same a w =
-      subst (λ g. WorldInvariant Shows disks m g new.seats new.sent new.trace) (sym a.genesis)
+      → WorldInvariant Shows disks m old.genesis sim_nodes (old.sent ++ batch) (old.trace ++ notes) → HoldsOf new
+  moved old new sim_nodes notes batch same a w =
+      subst (λ g. WorldInvariant Shows disks m g new.sim_nodes new.sent new.trace) (sym a.genesis)
       (subst (λ z. WorldInvariant Shows disks m old.genesis z new.sent new.trace) (sym same)
-      (subst₂ (λ x y. WorldInvariant Shows disks m old.genesis seats x y) (sym a.sent) (sym a.trace) w))
+      (subst₂ (λ x y. WorldInvariant Shows disks m old.genesis sim_nodes x y) (sym a.sent) (sym a.trace) w))
 
-  moved_still : (old new : Scene R) (seats : List (Seat R)) (notes : List Note)
-      → new.seats ≡ seats → Adds old new notes []
-      → WorldInvariant Shows disks m old.genesis seats old.sent (old.trace ++ notes) → HoldsOf new
-  moved_still old new seats notes same a w =
-      moved old new seats notes [] same a
-      (subst (λ l. WorldInvariant Shows disks m old.genesis seats l (old.trace ++ notes)) (sym (append-nil old.sent)) w)
+  moved_still : (old new : WorldState R) (sim_nodes : List (SimNode R)) (notes : List Note)
+      → new.sim_nodes ≡ sim_nodes → Adds old new notes []
+      → WorldInvariant Shows disks m old.genesis sim_nodes old.sent (old.trace ++ notes) → HoldsOf new
+  moved_still old new sim_nodes notes same a w =
+      moved old new sim_nodes notes [] same a
+      (subst (λ l. WorldInvariant Shows disks m old.genesis sim_nodes l (old.trace ++ notes))
+      (sym (append-nil old.sent)) w)
 
-  moved_silent : (old new : Scene R) (seats : List (Seat R)) → new.seats ≡ seats → Adds old new [] []
-      → WorldInvariant Shows disks m old.genesis seats old.sent old.trace → HoldsOf new
-  moved_silent old new seats same a w =
-      moved_still old new seats [] same a
-      (subst (λ l. WorldInvariant Shows disks m old.genesis seats old.sent l) (sym (append-nil old.trace)) w)
+  moved_silent : (old new : WorldState R) (sim_nodes : List (SimNode R)) → new.sim_nodes ≡ sim_nodes
+      → Adds old new [] []
+      → WorldInvariant Shows disks m old.genesis sim_nodes old.sent old.trace → HoldsOf new
+  moved_silent old new sim_nodes same a w =
+      moved_still old new sim_nodes [] same a
+      (subst (λ l. WorldInvariant Shows disks m old.genesis sim_nodes old.sent l) (sym (append-nil old.trace)) w)
 
-  appears : (old new : Scene R) → HoldsOf old → Appears old new → HoldsOf new
-  appears old new w a = moved_silent old new (old.seats ++ a.seat ∷ []) a.seats a.adds
-      (starts Shows disks m old.genesis old.seats old.sent old.trace w a.seat a.unused a.device a.down a.empty)
+  appears : (old new : WorldState R) → HoldsOf old → Appears old new → HoldsOf new
+  appears old new w a = moved_silent old new (old.sim_nodes ++ a.sim_node ∷ []) a.sim_nodes a.adds
+      (starts Shows disks m old.genesis old.sim_nodes old.sent old.trace w a.sim_node a.unused a.device a.down a.empty)
 
-  restarts : (old new : Scene R) → HoldsOf old → Restarts Shows disks m old new → HoldsOf new
+  restarts : (old new : WorldState R) → HoldsOf old → Restarts Shows disks m old new → HoldsOf new
   restarts old new w a =
       let h = happened old.genesis old.sent old.trace in
-      let f = w.seated a.replaces.index a.seat a.replaces.at in
-      let g = a.restarts.goes h refl (lawful Shows disks m old.genesis old.seats old.sent old.trace w)
+      let f = w.as_sim_nodes a.replaces.index a.sim_node a.replaces.at in
+      let g = a.restarts.goes h refl (lawful Shows disks m old.genesis old.sim_nodes old.sent old.trace w)
       (f.down a.device a.down) in
-      let seat_goes : SeatGoes Shows disks m h a.next a.notes [] = record {
+      let sim_node_goes : SimNodeGoes Shows disks m h a.next a.notes [] = record {
         replica = a.replica;
         up = a.up;
         goes =
@@ -113,118 +116,126 @@ module _ {R : Type 0} (Shows : R → Genesis → ℕ → Holding → Type 0) (di
             (sym a.replaces.number) g;
         room = a.restarts.short (f.room a.device a.down);
       } in
-      let went = went_on Shows disks m old.genesis old.seats old.sent old.trace w a.replaces.index a.seat a.next
-      a.replaces.at a.replaces.number a.notes [] [] seat_goes refl in
-      moved old new (set old.seats a.replaces.index a.next) a.notes [] a.replaces.seats a.adds
-      (subst (λ l. WorldInvariant Shows disks m old.genesis (set old.seats a.replaces.index a.next) (old.sent ++ [])
+      let went = went_on Shows disks m old.genesis old.sim_nodes old.sent old.trace w a.replaces.index a.sim_node a.next
+      a.replaces.at a.replaces.number a.notes [] [] sim_node_goes refl in
+      moved old new (set old.sim_nodes a.replaces.index a.next) a.notes [] a.replaces.sim_nodes a.adds
+      (subst (λ l. WorldInvariant Shows disks m old.genesis (set old.sim_nodes a.replaces.index a.next) (old.sent ++ [])
       (old.trace ++ l)) (append-nil a.notes) went)
 
   -- of a node that is down, the history is lawful, and its disks fit it
-  pub holds_down : (c : Scene R) → HoldsOf c → (index : ℕ) (s : Seat R) → At c.seats index s
-      → (d : Memory) → s.life ≡ Down d
+  pub holds_down : (c : WorldState R) → HoldsOf c → (index : ℕ) (s : SimNode R) → At c.sim_nodes index s
+      → (d : Memory) → s.run_state ≡ Down d
       → IsLawful m (happened c.genesis c.sent c.trace)
       × DisksFit m (happened c.genesis c.sent c.trace) s.number (disk_of d)
   holds_down c w index s at d down =
-      (lawful Shows disks m c.genesis c.seats c.sent c.trace w, (w.seated index s at).down d down)
+      (lawful Shows disks m c.genesis c.sim_nodes c.sent c.trace w, (w.as_sim_nodes index s at).down d down)
 
-  rests : (old new : Scene R) → HoldsOf old → IsStillDown m old new → HoldsOf new
+  rests : (old new : WorldState R) → HoldsOf old → IsStillDown m old new → HoldsOf new
   rests old new w a =
       let h = happened old.genesis old.sent old.trace in
-      let f = w.seated a.replaces.index a.seat a.replaces.at in
-      let left = a.rests.ends h refl (lawful Shows disks m old.genesis old.seats old.sent old.trace w)
+      let f = w.as_sim_nodes a.replaces.index a.sim_node a.replaces.at in
+      let left = a.rests.ends h refl (lawful Shows disks m old.genesis old.sim_nodes old.sent old.trace w)
       (f.down a.device a.down) in
-      moved_silent old new (set old.seats a.replaces.index a.next) a.replaces.seats a.adds
-      (went_down Shows disks m old.genesis old.seats old.sent old.trace w a.replaces.index a.seat a.next
+      moved_silent old new (set old.sim_nodes a.replaces.index a.next) a.replaces.sim_nodes a.adds
+      (went_down Shows disks m old.genesis old.sim_nodes old.sent old.trace w a.replaces.index a.sim_node a.next
       a.replaces.at a.replaces.number
-      (down_fits Shows disks m h (w.states a.seat.number) a.next a.left a.still
+      (down_fits Shows disks m h (w.states a.sim_node.number) a.next a.left a.still
       (subst (λ k. DisksFit m h k (disk_of a.left)) (sym a.replaces.number) left)
       (a.rests.short (f.room a.device a.down))))
 
-  module _ (old new : Scene R) (w : HoldsOf old) (a : Stops disks old new) where
+  module _ (old new : WorldState R) (w : HoldsOf old) (a : Stops disks old new) where
     abbrev before : History
     before = happened old.genesis old.sent old.trace
 
-    fit : SeatFits Shows disks m before (w.states a.seat.number) a.seat
-    fit = w.seated a.replaces.index a.seat a.replaces.at
+    fit : SimNodeFits Shows disks m before (w.states a.sim_node.number) a.sim_node
+    fit = w.as_sim_nodes a.replaces.index a.sim_node a.replaces.at
 
     stopped_by : (was : Side → Disk) → ((s : Side) → (k : ℕ) × (disk_of a.left s ≡ after_stop k (was s)))
-        → DisksFit m before a.seat.number was → AreShort was
-        → SeatFits Shows disks m before (w.states a.seat.number) a.next
-    stopped_by was kept f short = down_fits Shows disks m before (w.states a.seat.number) a.next a.left a.down
+        → DisksFit m before a.sim_node.number was → AreShort was
+        → SimNodeFits Shows disks m before (w.states a.sim_node.number) a.next
+    stopped_by was kept f short = down_fits Shows disks m before (w.states a.sim_node.number) a.next a.left a.down
         (subst (λ k. DisksFit m before k (disk_of a.left)) (sym a.replaces.number)
-        (stopped_fit m before a.seat.number was (disk_of a.left) kept f)) (kept_short was (disk_of a.left) kept short)
+        (stopped_fit m before a.sim_node.number was (disk_of a.left) kept f))
+        (kept_short was (disk_of a.left) kept short)
 
-    of_life : (life : Life R) → a.seat.life ≡ life → SeatFits Shows disks m before (w.states a.seat.number) a.next
-    of_life (Up r) is = stopped_by (disks r) (a.was_up r is) (fit.up r is).left (fit.up r is).room
-    of_life (Down d) is = stopped_by (disk_of d) (a.was_down d is) (fit.down d is) (fit.room d is)
+    of_run_state : (run_state : RunState R) → a.sim_node.run_state ≡ run_state → SimNodeFits Shows disks m before
+        (w.states a.sim_node.number) a.next
+    of_run_state (Up r) is = stopped_by (disks r) (a.was_up r is) (fit.up r is).left (fit.up r is).room
+    of_run_state (Down d) is = stopped_by (disk_of d) (a.was_down d is) (fit.down d is) (fit.room d is)
 
     stops : HoldsOf new
-    stops = moved_silent old new (set old.seats a.replaces.index a.next) a.replaces.seats a.adds
-        (went_down Shows disks m old.genesis old.seats old.sent old.trace w a.replaces.index a.seat a.next a.replaces.at
-        a.replaces.number (of_life a.seat.life refl))
+    stops = moved_silent old new (set old.sim_nodes a.replaces.index a.next) a.replaces.sim_nodes a.adds
+        (went_down Shows disks m old.genesis old.sim_nodes old.sent old.trace w a.replaces.index a.sim_node a.next
+        a.replaces.at
+        a.replaces.number (of_run_state a.sim_node.run_state refl))
 
   -- what a step began with, once what was asked is noted
-  module _ (old : Scene R) (w : HoldsOf old) (o : Option RequestValue) where
+  module _ (old : WorldState R) (w : HoldsOf old) (o : Option RequestValue) where
     abbrev asked : List Note
     asked = old.trace ++ asked_note o
 
-    since : WorldInvariant Shows disks m old.genesis old.seats old.sent asked
-    since = asked_maybe Shows disks m old.genesis old.seats old.sent old.trace w o
+    since : WorldInvariant Shows disks m old.genesis old.sim_nodes old.sent asked
+    since = asked_maybe Shows disks m old.genesis old.sim_nodes old.sent old.trace w o
 
-    fits_before : (index : ℕ) (seat : Seat R) → At old.seats index seat → (r : R) → seat.life ≡ Up r
-        → UpFits Shows disks m (happened old.genesis old.sent asked) (since.states seat.number) seat.number r
-    fits_before index seat at r was = (since.seated index seat at).up r was
+    fits_before : (index : ℕ) (sim_node : SimNode R) → At old.sim_nodes index sim_node → (r : R)
+        → sim_node.run_state ≡ Up r
+        → UpFits Shows disks m (happened old.genesis old.sent asked) (since.states sim_node.number) sim_node.number r
+    fits_before index sim_node at r was = (since.as_sim_nodes index sim_node at).up r was
 
-    node_before : (index : ℕ) (seat : Seat R) → At old.seats index seat → (r : R) → seat.life ≡ Up r
-        → NodeFits m (happened old.genesis old.sent asked) seat.number (Shows r old.genesis seat.number) (disks r)
-    node_before index seat at r was =
-        node_fits Shows disks m (happened old.genesis old.sent asked) (since.states seat.number) seat.number r
-        (lawful Shows disks m old.genesis old.seats old.sent asked since) (fits_before index seat at r was)
+    node_before : (index : ℕ) (sim_node : SimNode R) → At old.sim_nodes index sim_node → (r : R)
+        → sim_node.run_state ≡ Up r
+        → NodeFits m (happened old.genesis old.sent asked) sim_node.number
+        (Shows r old.genesis sim_node.number) (disks r)
+    node_before index sim_node at r was =
+        node_fits Shows disks m (happened old.genesis old.sent asked) (since.states sim_node.number) sim_node.number r
+        (lawful Shows disks m old.genesis old.sim_nodes old.sent asked since) (fits_before index sim_node at r was)
 
-  goes_on : (old new : Scene R) → HoldsOf old → GoesOn Shows disks m old new → HoldsOf new
+  goes_on : (old new : WorldState R) → HoldsOf old → GoesOn Shows disks m old new → HoldsOf new
   goes_on old new w a =
-      let n : ℕ = a.seat.number in
+      let n : ℕ = a.sim_node.number in
       let trace : List Note = old.trace ++ asked_note a.request in
       let now = since old w a.request in
       let hears = heard old.genesis old.sent old.trace a.came a.request a.may a.asks in
       let g = a.goes.goes (happened old.genesis old.sent trace)
-      (node_before old w a.request a.replaces.index a.seat a.replaces.at a.before a.was) hears in
-      let seat_goes : SeatGoes Shows disks m (happened old.genesis old.sent trace) a.next a.notes a.batch = record {
+      (node_before old w a.request a.replaces.index a.sim_node a.replaces.at a.before a.was) hears in
+      let sim_node_goes : SimNodeGoes Shows disks m (happened old.genesis old.sent trace) a.next a.notes
+      a.batch = record {
         replica = a.after;
         up = a.up;
         goes = subst (λ k. LeavesFit m (happened old.genesis old.sent trace) k (Shows a.after old.genesis k)
             (disks a.after) a.notes a.batch) (sym a.replaces.number) g;
-        room = a.goes.short (fits_before old w a.request a.replaces.index a.seat a.replaces.at a.before a.was).room;
+        room = a.goes.short (fits_before old w a.request a.replaces.index a.sim_node a.replaces.at a.before a.was).room;
       } in
       let tells = tells_all a.batch a.told
       (λ d c. let p = g.may d c in (said_by old.genesis n p.message, p.spelled)) a.tells in
-      let went = went_on Shows disks m old.genesis old.seats old.sent trace now a.replaces.index a.seat a.next
+      let went = went_on Shows disks m old.genesis old.sim_nodes old.sent trace now a.replaces.index a.sim_node a.next
       a.replaces.at
-      a.replaces.number a.notes a.told a.batch seat_goes tells in
-      moved old new (set old.seats a.replaces.index a.next)
-      ((asked_note a.request ++ a.notes) ++ a.told) a.batch a.replaces.seats a.adds
-      (subst (λ l. WorldInvariant Shows disks m old.genesis (set old.seats a.replaces.index a.next) (old.sent
+      a.replaces.number a.notes a.told a.batch sim_node_goes tells in
+      moved old new (set old.sim_nodes a.replaces.index a.next)
+      ((asked_note a.request ++ a.notes) ++ a.told) a.batch a.replaces.sim_nodes a.adds
+      (subst (λ l. WorldInvariant Shows disks m old.genesis (set old.sim_nodes a.replaces.index a.next) (old.sent
       ++ a.batch) l)
       (append_assoc old.trace (asked_note a.request) (a.notes ++ a.told)
       ∙ ap (λ l. old.trace ++ l) (sym (append_assoc (asked_note a.request) a.notes a.told))) went)
 
-  ends : (old new : Scene R) → HoldsOf old → Ends Shows disks m old new → HoldsOf new
+  ends : (old new : WorldState R) → HoldsOf old → Ends Shows disks m old new → HoldsOf new
   ends old new w a =
       let trace : List Note = old.trace ++ asked_note a.request in
       let h = happened old.genesis old.sent trace in
       let now = since old w a.request in
       let hears = heard old.genesis old.sent old.trace a.came a.request a.may a.asks in
       let left = a.ends.ends h
-      (node_before old w a.request a.replaces.index a.seat a.replaces.at a.before a.was) hears in
-      let room = a.ends.short (fits_before old w a.request a.replaces.index a.seat a.replaces.at a.before a.was).room in
-      moved_still old new (set old.seats a.replaces.index a.next) (asked_note a.request) a.replaces.seats a.adds
-      (went_down Shows disks m old.genesis old.seats old.sent trace now a.replaces.index a.seat a.next
+      (node_before old w a.request a.replaces.index a.sim_node a.replaces.at a.before a.was) hears in
+      let room = a.ends.short (fits_before old w a.request a.replaces.index a.sim_node a.replaces.at a.before
+      a.was).room in
+      moved_still old new (set old.sim_nodes a.replaces.index a.next) (asked_note a.request) a.replaces.sim_nodes a.adds
+      (went_down Shows disks m old.genesis old.sim_nodes old.sent trace now a.replaces.index a.sim_node a.next
       a.replaces.at a.replaces.number
-      (down_fits Shows disks m h (now.states a.seat.number) a.next a.left a.down
+      (down_fits Shows disks m h (now.states a.sim_node.number) a.next a.left a.down
       (subst (λ k. DisksFit m h k (disk_of a.left)) (sym a.replaces.number) left) room))
 
   -- a step keeps all that holds
-  pub step_holds : (old new : Scene R) → HoldsOf old → Steps Shows disks m old new → HoldsOf new
+  pub step_holds : (old new : WorldState R) → HoldsOf old → Steps Shows disks m old new → HoldsOf new
   step_holds old new w (inl a) = appears old new w a
   step_holds old new w (inr (inl a)) = restarts old new w a
   step_holds old new w (inr (inr (inl a))) = rests old new w a
@@ -233,32 +244,34 @@ module _ {R : Type 0} (Shows : R → Genesis → ℕ → Holding → Type 0) (di
   step_holds old new w (inr (inr (inr (inr (inr a))))) = stops old new w a
 
   -- so do many
-  pub steps_hold : (first last : Scene R) (scenes : List (Scene R)) → HoldsOf first
-      → StepsAll Shows disks m first scenes last → HoldsOf last
+  pub steps_hold : (first last : WorldState R) (world_states : List (WorldState R)) → HoldsOf first
+      → StepsAll Shows disks m first world_states last → HoldsOf last
   steps_hold first last [] w all = subst HoldsOf (sym all) w
-  steps_hold first last (next ∷ scenes) w all = steps_hold next last scenes (step_holds first next w all.0) all.1
+  steps_hold first last (next ∷ world_states) w all =
+      steps_hold next last world_states (step_holds first next w all.0) all.1
 
   -- whatever has happened since nothing had
-  pub network_holds : (genesis : Genesis) (scenes : List (Scene R)) (last : Scene R)
-      → StepsAll Shows disks m (nothing genesis) scenes last → HoldsOf last
-  network_holds genesis scenes last all =
-      steps_hold (nothing genesis) last scenes (nothing_holds Shows disks m genesis) all
+  pub network_holds : (genesis : Genesis) (world_states : List (WorldState R)) (last : WorldState R)
+      → StepsAll Shows disks m (nothing genesis) world_states last → HoldsOf last
+  network_holds genesis world_states last all =
+      steps_hold (nothing genesis) last world_states (nothing_holds Shows disks m genesis) all
 
 -- what is guaranteed of a world is guaranteed of a network
 pub promises_of : {R : Type 0} (Shows : R → Genesis → ℕ → Holding → Type 0) (b : Behaviour R)
     (whole : R → WholeValue) (m : Meaning)
-    → ((r : R) (g : Genesis) (n : ℕ) (x : Holding) → Shows r g n x → SumsUp m g x.paxos.done (whole r)) → (w : Scene R)
-    → WorldInvariant Shows (disks_by b) m w.genesis w.seats w.sent w.trace → WorldGuarantee b whole m w
+    → ((r : R) (g : Genesis) (n : ℕ) (x : Holding) → Shows r g n x → SumsUp m g x.paxos.done (whole r))
+    → (w : WorldState R)
+    → WorldInvariant Shows (disks_by b) m w.genesis w.sim_nodes w.sent w.trace → WorldGuarantee b whole m w
 promises_of Shows b whole m sums w h = record {
-  explained = (h.list, h.chosen, explains Shows (disks_by b) m w.genesis w.seats w.sent w.trace h);
-  asked = all_asked Shows (disks_by b) m w.genesis w.seats w.sent w.trace h;
-  agree = agree Shows (disks_by b) m w.genesis w.seats w.sent w.trace h;
+  explained = (h.list, h.chosen, explains Shows (disks_by b) m w.genesis w.sim_nodes w.sent w.trace h);
+  asked = all_asked Shows (disks_by b) m w.genesis w.sim_nodes w.sent w.trace h;
+  agree = agree Shows (disks_by b) m w.genesis w.sim_nodes w.sent w.trace h;
   told = h.told;
-  states = states Shows (disks_by b) m w.genesis w.seats w.sent w.trace h whole sums;
-  covered = covered Shows (disks_by b) m w.genesis w.seats w.sent w.trace h;
-  kept = λ L i v chosen. kept Shows (disks_by b) m w.genesis w.seats w.sent w.trace h L chosen i v;
-  order = ordered Shows (disks_by b) m w.genesis w.seats w.sent w.trace h;
-  told_in_time = told_in_time Shows (disks_by b) m w.genesis w.seats w.sent w.trace h;
+  states = states Shows (disks_by b) m w.genesis w.sim_nodes w.sent w.trace h whole sums;
+  covered = covered Shows (disks_by b) m w.genesis w.sim_nodes w.sent w.trace h;
+  kept = λ L i v chosen. kept Shows (disks_by b) m w.genesis w.sim_nodes w.sent w.trace h L chosen i v;
+  order = ordered Shows (disks_by b) m w.genesis w.sim_nodes w.sent w.trace h;
+  told_in_time = told_in_time Shows (disks_by b) m w.genesis w.sim_nodes w.sent w.trace h;
   ballots = record { own = h.world.sound.own; once = h.world.sound.one_value };
-  room = room Shows (disks_by b) m w.genesis w.seats w.sent w.trace h;
+  room = room Shows (disks_by b) m w.genesis w.sim_nodes w.sent w.trace h;
 }

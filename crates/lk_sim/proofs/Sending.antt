@@ -29,10 +29,10 @@ use Rattle.lk_node.specs.Calls.{LeavesFit}
 use Rattle.lk_sim_nodes.specs.Told.{told_by, NotesReplies}
 use Rattle.lk_sim.specs.Traces.{asked_in, happened, told_in}
 use Rattle.lk_sim_nodes.specs.Rooms.{AreShort}
-use Rattle.lk_sim_nodes.specs.Seats.{UpFits, SeatFits, At}
+use Rattle.lk_sim_nodes.specs.SimNodes.{UpFits, SimNodeFits, At}
 use Rattle.lk_sim.specs.Worlds.{WorldInvariant}
-use Rattle.lk_sim_nodes.specs.declared.seat.Seat.{Seat}
-use Rattle.lk_sim_nodes.specs.declared.seat.Life.TheVariants.{Up}
+use Rattle.lk_sim_nodes.specs.declared.sim_node.SimNode.{SimNode}
+use Rattle.lk_sim_nodes.specs.declared.sim_node.RunState.TheVariants.{Up}
 use Rattle.lk_sim_nodes.proofs.Tellings.{tells_append}
 use Rattle.lk_sim.proofs.Told.{told_in-append, told_in-of_node, told_in-tells, told_from, bears_told}
 use Rattle.lk_sim.proofs.Lists.{at_set, at_set_here, at_set_other, asked_among}
@@ -60,9 +60,10 @@ no_request genesis n x r cluster bytes said asked = none (ap (λ k. k.content) (
     none e = cc e
 
 module _ {R : Type 0} (Shows : R → Genesis → ℕ → Holding → Type 0) (disks : R → Side → Disk) (m : Meaning)
-    (genesis : Genesis) (seats : List (Seat R)) (sent : List Datagram) (trace : List Note)
-    (w : WorldInvariant Shows disks m genesis seats sent trace)
-    (i : ℕ) (s new : Seat R) (at : At seats i s) (r : R) (number : new.number ≡ s.number) (up : new.life ≡ Up r)
+    (genesis : Genesis) (sim_nodes : List (SimNode R)) (sent : List Datagram) (trace : List Note)
+    (w : WorldInvariant Shows disks m genesis sim_nodes sent trace)
+    (i : ℕ) (s new : SimNode R) (at : At sim_nodes i s) (r : R) (number : new.number ≡ s.number)
+    (up : new.run_state ≡ Up r)
     (mine told : List Note) (batch : List Datagram)
     (g : LeavesFit m (happened genesis sent trace) s.number (Shows r genesis s.number) (disks r) mine batch)
     (tells : NotesReplies batch told) (short : AreShort (disks r)) where
@@ -125,9 +126,9 @@ module _ {R : Type 0} (Shows : R → Genesis → ℕ → Holding → Type 0) (di
   others k ne d f = disks_move m genesis sent (sent ++ batch) (asked_in trace) (asked_in (trace ++ notes)) k d
       (λ x c. covers_elsewhere genesis now n batch may k x (λ e. ne (sym e)) c) (still_stems genesis sent batch) f
 
-  elsewhere : (t : Seat R) → (t.number ≡ n → ⊥)
-      → SeatFits Shows disks m (happened genesis sent trace) (w.states t.number) t
-      → SeatFits Shows disks m since (now.states t.number) t
+  elsewhere : (t : SimNode R) → (t.number ≡ n → ⊥)
+      → SimNodeFits Shows disks m (happened genesis sent trace) (w.states t.number) t
+      → SimNodeFits Shows disks m since (now.states t.number) t
   elsewhere t ne f = record {
     up = λ q is. let u = f.up q is in
         let same : now.states t.number ≡ w.states t.number =
@@ -147,14 +148,15 @@ module _ {R : Type 0} (Shows : R → Genesis → ℕ → Holding → Type 0) (di
     room = f.room;
   }
 
-  seated : (k : ℕ) (t : Seat R) → At (set seats i new) k t → SeatFits Shows disks m since (now.states t.number) t
-  seated k t c = elim (at_set seats i new k t c) [
-    | inl e ↦ subst (λ z. SeatFits Shows disks m since (now.states z.number) z) e.1 own_seat
-    | inr o ↦ elsewhere t (λ same. o.0 (w.apart k i t s o.1 at same)) (w.seated k t o.1)
+  as_sim_nodes : (k : ℕ) (t : SimNode R) → At (set sim_nodes i new) k t → SimNodeFits Shows disks m since
+      (now.states t.number) t
+  as_sim_nodes k t c = elim (at_set sim_nodes i new k t c) [
+    | inl e ↦ subst (λ z. SimNodeFits Shows disks m since (now.states z.number) z) e.1 own_sim_node
+    | inr o ↦ elsewhere t (λ same. o.0 (w.apart k i t s o.1 at same)) (w.as_sim_nodes k t o.1)
   ]
     where
-      own_seat : SeatFits Shows disks m since (now.states new.number) new
-      own_seat = record {
+      own_sim_node : SimNodeFits Shows disks m since (now.states new.number) new
+      own_sim_node = record {
         up = λ q is. let same : r ≡ q = cc (up, is) in
             subst (λ z. UpFits Shows disks m since (now.states new.number) new.number z) same
             (subst (λ k. UpFits Shows disks m since (now.states k) k r) (sym number) own);
@@ -162,27 +164,28 @@ module _ {R : Type 0} (Shows : R → Genesis → ℕ → Holding → Type 0) (di
         room = λ d is. absurd (cc (up, is));
       }
 
-  apart : (j k : ℕ) (t u : Seat R) → At (set seats i new) j t → At (set seats i new) k u → t.number ≡ u.number → j ≡ k
-  apart j k t u c d e = elim (at_set seats i new j t c) [
-    | inl a ↦ elim (at_set seats i new k u d) [
+  apart : (j k : ℕ) (t u : SimNode R) → At (set sim_nodes i new) j t → At (set sim_nodes i new) k u → t.number
+      ≡ u.number → j ≡ k
+  apart j k t u c d e = elim (at_set sim_nodes i new j t c) [
+    | inl a ↦ elim (at_set sim_nodes i new k u d) [
       | inl b ↦ a.0 ∙ sym b.0
-      | inr b ↦ a.0 ∙ w.apart i k s u at b.1 (sym number ∙ ap (λ (z : Seat R). z.number) a.1 ∙ e)
+      | inr b ↦ a.0 ∙ w.apart i k s u at b.1 (sym number ∙ ap (λ (z : SimNode R). z.number) a.1 ∙ e)
     ]
-    | inr a ↦ elim (at_set seats i new k u d) [
-      | inl b ↦ w.apart j i t s a.1 at (e ∙ sym (sym number ∙ ap (λ (z : Seat R). z.number) b.1)) ∙ sym b.0
+    | inr a ↦ elim (at_set sim_nodes i new k u d) [
+      | inl b ↦ w.apart j i t s a.1 at (e ∙ sym (sym number ∙ ap (λ (z : SimNode R). z.number) b.1)) ∙ sym b.0
       | inr b ↦ w.apart j k t u a.1 b.1 e
     ]
   ]
 
-  still_there : (j : ℕ) (t : Seat R) → At seats j t
-      → (k : ℕ) × (u : Seat R) × At (set seats i new) k u × (u.number ≡ t.number)
+  still_there : (j : ℕ) (t : SimNode R) → At sim_nodes j t
+      → (k : ℕ) × (u : SimNode R) × At (set sim_nodes i new) k u × (u.number ≡ t.number)
   still_there j t c = elim (cases_eq j i) [
-    | inl e ↦ (i, new, at_set_here seats i new at.0, number ∙ ap (λ (z : Seat R). z.number) (same e))
-    | inr ne ↦ (j, t, at_set_other seats i new j t ne c, refl)
+    | inl e ↦ (i, new, at_set_here sim_nodes i new at.0, number ∙ ap (λ (z : SimNode R). z.number) (same e))
+    | inr ne ↦ (j, t, at_set_other sim_nodes i new j t ne c, refl)
   ]
     where
       same : j ≡ i → s ≡ t
-      same e = sym at.1 ∙ get_or_default seats i s t at.0 ∙ ap (λ k. get_or seats k t) (sym e) ∙ c.1
+      same e = sym at.1 ∙ get_or_default sim_nodes i s t at.0 ∙ ap (λ k. get_or sim_nodes k t) (sym e) ∙ c.1
 
   said_now : (k : ℕ) (x : NodeMessage) → HasSent genesis batch k x → (n ≡ k) × MaySend genesis sent y x
   said_now k x h =
@@ -191,10 +194,10 @@ module _ {R : Type 0} (Shows : R → Genesis → ℕ → Holding → Type 0) (di
       (e.0, subst (λ z. MaySend genesis sent y z) e.1 p.may)
 
   known : (k : ℕ) (x : NodeMessage) → HasSent genesis (sent ++ batch) k x
-      → (j : ℕ) × (t : Seat R) × At (set seats i new) j t × (t.number ≡ k)
+      → (j : ℕ) × (t : SimNode R) × At (set sim_nodes i new) j t × (t.number ≡ k)
   known k x h = elim (sent_cases genesis sent batch k x h) [
     | inl old ↦ (let a = w.known k x old in let b = still_there a.0 a.1 a.2 in (b.0, b.1, b.2, b.3 ∙ a.3))
-    | inr fresh ↦ (i, new, at_set_here seats i new at.0, number ∙ (said_now k x fresh).0)
+    | inr fresh ↦ (i, new, at_set_here sim_nodes i new at.0, number ∙ (said_now k x fresh).0)
   ]
 
   requests : (d : Datagram) (q : RequestValue) (cluster : ℕ) → Contains (sent ++ batch) d
@@ -252,14 +255,20 @@ module _ {R : Type 0} (Shows : R → Genesis → ℕ → Holding → Type 0) (di
   rests (note.Counted k j set v) L l b = tt
   rests (note.Ran k j v) L l b = tt
   rests (note.Answered k client number a) L l b =
-      record { under = L; chosen = l; replied = b; asked = request_asked Shows disks m genesis seats sent trace w L l }
+      record {
+        under = L;
+        chosen = l;
+        replied = b;
+        asked =
+            request_asked Shows disks m genesis sim_nodes sent trace w L l;
+      }
   rests (note.Told k client number last) L l b = (
     b.1.0,
     record {
       under = L;
       chosen = l;
       replied = b.1.1;
-      asked = request_asked Shows disks m genesis seats sent trace w L l;
+      asked = request_asked Shows disks m genesis sim_nodes sent trace w L l;
     },
   )
 
@@ -271,7 +280,7 @@ module _ {R : Type 0} (Shows : R → Genesis → ℕ → Holding → Type 0) (di
       (told_in-append mine told ∙ ap (λ l. l ++ told_in told) (told_in-of_node mine (λ x c. (g.noted x c).0))
       ∙ told_in-tells batch told tells)
 
-  pub goes_on : WorldInvariant Shows disks m genesis (set seats i new) (sent ++ batch) (trace ++ notes)
+  pub goes_on : WorldInvariant Shows disks m genesis (set sim_nodes i new) (sent ++ batch) (trace ++ notes)
   goes_on =
       let h = happened genesis sent trace in
       let a = all_borne genesis sent w.world.sound (BearsOut m h) (bears_longer m h) notes of_note w.list w.chosen in
@@ -280,7 +289,7 @@ module _ {R : Type 0} (Shows : R → Genesis → ℕ → Holding → Type 0) (di
       record {
         states = now.states;
         world = after_fits;
-        seated = seated;
+        as_sim_nodes = as_sim_nodes;
         apart = apart;
         known = known;
         requests = requests;

@@ -11,9 +11,9 @@ use Rattle.lk_node.specs.BorneOut.{text}
 use Rattle.lk_replica.specs.Behaviours.{Behaviour, disks_by}
 use Rattle.lk_recovery.specs.Compacting.{AllStandAt}
 use Rattle.lk_sim.specs.Events.{IsExecuted, IsCompacted, GoesOnCompacted}
-use Rattle.lk_sim_nodes.specs.Seats.{disks_of, At}
+use Rattle.lk_sim_nodes.specs.SimNodes.{disks_of, At}
 use Rattle.lk_sim.specs.Packed.{HasPackedState, LeavesPackedState}
-use Rattle.lk_sim.specs.Scenes.{Scene}
+use Rattle.lk_sim.specs.WorldStates.{WorldState}
 use Rattle.lk_sim.specs.Worlds.{WorldInvariant}
 use Rattle.lk_sim.specs.declared.event.Event.{Event}
 use Rattle.lk_sim.specs.declared.event.Event.TheVariants as event
@@ -28,21 +28,22 @@ module _ {R : Type 0} (b : Behaviour R) (Shows : R → Genesis → ℕ → Holdi
     (whole : R → WholeValue) (m : Meaning)
     (law : (old new : R) (genesis : Genesis) (n : ℕ) (x : Holding) → Shows old genesis n x → b.Compacts old new (Ok tt)
     → AllStandAt m genesis n (disks_by b new) (whole new).roster.executed x.paxos.done) where
-  stands_packed : (old new : Scene R) → WorldInvariant Shows (disks_by b) m old.genesis old.seats old.sent old.trace
+  stands_packed : (old new : WorldState R) → WorldInvariant Shows (disks_by b) m old.genesis old.sim_nodes
+      old.sent old.trace
       → (n : ℕ)
       → (k : IsCompacted b old new n) → GoesOnCompacted b old new k.replica k.next
       → HasPackedState whole (disks_by b) m new n
   stands_packed old new w n k p = record {
     index = k.replaces.index;
-    seat = k.next;
-    at = subst (λ l. At l k.replaces.index k.next) (sym k.replaces.seats)
-        (at_set_here old.seats k.replaces.index k.next k.replaces.at.0);
+    sim_node = k.next;
+    at = subst (λ l. At l k.replaces.index k.next) (sym k.replaces.sim_nodes)
+        (at_set_here old.sim_nodes k.replaces.index k.next k.replaces.at.0);
     number = k.replaces.number ∙ k.number;
     replica = p.replica;
     up = p.up;
     stands = λ image may.
-        let u = (w.seated k.replaces.index k.seat k.replaces.at).up k.replica k.up in
-        let g = law k.replica p.replica old.genesis k.seat.number u.holding u.shown p.compacts image
+        let u = (w.as_sim_nodes k.replaces.index k.sim_node k.replaces.at).up k.replica k.up in
+        let g = law k.replica p.replica old.genesis k.sim_node.number u.holding u.shown p.compacts image
         (subst (λ z. MayLeaveBoth (disks_of (disks_by b) z) image) p.up may) in (
           g.0,
           subst₂ (λ (z : Genesis) (j : ℕ). StandsAs (header_of z j) (text m z []) image g.0) (sym p.adds.genesis)
@@ -61,7 +62,8 @@ module _ {R : Type 0} (b : Behaviour R) (Shows : R → Genesis → ℕ → Holdi
   }
 
   -- an event that is done leaves such disks where a node compacted
-  pub leaves_packed : (old new : Scene R) → WorldInvariant Shows (disks_by b) m old.genesis old.seats old.sent old.trace
+  pub leaves_packed : (old new : WorldState R) → WorldInvariant Shows (disks_by b) m old.genesis old.sim_nodes
+      old.sent old.trace
       → (e : Event) → IsExecuted b old e new → LeavesPackedState whole (disks_by b) m e new
   leaves_packed old new w (event.Start n) k = tt
   leaves_packed old new w (event.Restart n) k = tt

@@ -20,10 +20,10 @@ use Rattle.lk_node.specs.Leavings.{header_of, DisksFit}
 use Rattle.lk_sim.specs.Traces.{happened}
 use Rattle.lk_sim_nodes.specs.Rooms.{AreShort}
 use Rattle.lk_sim_nodes.proofs.Shortness.{empty_short}
-use Rattle.lk_sim_nodes.specs.Seats.{SeatFits, At}
+use Rattle.lk_sim_nodes.specs.SimNodes.{SimNodeFits, At}
 use Rattle.lk_sim.specs.Worlds.{WorldInvariant}
-use Rattle.lk_sim_nodes.specs.declared.seat.Seat.{Seat}
-use Rattle.lk_sim_nodes.specs.declared.seat.Life.TheVariants.{Down}
+use Rattle.lk_sim_nodes.specs.declared.sim_node.SimNode.{SimNode}
+use Rattle.lk_sim_nodes.specs.declared.sim_node.RunState.TheVariants.{Down}
 
 -- empty disks fit where the node has sent nothing
 pub empty_fits : (m : Meaning) (h : History) (n : ℕ) (disks : Side → Disk)
@@ -72,15 +72,15 @@ at_end [] y = (omega arith, refl)
 at_end (z ∷ xs) y = let a = at_end xs y in (omega (arith, a.0), a.1)
 
 module _ {R : Type 0} (Shows : R → Genesis → ℕ → Holding → Type 0) (disks : R → Side → Disk) (m : Meaning)
-    (genesis : Genesis) (seats : List (Seat R)) (sent : List Datagram) (trace : List Note)
-    (w : WorldInvariant Shows disks m genesis seats sent trace)
-    (new : Seat R) (unused : (k : ℕ) (t : Seat R) → At seats k t → t.number ≡ new.number → ⊥)
-    (device : Memory) (down : new.life ≡ Down device)
+    (genesis : Genesis) (sim_nodes : List (SimNode R)) (sent : List Datagram) (trace : List Note)
+    (w : WorldInvariant Shows disks m genesis sim_nodes sent trace)
+    (new : SimNode R) (unused : (k : ℕ) (t : SimNode R) → At sim_nodes k t → t.number ≡ new.number → ⊥)
+    (device : Memory) (down : new.run_state ≡ Down device)
     (left : (s : Side) → disk_of device s ≡ record { synced = []; unsynced = [] }) where
   silent : (x : NodeMessage) → HasSent genesis sent new.number x → ⊥
   silent x h = let a = w.known new.number x h in unused a.0 a.1 a.2 a.3
 
-  mine : SeatFits Shows disks m (happened genesis sent trace) (w.states new.number) new
+  mine : SimNodeFits Shows disks m (happened genesis sent trace) (w.states new.number) new
   mine = record {
     up = λ q is. absurd (cc (down, is));
     down = λ d is. let same : device ≡ d = cc (down, is) in
@@ -90,25 +90,25 @@ module _ {R : Type 0} (Shows : R → Genesis → ℕ → Holding → Type 0) (di
         subst (λ (z : Memory). AreShort (disk_of z)) same (empty_short (disk_of device) left);
   }
 
-  pub starts : WorldInvariant Shows disks m genesis (seats ++ new ∷ []) sent trace
+  pub starts : WorldInvariant Shows disks m genesis (sim_nodes ++ new ∷ []) sent trace
   starts = record {
     states = w.states;
     world = w.world;
-    seated = λ k t c. elim (at_push seats new k t c) [
-      | inl old ↦ w.seated k t old
-      | inr e ↦ subst (λ z. SeatFits Shows disks m (happened genesis sent trace) (w.states z.number) z) e.1 mine
+    as_sim_nodes = λ k t c. elim (at_push sim_nodes new k t c) [
+      | inl old ↦ w.as_sim_nodes k t old
+      | inr e ↦ subst (λ z. SimNodeFits Shows disks m (happened genesis sent trace) (w.states z.number) z) e.1 mine
     ];
-    apart = λ j k t u c d e. elim (at_push seats new j t c) [
-      | inl a ↦ elim (at_push seats new k u d) [
+    apart = λ j k t u c d e. elim (at_push sim_nodes new j t c) [
+      | inl a ↦ elim (at_push sim_nodes new k u d) [
         | inl b ↦ w.apart j k t u a b e
-        | inr b ↦ absurd (unused j t a (e ∙ ap (λ (z : Seat R). z.number) (sym b.1)))
+        | inr b ↦ absurd (unused j t a (e ∙ ap (λ (z : SimNode R). z.number) (sym b.1)))
       ]
-      | inr a ↦ elim (at_push seats new k u d) [
-        | inl b ↦ absurd (unused k u b (sym e ∙ ap (λ (z : Seat R). z.number) (sym a.1)))
+      | inr a ↦ elim (at_push sim_nodes new k u d) [
+        | inl b ↦ absurd (unused k u b (sym e ∙ ap (λ (z : SimNode R). z.number) (sym a.1)))
         | inr b ↦ a.0 ∙ sym b.0
       ]
     ];
-    known = λ k x c. let a = w.known k x c in (a.0, a.1, at_front seats new a.0 a.1 a.2, a.3);
+    known = λ k x c. let a = w.known k x c in (a.0, a.1, at_front sim_nodes new a.0 a.1 a.2, a.3);
     requests = w.requests;
     proposed = w.proposed;
     list = w.list;
@@ -125,7 +125,7 @@ pub nothing_holds : {R : Type 0} (Shows : R → Genesis → ℕ → Holding → 
 nothing_holds Shows disks m genesis = record {
   states = λ n. fresh;
   world = start_fits genesis;
-  seated = λ k t c. absurd (omega (arith, c.0));
+  as_sim_nodes = λ k t c. absurd (omega (arith, c.0));
   apart = λ j k t u c. absurd (omega (arith, c.0));
   known = λ n x c. absurd (omega (arith, c.listed.1));
   requests = λ d q cluster c. absurd (omega (arith, c.1));

@@ -13,17 +13,17 @@ use Rattle.lk_agreement_laws.specs.Chosen.{Chosen, IsPrefix}
 use Rattle.lk_node.specs.Histories.{Genesis, Datagram, Command}
 use Rattle.lk_node.specs.Leavings.{header_of, acceptor_of, StandsAs}
 use Rattle.lk_node.specs.BorneOut.{text}
-use Rattle.lk_sim_nodes.specs.Seats.{At, disks_of}
-use Rattle.lk_sim_nodes.specs.declared.seat.Seat.{Seat}
+use Rattle.lk_sim_nodes.specs.SimNodes.{At, disks_of}
+use Rattle.lk_sim_nodes.specs.declared.sim_node.SimNode.{SimNode}
 
 -- whatever a stop may leave of the node's disks has a standing with this property
-abbrev pub EveryStanding : {R : Type 0} → (R → Side → Disk) → Meaning → Genesis → Seat R
+abbrev pub EveryStanding : {R : Type 0} → (R → Side → Disk) → Meaning → Genesis → SimNode R
     → (StandingValue → Type 0) → Type 0
-EveryStanding disks m genesis s Is = (image : Image) → MayLeaveBoth (disks_of disks s.life) image
+EveryStanding disks m genesis s Is = (image : Image) → MayLeaveBoth (disks_of disks s.run_state) image
     → (x : StandingValue) × StandsAs (header_of genesis s.number) (text m genesis []) image x × Is x
 
 -- every standing that a stop may leave covers everything that the node has sent
-abbrev pub CoversAll : {R : Type 0} → (R → Side → Disk) → Meaning → Genesis → List Datagram → Seat R → Type 0
+abbrev pub CoversAll : {R : Type 0} → (R → Side → Disk) → Meaning → Genesis → List Datagram → SimNode R → Type 0
 CoversAll disks m genesis sent s =
     EveryStanding disks m genesis s (λ x. CoversSent genesis sent s.number (acceptor_of x))
 
@@ -44,10 +44,11 @@ KeepsCommand m genesis sent L i v x =
 
 -- a majority of the members that the list names for the position keeps its command: each was started, and whatever a
 -- stop may leave of its disks keeps it
-pub record IsKeptBy {R : Type 0} (disks : R → Side → Disk) (m : Meaning) (genesis : Genesis) (seats : List (Seat R))
+pub record IsKeptBy {R : Type 0} (disks : R → Side → Disk) (m : Meaning) (genesis : Genesis)
+    (sim_nodes : List (SimNode R))
     (sent : List Datagram) (L : List Command) (i : ℕ) (v : Command) : Type 0 where
   pub nodes : List ℕ
   pub majority : IsMajority nodes (members genesis L i)
   pub keep : (n : ℕ) → Contains nodes n
-      → (k : ℕ) × (s : Seat R) × At seats k s × (s.number ≡ n)
+      → (k : ℕ) × (s : SimNode R) × At sim_nodes k s × (s.number ≡ n)
       × EveryStanding disks m genesis s (KeepsCommand m genesis sent L i v)

@@ -1,4 +1,4 @@
-pub mod Scenes
+pub mod WorldStates
 pub mod Rooms
 pub mod Traces
 pub mod Heard

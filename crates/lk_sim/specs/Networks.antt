@@ -16,13 +16,13 @@ use Rattle.lk_node.specs.Histories.{History, Genesis, Datagram, RequestValue, Is
 use Rattle.lk_node.specs.Holdings.{Holding}
 use Rattle.lk_node.specs.Leavings.{DisksFit}
 use Rattle.lk_sim_nodes.specs.Rooms.{AreShort}
-use Rattle.lk_sim_nodes.specs.Seats.{At}
+use Rattle.lk_sim_nodes.specs.SimNodes.{At}
 use Rattle.lk_sim.specs.Events.{ReplacesSeat, Adds}
-use Rattle.lk_sim.specs.Scenes.{Scene}
+use Rattle.lk_sim.specs.WorldStates.{WorldState}
 use Rattle.lk_sim_nodes.specs.Told.{told_by}
 use Rattle.lk_sim.specs.Traces.{asked_note}
-use Rattle.lk_sim_nodes.specs.declared.seat.Seat.{Seat}
-use Rattle.lk_sim_nodes.specs.declared.seat.Life.TheVariants.{Up, Down}
+use Rattle.lk_sim_nodes.specs.declared.sim_node.SimNode.{SimNode}
+use Rattle.lk_sim_nodes.specs.declared.sim_node.RunState.TheVariants.{Up, Down}
 
 -- ---- what arrives at a node
 
@@ -89,51 +89,51 @@ pub record RestsBy (m : Meaning) (genesis : Genesis) (n : ℕ) (old left : Side 
 -- ---- a step
 
 -- a node of a new number appears, with two empty disks
-pub record Appears {R : Type 0} (old new : Scene R) : Type 0 where
-  pub seat : Seat R
-  pub unused : (k : ℕ) (t : Seat R) → At old.seats k t → t.number ≡ seat.number → ⊥
+pub record Appears {R : Type 0} (old new : WorldState R) : Type 0 where
+  pub sim_node : SimNode R
+  pub unused : (k : ℕ) (t : SimNode R) → At old.sim_nodes k t → t.number ≡ sim_node.number → ⊥
   pub device : Memory
-  pub down : seat.life ≡ Down device
+  pub down : sim_node.run_state ≡ Down device
   pub empty : (s : Side) → disk_of device s ≡ record { synced = []; unsynced = [] }
-  pub seats : new.seats ≡ old.seats ++ seat ∷ []
+  pub sim_nodes : new.sim_nodes ≡ old.sim_nodes ++ sim_node ∷ []
   pub adds : Adds old new [] []
 
 -- a node that was down has started
 pub record Restarts {R : Type 0} (Shows : R → Genesis → ℕ → Holding → Type 0) (disks : R → Side → Disk) (m : Meaning)
-    (old new : Scene R) : Type 0 where
-  pub seat : Seat R
-  pub next : Seat R
-  pub replaces : ReplacesSeat old.seats new.seats seat next
+    (old new : WorldState R) : Type 0 where
+  pub sim_node : SimNode R
+  pub next : SimNode R
+  pub replaces : ReplacesSeat old.sim_nodes new.sim_nodes sim_node next
   pub device : Memory
-  pub down : seat.life ≡ Down device
+  pub down : sim_node.run_state ≡ Down device
   pub replica : R
-  pub up : next.life ≡ Up replica
+  pub up : next.run_state ≡ Up replica
   pub notes : List Note
-  pub restarts : RestartsBy Shows disks m old.genesis seat.number (disk_of device) replica notes
+  pub restarts : RestartsBy Shows disks m old.genesis sim_node.number (disk_of device) replica notes
   pub adds : Adds old new notes []
 
 -- a node that was down has stayed down
-pub record IsStillDown {R : Type 0} (m : Meaning) (old new : Scene R) : Type 0 where
-  pub seat : Seat R
-  pub next : Seat R
-  pub replaces : ReplacesSeat old.seats new.seats seat next
+pub record IsStillDown {R : Type 0} (m : Meaning) (old new : WorldState R) : Type 0 where
+  pub sim_node : SimNode R
+  pub next : SimNode R
+  pub replaces : ReplacesSeat old.sim_nodes new.sim_nodes sim_node next
   pub device : Memory
-  pub down : seat.life ≡ Down device
+  pub down : sim_node.run_state ≡ Down device
   pub left : Memory
-  pub still : next.life ≡ Down left
-  pub rests : RestsBy m old.genesis seat.number (disk_of device) (disk_of left)
+  pub still : next.run_state ≡ Down left
+  pub rests : RestsBy m old.genesis sim_node.number (disk_of device) (disk_of left)
   pub adds : Adds old new [] []
 
 -- a node that is up took a tick, or what may arrive, and went on
 pub record GoesOn {R : Type 0} (Shows : R → Genesis → ℕ → Holding → Type 0) (disks : R → Side → Disk) (m : Meaning)
-    (old new : Scene R) : Type 0 where
-  pub seat : Seat R
-  pub next : Seat R
-  pub replaces : ReplacesSeat old.seats new.seats seat next
+    (old new : WorldState R) : Type 0 where
+  pub sim_node : SimNode R
+  pub next : SimNode R
+  pub replaces : ReplacesSeat old.sim_nodes new.sim_nodes sim_node next
   pub before : R
-  pub was : seat.life ≡ Up before
+  pub was : sim_node.run_state ≡ Up before
   pub after : R
-  pub up : next.life ≡ Up after
+  pub up : next.run_state ≡ Up after
   pub came : Option (List ℕ)
   pub may : MayCome old.genesis old.sent came
   pub request : Option RequestValue
@@ -141,52 +141,52 @@ pub record GoesOn {R : Type 0} (Shows : R → Genesis → ℕ → Holding → Ty
   pub notes : List Note
   pub told : List Note
   pub batch : List Datagram
-  pub goes : GoesBy Shows disks m seat.number before came after notes batch
+  pub goes : GoesBy Shows disks m sim_node.number before came after notes batch
   pub tells : RecordsReplies batch told
   pub adds : Adds old new ((asked_note request ++ notes) ++ told) batch
 
 -- it ended with that
 pub record Ends {R : Type 0} (Shows : R → Genesis → ℕ → Holding → Type 0) (disks : R → Side → Disk) (m : Meaning)
-    (old new : Scene R) : Type 0 where
-  pub seat : Seat R
-  pub next : Seat R
-  pub replaces : ReplacesSeat old.seats new.seats seat next
+    (old new : WorldState R) : Type 0 where
+  pub sim_node : SimNode R
+  pub next : SimNode R
+  pub replaces : ReplacesSeat old.sim_nodes new.sim_nodes sim_node next
   pub before : R
-  pub was : seat.life ≡ Up before
+  pub was : sim_node.run_state ≡ Up before
   pub left : Memory
-  pub down : next.life ≡ Down left
+  pub down : next.run_state ≡ Down left
   pub came : Option (List ℕ)
   pub may : MayCome old.genesis old.sent came
   pub request : Option RequestValue
   pub asks : AreAsking old.genesis.cluster came request
-  pub ends : EndsBy Shows disks m seat.number before came (disk_of left)
+  pub ends : EndsBy Shows disks m sim_node.number before came (disk_of left)
   pub adds : Adds old new (asked_note request) []
 
 -- a node, up or down, has stopped: each of its disks has what was synced, and a prefix of the rest
-pub record Stops {R : Type 0} (disks : R → Side → Disk) (old new : Scene R) : Type 0 where
-  pub seat : Seat R
-  pub next : Seat R
-  pub replaces : ReplacesSeat old.seats new.seats seat next
+pub record Stops {R : Type 0} (disks : R → Side → Disk) (old new : WorldState R) : Type 0 where
+  pub sim_node : SimNode R
+  pub next : SimNode R
+  pub replaces : ReplacesSeat old.sim_nodes new.sim_nodes sim_node next
   pub left : Memory
-  pub down : next.life ≡ Down left
-  pub was_up : (r : R) → seat.life ≡ Up r → (s : Side) → (k : ℕ) × (disk_of left s ≡ after_stop k (disks r s))
-  pub was_down : (d : Memory) → seat.life ≡ Down d → (s : Side)
+  pub down : next.run_state ≡ Down left
+  pub was_up : (r : R) → sim_node.run_state ≡ Up r → (s : Side) → (k : ℕ) × (disk_of left s ≡ after_stop k (disks r s))
+  pub was_down : (d : Memory) → sim_node.run_state ≡ Down d → (s : Side)
       → (k : ℕ) × (disk_of left s ≡ after_stop k (disk_of d s))
   pub adds : Adds old new [] []
 
 abbrev pub Steps : {R : Type 0} → (R → Genesis → ℕ → Holding → Type 0) → (R → Side → Disk) → Meaning
-    → Scene R → Scene R → Type 0
+    → WorldState R → WorldState R → Type 0
 Steps Shows disks m old new =
     Appears old new ⊎ Restarts Shows disks m old new ⊎ IsStillDown m old new ⊎ GoesOn Shows disks m old new
     ⊎ Ends Shows disks m old new ⊎ Stops disks old new
 
 -- these steps were taken one after another, and the last of them led to this
-abbrev pub StepsAll : {R : Type 0} → (R → Genesis → ℕ → Holding → Type 0) → (R → Side → Disk) → Meaning → Scene R
-    → List (Scene R) → Scene R → Type 0
+abbrev pub StepsAll : {R : Type 0} → (R → Genesis → ℕ → Holding → Type 0) → (R → Side → Disk) → Meaning → WorldState R
+    → List (WorldState R) → WorldState R → Type 0
 StepsAll Shows disks m first [] last = last ≡ first
-StepsAll Shows disks m first (next ∷ scenes) last =
-    Steps Shows disks m first next × StepsAll Shows disks m next scenes last
+StepsAll Shows disks m first (next ∷ world_states) last =
+    Steps Shows disks m first next × StepsAll Shows disks m next world_states last
 
 -- nothing has happened
-abbrev pub nothing : {R : Type 0} → Genesis → Scene R
-nothing genesis = record { genesis = genesis; seats = []; sent = []; trace = []; ended = None }
+abbrev pub nothing : {R : Type 0} → Genesis → WorldState R
+nothing genesis = record { genesis = genesis; sim_nodes = []; sent = []; trace = []; ended = None }

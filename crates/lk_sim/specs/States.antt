@@ -12,8 +12,8 @@ use Rattle.lk_node.specs.Histories.{Genesis, Datagram, Command}
 use Rattle.lk_node.specs.Leavings.{header_of, StandsAs}
 use Rattle.lk_node.specs.BorneOut.{text}
 use Rattle.lk_node.specs.Reaching.{AllLieNear}
-use Rattle.lk_sim_nodes.specs.declared.seat.Seat.{Seat}
-use Rattle.lk_sim_nodes.specs.declared.seat.Life.TheVariants.{Up, Down}
+use Rattle.lk_sim_nodes.specs.declared.sim_node.SimNode.{SimNode}
+use Rattle.lk_sim_nodes.specs.declared.sim_node.RunState.TheVariants.{Up, Down}
 
 -- the snapshot is the packed text of a chosen list, whose length is its position
 abbrev pub IsPackedList : Meaning → Genesis → List Datagram → StandingValue → Type 0
@@ -29,7 +29,8 @@ KeepsPacked m genesis sent n disks = (image : Image) → MayLeaveBoth disks imag
 
 -- a node that is up has executed a chosen list, which its state sums up; and the snapshots of any node are packed lists
 pub record SumsUpChosen {R : Type 0} (whole : R → WholeValue) (disks : R → Side → Disk) (m : Meaning)
-    (genesis : Genesis) (sent : List Datagram) (s : Seat R) : Type 0 where
-  pub executed : (r : R) → s.life ≡ Up r → (L : List Command) × Chosen genesis sent L × SumsUp m genesis L (whole r)
-  pub kept : (r : R) → s.life ≡ Up r → KeepsPacked m genesis sent s.number (disks r)
-  pub left : (d : Memory) → s.life ≡ Down d → KeepsPacked m genesis sent s.number (disk_of d)
+    (genesis : Genesis) (sent : List Datagram) (s : SimNode R) : Type 0 where
+  pub executed : (r : R) → s.run_state ≡ Up r → (L : List Command) × Chosen genesis sent L
+      × SumsUp m genesis L (whole r)
+  pub kept : (r : R) → s.run_state ≡ Up r → KeepsPacked m genesis sent s.number (disks r)
+  pub left : (d : Memory) → s.run_state ≡ Down d → KeepsPacked m genesis sent s.number (disk_of d)

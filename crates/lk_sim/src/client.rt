@@ -4,7 +4,7 @@ ghost use Rattle.lk_messages.specs.Grammar.{Spells};
 ghost use Rattle.lk_messages.specs.declared.message.Content.TheVariants as content;
 ghost use Rattle.lk_replica.specs.Behaviours.{disks_by};
 ghost use Rattle.lk_sim.specs.Events.{IsExecuted, IsAsked, IsRefused};
-ghost use Rattle.lk_sim.specs.Worlds.{PartsKeepInvariant, scene_of};
+ghost use Rattle.lk_sim.specs.Worlds.{PartsKeepInvariant, world_state_of};
 ghost use Rattle.lk_sim.specs.declared.event.Event.TheVariants as event;
 
 use crate::datagrams::has_room;
@@ -57,8 +57,8 @@ fn add_request<R: MemoryReplica>(
     number: NodeNo,
     request: &Request,
 ) -> Result<(), NoMemory>
-    ensures ok { OnOk result (IsAsked (scene_of parts.old) (scene_of parts.new) number request.now) }
-    ensures err { OnErr result (scene_of parts.new ≡ scene_of parts.old) }
+    ensures ok { OnOk result (IsAsked (world_state_of parts.old) (world_state_of parts.new) number request.now) }
+    ensures err { OnErr result (world_state_of parts.new ≡ world_state_of parts.old) }
 {
     let bytes = encode(parts.alloc, parts.genesis.cluster, request)?;
     let datagram = Datagram {
@@ -81,11 +81,12 @@ pub fn client<R: MemoryReplica>(
     requires { PartsKeepInvariant R.Shows (disks_by R.behaves) R.meaning parts.old }
     ensures holds { PartsKeepInvariant R.Shows (disks_by R.behaves) R.meaning parts.new }
     ensures ok { OnOk result
-        (IsExecuted R.behaves (scene_of parts.old) (event.Client number request.now) (scene_of parts.new)) }
+        (IsExecuted R.behaves (world_state_of parts.old) (event.Client number request.now) (world_state_of parts.new)) }
     ensures err { IfErr result
-        (λ e. IsRefused R.behaves (scene_of parts.old) (event.Client number request.now) e (scene_of parts.new)) }
+        (λ e. IsRefused R.behaves (world_state_of parts.old) (event.Client number request.now) e
+        (world_state_of parts.new)) }
 {
-    let Some(_) = find(&parts.seats, number) else {
+    let Some(_) = find(&parts.sim_nodes, number) else {
         return Err(Refused::NoSuchNode);
     };
     if !has_room(&parts.sent) {

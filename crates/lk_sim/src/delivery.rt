@@ -10,8 +10,8 @@ ghost use Rattle.lk_sim.specs.Events.{IsExecuted, IsInjected, IsNotInjected, IsR
 ghost use Rattle.lk_sim.specs.Heard.{IsRequestIn, IsForged};
 ghost use Rattle.lk_sim.specs.Refusals.{datagram_at, HasRoom, NoStep, NoDelivery, MayInject};
 ghost use Rattle.lk_sim.specs.Rooms.{HasNoteRoom};
-ghost use Rattle.lk_sim_nodes.specs.Seats.{IsUpAt};
-ghost use Rattle.lk_sim.specs.Worlds.{PartsKeepInvariant, scene_of};
+ghost use Rattle.lk_sim_nodes.specs.SimNodes.{IsUpAt};
+ghost use Rattle.lk_sim.specs.Worlds.{PartsKeepInvariant, world_state_of};
 ghost use Rattle.lk_sim.specs.declared.event.Event.TheVariants as event;
 
 use crate::datagrams::{datagram, has_room};
@@ -24,12 +24,12 @@ use lk_sim_nodes::{Refused, find_up};
 use lk_types::{NoMemory, NodeNo, Request};
 use lk_wire::{ContentRef, Datagram};
 
-// Returns the place of the node in `seats`, if it is up and the world has room for what it sends.
+// Returns the place of the node in `sim_nodes`, if it is up and the world has room for what it sends.
 fn find_ready<R: MemoryReplica>(parts: &WorldParts<R>, number: NodeNo) -> Result<usize, Refused>
-    ensures ok { IfOk result (λ i. IsUpAt parts.now.seats.items i number × HasRoom parts.now.sent.items) }
-    ensures err { IfErr result (λ e. NoStep parts.now.seats.items parts.now.sent.items number e) }
+    ensures ok { IfOk result (λ i. IsUpAt parts.now.sim_nodes.items i number × HasRoom parts.now.sent.items) }
+    ensures err { IfErr result (λ e. NoStep parts.now.sim_nodes.items parts.now.sent.items number e) }
 {
-    let i = find_up(&parts.seats, number)?;
+    let i = find_up(&parts.sim_nodes, number)?;
     if !has_room(&parts.sent) {
         return Err(Refused::WorldFull);
     }
@@ -40,9 +40,10 @@ fn find_ready<R: MemoryReplica>(parts: &WorldParts<R>, number: NodeNo) -> Result
 pub fn tick<R: MemoryReplica>(parts: &mut WorldParts<R>, number: NodeNo) -> Result<(), Refused>
     requires { PartsKeepInvariant R.Shows (disks_by R.behaves) R.meaning parts.old }
     ensures holds { PartsKeepInvariant R.Shows (disks_by R.behaves) R.meaning parts.new }
-    ensures ok { OnOk result (IsExecuted R.behaves (scene_of parts.old) (event.Tick number) (scene_of parts.new)) }
+    ensures ok { OnOk result (IsExecuted R.behaves (world_state_of parts.old) (event.Tick number)
+        (world_state_of parts.new)) }
     ensures err { IfErr result
-        (λ e. IsRefused R.behaves (scene_of parts.old) (event.Tick number) e (scene_of parts.new)) }
+        (λ e. IsRefused R.behaves (world_state_of parts.old) (event.Tick number) e (world_state_of parts.new)) }
 {
     let i = find_ready(parts, number)?;
     give(parts, i, Input::Tick, None)?;
@@ -58,9 +59,9 @@ pub fn nudge<R: MemoryReplica>(
     requires { PartsKeepInvariant R.Shows (disks_by R.behaves) R.meaning parts.old }
     ensures holds { PartsKeepInvariant R.Shows (disks_by R.behaves) R.meaning parts.new }
     ensures ok { OnOk result
-        (IsExecuted R.behaves (scene_of parts.old) (event.Nudge number reason) (scene_of parts.new)) }
+        (IsExecuted R.behaves (world_state_of parts.old) (event.Nudge number reason) (world_state_of parts.new)) }
     ensures err { IfErr result
-        (λ e. IsRefused R.behaves (scene_of parts.old) (event.Nudge number reason) e (scene_of parts.new)) }
+        (λ e. IsRefused R.behaves (world_state_of parts.old) (event.Nudge number reason) e (world_state_of parts.new)) }
 {
     let i = find_ready(parts, number)?;
     give(parts, i, Input::Nudge(reason), None)?;
@@ -73,7 +74,7 @@ fn bound<R: MemoryReplica>(parts: &WorldParts<R>, k: usize) -> Result<NodeNo, Re
     ensures ok { IfOk result
         (λ n. (d : DatagramValue) × (datagram_at parts.now.sent.items k ≡ Some d) × (d.to ≡ party.Node n)) }
     ensures err { IfErr result
-        (λ e. NoDelivery parts.now.seats.items parts.now.sent.items (datagram_at parts.now.sent.items k) e) }
+        (λ e. NoDelivery parts.now.sim_nodes.items parts.now.sent.items (datagram_at parts.now.sent.items k) e) }
 {
     let Some(found) = datagram(&parts.sent, k) else {
         return Err(Refused::NoSuchDatagram);
@@ -101,9 +102,10 @@ fn bytes_of<R: MemoryReplica>(parts: &WorldParts<R>, k: usize) -> Result<Vec<u8>
 pub fn deliver<R: MemoryReplica>(parts: &mut WorldParts<R>, k: usize) -> Result<(), Refused>
     requires { PartsKeepInvariant R.Shows (disks_by R.behaves) R.meaning parts.old }
     ensures holds { PartsKeepInvariant R.Shows (disks_by R.behaves) R.meaning parts.new }
-    ensures ok { OnOk result (IsExecuted R.behaves (scene_of parts.old) (event.Deliver k) (scene_of parts.new)) }
+    ensures ok { OnOk result (IsExecuted R.behaves (world_state_of parts.old) (event.Deliver k)
+        (world_state_of parts.new)) }
     ensures err { IfErr result
-        (λ e. IsRefused R.behaves (scene_of parts.old) (event.Deliver k) e (scene_of parts.new)) }
+        (λ e. IsRefused R.behaves (world_state_of parts.old) (event.Deliver k) e (world_state_of parts.new)) }
 {
     let number = bound(parts, k)?;
     let i = find_ready(parts, number)?;
@@ -158,12 +160,12 @@ pub fn inject<R: MemoryReplica>(
     requires { PartsKeepInvariant R.Shows (disks_by R.behaves) R.meaning parts.old }
     ensures holds { PartsKeepInvariant R.Shows (disks_by R.behaves) R.meaning parts.new }
     ensures ok { OnOk result
-        (MayInject (scene_of parts.old) number bytes.now
-        × IsInjected R.behaves (scene_of parts.old) (scene_of parts.new) number bytes.now) }
+        (MayInject (world_state_of parts.old) number bytes.now
+        × IsInjected R.behaves (world_state_of parts.old) (world_state_of parts.new) number bytes.now) }
     ensures err { IfErr result
-        (λ e. IsNotInjected R.behaves (scene_of parts.old) number bytes.now e (scene_of parts.new)) }
+        (λ e. IsNotInjected R.behaves (world_state_of parts.old) number bytes.now e (world_state_of parts.new)) }
 {
-    let i = find_up(&parts.seats, number)?;
+    let i = find_up(&parts.sim_nodes, number)?;
     let viewed = Datagram::of(bytes);
     let asked = request_in(&viewed)?;
     if !has_room(&parts.sent) {

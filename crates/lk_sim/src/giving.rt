@@ -7,10 +7,10 @@ ghost use Rattle.lk_replica.specs.Behaviours.{disks_by};
 ghost use Rattle.lk_sim.specs.Events.{IsGiven, IsHalted, IsBack, LeftBy, LeftByRevival};
 ghost use Rattle.lk_sim.specs.Concluded.{HasAdded, HasConcluded, HasGivenUp};
 ghost use Rattle.lk_sim.specs.Rooms.{HasNoteRoom};
-ghost use Rattle.lk_sim_nodes.specs.Seats.{IsUpAt, IsDownAt};
+ghost use Rattle.lk_sim_nodes.specs.SimNodes.{IsUpAt, IsDownAt};
 ghost use Rattle.lk_sim_nodes.specs.Told.{NotesReplies};
 ghost use Rattle.lk_sim.specs.Traces.{happened, asked_note};
-ghost use Rattle.lk_sim.specs.Worlds.{PartsKeepInvariant, scene_of};
+ghost use Rattle.lk_sim.specs.Worlds.{PartsKeepInvariant, world_state_of};
 
 use crate::world_parts::WorldParts;
 use lk_node_interface::{Input, Note};
@@ -85,11 +85,11 @@ pub fn add<R: MemoryReplica>(
 ) -> Result<(), NoMemory>
     requires room { HasNoteRoom asked parts.old.trace }
     ensures ok { OnOk result
-        (HasAdded (scene_of parts.old) (scene_of parts.new)
+        (HasAdded (world_state_of parts.old) (world_state_of parts.new)
         (asked_note asked) outcome.notes.items outcome.sent.items outcome.ended) }
-    ensures err { OnErr result (scene_of parts.new ≡ scene_of parts.old) }
+    ensures err { OnErr result (world_state_of parts.new ≡ world_state_of parts.old) }
     ensures wants { OnErr result (outcome.notes.items ≡ [] → outcome.sent.items ≡ [] → ⊥) }
-    ensures seats { parts.new.seats ≡ parts.old.seats }
+    ensures sim_nodes { parts.new.sim_nodes ≡ parts.old.sim_nodes }
 {
     if is_nothing(&outcome) {
         note_asked(&mut parts.trace, asked);
@@ -116,22 +116,23 @@ pub fn finish_call<R: MemoryReplica>(
     asked: Option<Request>,
     outcome: Outcome,
 ) -> Result<(), NoMemory>
-    requires index { i < length parts.old.seats.items }
+    requires index { i < length parts.old.sim_nodes.items }
     requires room { HasNoteRoom asked parts.old.trace }
     ensures ok { OnOk result
-        (HasConcluded R.Shows R.behaves R.meaning (scene_of parts.old) i (scene_of parts.new)
+        (HasConcluded R.Shows R.behaves R.meaning (world_state_of parts.old) i (world_state_of parts.new)
         (asked_note asked) outcome.notes.items outcome.sent.items outcome.ended outcome.stop) }
-    ensures err { OnErr result (HasGivenUp R.Shows R.behaves R.meaning (scene_of parts.old) i (scene_of parts.new)) }
+    ensures err { OnErr result (HasGivenUp R.Shows R.behaves R.meaning (world_state_of parts.old) i
+        (world_state_of parts.new)) }
     ensures wants { OnErr result (outcome.notes.items ≡ [] → outcome.sent.items ≡ [] → ⊥) }
 {
     let at = outcome.stop;
     match add(parts, asked, outcome) {
         Ok(()) => {
-            carry_out_stop(parts.alloc, &mut parts.seats[i], at);
+            carry_out_stop(parts.alloc, &mut parts.sim_nodes[i], at);
             Ok(())
         }
         Err(refused) => {
-            stop(parts.alloc, &mut parts.seats[i], 0, 0);
+            stop(parts.alloc, &mut parts.sim_nodes[i], 0, 0);
             Err(refused)
         }
     }
@@ -145,36 +146,36 @@ pub fn give<R: MemoryReplica>(
     input: Input,
     asked: Option<Request>,
 ) -> Result<(), NoMemory>
-    requires up { (n : ℕ) × IsUpAt parts.old.seats.items i n }
+    requires up { (n : ℕ) × IsUpAt parts.old.sim_nodes.items i n }
     requires heard { InputFits
         (happened parts.old.genesis parts.old.sent.items (parts.old.trace.items ++ asked_note asked)) input }
     requires room { HasNoteRoom asked parts.old.trace }
     requires holds { PartsKeepInvariant R.Shows (disks_by R.behaves) R.meaning parts.old }
     ensures holds { PartsKeepInvariant R.Shows (disks_by R.behaves) R.meaning parts.new }
-    ensures given { (n : ℕ) → IsUpAt parts.old.seats.items i n
-        → OnOk result (IsGiven R.behaves (scene_of parts.old) (scene_of parts.new) n
+    ensures given { (n : ℕ) → IsUpAt parts.old.sim_nodes.items i n
+        → OnOk result (IsGiven R.behaves (world_state_of parts.old) (world_state_of parts.new) n
         input.entry (asked_note asked)) }
-    ensures halted { (n : ℕ) → IsUpAt parts.old.seats.items i n
-        → OnErr result (IsHalted (LeftBy R.behaves input.entry) (scene_of parts.old)
-        (scene_of parts.new) n) }
+    ensures halted { (n : ℕ) → IsUpAt parts.old.sim_nodes.items i n
+        → OnErr result (IsHalted (LeftBy R.behaves input.entry) (world_state_of parts.old)
+        (world_state_of parts.new) n) }
 {
-    let outcome = step(parts.alloc, &mut parts.seats[i], input)?;
+    let outcome = step(parts.alloc, &mut parts.sim_nodes[i], input)?;
     finish_call(parts, i, asked, outcome)?;
     Ok(())
 }
 
 /// Restarts the node at place `i`, which is down, from its disks.
 pub fn come_up<R: MemoryReplica>(parts: &mut WorldParts<R>, i: usize) -> Result<(), NoMemory>
-    requires down { (n : ℕ) × IsDownAt parts.old.seats.items i n }
+    requires down { (n : ℕ) × IsDownAt parts.old.sim_nodes.items i n }
     requires holds { PartsKeepInvariant R.Shows (disks_by R.behaves) R.meaning parts.old }
     ensures holds { PartsKeepInvariant R.Shows (disks_by R.behaves) R.meaning parts.new }
-    ensures back { (n : ℕ) → IsDownAt parts.old.seats.items i n
-        → OnOk result (IsBack R.behaves (scene_of parts.old) (scene_of parts.new) n) }
-    ensures halted { (n : ℕ) → IsDownAt parts.old.seats.items i n
-        → OnErr result (IsHalted (LeftByRevival R.behaves (header_of parts.old.genesis n)) (scene_of parts.old)
-        (scene_of parts.new) n) }
+    ensures back { (n : ℕ) → IsDownAt parts.old.sim_nodes.items i n
+        → OnOk result (IsBack R.behaves (world_state_of parts.old) (world_state_of parts.new) n) }
+    ensures halted { (n : ℕ) → IsDownAt parts.old.sim_nodes.items i n
+        → OnErr result (IsHalted (LeftByRevival R.behaves (header_of parts.old.genesis n)) (world_state_of parts.old)
+        (world_state_of parts.new) n) }
 {
-    let outcome = revive(parts.alloc, &mut parts.seats[i], &parts.genesis)?;
+    let outcome = revive(parts.alloc, &mut parts.sim_nodes[i], &parts.genesis)?;
     finish_call(parts, i, None, outcome)?;
     Ok(())
 }

@@ -2,12 +2,12 @@
 ghost use Rattle.std.specs.Prelude.{◌≡◌, ◌↔◌, ℕ, ◌<◌, [], true, false, length, map, IsTrue, IfOk, IfErr, OnOk, OnErr};
 ghost use Rattle.lk_replica.specs.Behaviours.{disks_by};
 ghost use Rattle.lk_replica.specs.Together.{parts_of};
-ghost use Rattle.lk_sim_nodes.specs.Seats.{IsUpAt};
+ghost use Rattle.lk_sim_nodes.specs.SimNodes.{IsUpAt};
 ghost use Rattle.lk_sim.specs.Events.{IsGivenTogether, IsHalted, IsNotGrouped, LeftByGroup};
 ghost use Rattle.lk_sim.specs.Groups.{AreNotesOf, WereSentTo, bringing, given_by, input_of};
 ghost use Rattle.lk_sim.specs.Refusals.{AreFor, IsFor, MayGroup, datagram_at};
 ghost use Rattle.lk_sim.specs.Concluded.{HasAddedSteps, HasGivenUp, HasConcludedSteps};
-ghost use Rattle.lk_sim.specs.Worlds.{PartsKeepInvariant, scene_of};
+ghost use Rattle.lk_sim.specs.Worlds.{PartsKeepInvariant, world_state_of};
 
 use crate::copied_input::CopiedInput;
 use crate::datagrams::{datagram, has_room};
@@ -56,10 +56,11 @@ fn add_all<R: MemoryReplica>(
     outcome: GroupOutcome,
 ) -> Result<(), NoMemory>
     ensures ok { OnOk result
-        (HasAddedSteps (scene_of parts.old) (scene_of parts.new) outcome.steps.items outcome.sent.items outcome.ended) }
-    ensures err { OnErr result (scene_of parts.new ≡ scene_of parts.old) }
+        (HasAddedSteps (world_state_of parts.old) (world_state_of parts.new) outcome.steps.items outcome.sent.items
+        outcome.ended) }
+    ensures err { OnErr result (world_state_of parts.new ≡ world_state_of parts.old) }
     ensures wants { OnErr result (outcome.steps.items ≡ [] → outcome.sent.items ≡ [] → ⊥) }
-    ensures seats { parts.new.seats ≡ parts.old.seats }
+    ensures sim_nodes { parts.new.sim_nodes ≡ parts.old.sim_nodes }
 {
     if is_nothing(&outcome) {
         parts.ended = outcome.ended;
@@ -84,21 +85,22 @@ fn finish_group<R: MemoryReplica>(
     i: usize,
     outcome: GroupOutcome,
 ) -> Result<(), NoMemory>
-    requires index { i < length parts.old.seats.items }
+    requires index { i < length parts.old.sim_nodes.items }
     ensures ok { OnOk result
-        (HasConcludedSteps R.Shows R.behaves R.meaning (scene_of parts.old) i
-        (scene_of parts.new) outcome.steps.items outcome.sent.items outcome.ended outcome.stop) }
-    ensures err { OnErr result (HasGivenUp R.Shows R.behaves R.meaning (scene_of parts.old) i (scene_of parts.new)) }
+        (HasConcludedSteps R.Shows R.behaves R.meaning (world_state_of parts.old) i
+        (world_state_of parts.new) outcome.steps.items outcome.sent.items outcome.ended outcome.stop) }
+    ensures err { OnErr result (HasGivenUp R.Shows R.behaves R.meaning (world_state_of parts.old) i
+        (world_state_of parts.new)) }
     ensures wants { OnErr result (outcome.steps.items ≡ [] → outcome.sent.items ≡ [] → ⊥) }
 {
     let at = outcome.stop;
     match add_all(parts, outcome) {
         Ok(()) => {
-            carry_out_stop(parts.alloc, &mut parts.seats[i], at);
+            carry_out_stop(parts.alloc, &mut parts.sim_nodes[i], at);
             Ok(())
         }
         Err(refused) => {
-            stop(parts.alloc, &mut parts.seats[i], 0, 0);
+            stop(parts.alloc, &mut parts.sim_nodes[i], 0, 0);
             Err(refused)
         }
     }
@@ -110,18 +112,18 @@ fn give_all<R: MemoryReplica>(
     i: usize,
     inputs: Vec<Input<'_>>,
 ) -> Result<(), NoMemory>
-    requires up { (n : ℕ) × IsUpAt parts.old.seats.items i n }
+    requires up { (n : ℕ) × IsUpAt parts.old.sim_nodes.items i n }
     requires heard { WereSentTo parts.old.sent.items inputs.items }
     requires holds { PartsKeepInvariant R.Shows (disks_by R.behaves) R.meaning parts.old }
     ensures holds { PartsKeepInvariant R.Shows (disks_by R.behaves) R.meaning parts.new }
-    ensures given { (n : ℕ) → IsUpAt parts.old.seats.items i n
-        → OnOk result (IsGivenTogether R.behaves (scene_of parts.old) (scene_of parts.new) n
+    ensures given { (n : ℕ) → IsUpAt parts.old.sim_nodes.items i n
+        → OnOk result (IsGivenTogether R.behaves (world_state_of parts.old) (world_state_of parts.new) n
         inputs.entry.items) }
-    ensures halted { (n : ℕ) → IsUpAt parts.old.seats.items i n
-        → OnErr result (IsHalted (LeftByGroup R.behaves inputs.entry.items) (scene_of parts.old)
-        (scene_of parts.new) n) }
+    ensures halted { (n : ℕ) → IsUpAt parts.old.sim_nodes.items i n
+        → OnErr result (IsHalted (LeftByGroup R.behaves inputs.entry.items) (world_state_of parts.old)
+        (world_state_of parts.new) n) }
 {
-    let outcome = step_all(parts.alloc, &mut parts.seats[i], inputs)?;
+    let outcome = step_all(parts.alloc, &mut parts.sim_nodes[i], inputs)?;
     finish_group(parts, i, outcome)?;
     Ok(())
 }
@@ -211,13 +213,13 @@ pub fn group<R: MemoryReplica>(
     requires { PartsKeepInvariant R.Shows (disks_by R.behaves) R.meaning parts.old }
     ensures holds { PartsKeepInvariant R.Shows (disks_by R.behaves) R.meaning parts.new }
     ensures ok { OnOk result
-        (MayGroup (scene_of parts.old) number group_inputs.now
-        × IsGivenTogether R.behaves (scene_of parts.old) (scene_of parts.new) number
+        (MayGroup (world_state_of parts.old) number group_inputs.now
+        × IsGivenTogether R.behaves (world_state_of parts.old) (world_state_of parts.new) number
         (map (given_by parts.old.sent.items) group_inputs.now)) }
     ensures err { IfErr result
-        (λ e. IsNotGrouped R.behaves (scene_of parts.old) number group_inputs.now e (scene_of parts.new)) }
+        (λ e. IsNotGrouped R.behaves (world_state_of parts.old) number group_inputs.now e (world_state_of parts.new)) }
 {
-    let i = find_up(&parts.seats, number)?;
+    let i = find_up(&parts.sim_nodes, number)?;
     if !are_for(&parts.sent, number, group_inputs) {
         return Err(Refused::NoSuchDatagram);
     }

@@ -3,7 +3,7 @@ ghost use Rattle.std.specs.Prelude.{OnOk, IfErr};
 ghost use Rattle.lk_replica.specs.Behaviours.{disks_by};
 ghost use Rattle.lk_sim.specs.Events.{IsExecuted, IsRefused};
 ghost use Rattle.lk_sim.specs.Runs.{Runs};
-ghost use Rattle.lk_sim.specs.Worlds.{PartsKeepInvariant, scene_of};
+ghost use Rattle.lk_sim.specs.Worlds.{PartsKeepInvariant, world_state_of};
 
 use crate::client::client;
 use crate::compacting::compact;
@@ -20,8 +20,9 @@ use lk_sim_nodes::Refused;
 pub fn happen<R: MemoryReplica>(parts: &mut WorldParts<R>, event: &Event) -> Result<(), Refused>
     requires { PartsKeepInvariant R.Shows (disks_by R.behaves) R.meaning parts.old }
     ensures holds { PartsKeepInvariant R.Shows (disks_by R.behaves) R.meaning parts.new }
-    ensures ok { OnOk result (IsExecuted R.behaves (scene_of parts.old) event.now (scene_of parts.new)) }
-    ensures err { IfErr result (λ e. IsRefused R.behaves (scene_of parts.old) event.now e (scene_of parts.new)) }
+    ensures ok { OnOk result (IsExecuted R.behaves (world_state_of parts.old) event.now (world_state_of parts.new)) }
+    ensures err { IfErr result (λ e. IsRefused R.behaves (world_state_of parts.old) event.now e
+        (world_state_of parts.new)) }
 {
     match event {
         Event::Start(number) => start(parts, *number),
@@ -43,7 +44,7 @@ pub fn happen<R: MemoryReplica>(parts: &mut WorldParts<R>, event: &Event) -> Res
 pub fn happen_all<R: MemoryReplica>(parts: &mut WorldParts<R>, events: &[Event]) -> RunEnd
     requires { PartsKeepInvariant R.Shows (disks_by R.behaves) R.meaning parts.old }
     ensures holds { PartsKeepInvariant R.Shows (disks_by R.behaves) R.meaning parts.new }
-    ensures runs { Runs R.behaves (scene_of parts.old) events.now result (scene_of parts.new) }
+    ensures runs { Runs R.behaves (world_state_of parts.old) events.now result (world_state_of parts.new) }
 {
     'events: for i in 0..events.len() {
         if let Err(refused) = happen(parts, &events[i]) {

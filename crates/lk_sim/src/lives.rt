@@ -2,8 +2,8 @@
 ghost use Rattle.std.specs.Prelude.{◌≡◌, IfErr, OnOk, OnErr};
 ghost use Rattle.lk_replica.specs.Behaviours.{disks_by};
 ghost use Rattle.lk_sim.specs.Events.{IsExecuted, IsAdded, IsRefused, StartWants};
-ghost use Rattle.lk_sim_nodes.specs.Seats.{HasNo};
-ghost use Rattle.lk_sim.specs.Worlds.{PartsKeepInvariant, scene_of};
+ghost use Rattle.lk_sim_nodes.specs.SimNodes.{HasNo};
+ghost use Rattle.lk_sim.specs.Worlds.{PartsKeepInvariant, world_state_of};
 ghost use Rattle.lk_sim.specs.declared.event.Event.TheVariants as event;
 ghost use Rattle.lk_sim_nodes.specs.declared.refused.Refused.TheVariants.{WorldMemory};
 
@@ -13,7 +13,7 @@ use lk_disk::Trap;
 use lk_memory_disk::MemoryDisk;
 use lk_replica::MemoryReplica;
 use lk_sim_nodes::{
-    Life, Refused, Seat, carry_out_stop, find, find_down, find_up, revive, set_trap, stop,
+    Refused, RunState, SimNode, carry_out_stop, find, find_down, find_up, revive, set_trap, stop,
 };
 use lk_types::{NoMemory, NodeNo};
 
@@ -25,23 +25,23 @@ fn start_new_node<R: MemoryReplica>(
     parts: &mut WorldParts<R>,
     number: NodeNo,
 ) -> Result<(), NoMemory>
-    requires unused { HasNo parts.old.seats.items number }
+    requires unused { HasNo parts.old.sim_nodes.items number }
     requires holds { PartsKeepInvariant R.Shows (disks_by R.behaves) R.meaning parts.old }
     ensures holds { PartsKeepInvariant R.Shows (disks_by R.behaves) R.meaning parts.new }
-    ensures ok { OnOk result (IsAdded R.behaves (scene_of parts.old) (scene_of parts.new) number) }
-    ensures err { OnErr result (scene_of parts.new ≡ scene_of parts.old) }
+    ensures ok { OnOk result (IsAdded R.behaves (world_state_of parts.old) (world_state_of parts.new) number) }
+    ensures err { OnErr result (world_state_of parts.new ≡ world_state_of parts.old) }
     // Memory ran out for the node's place, before its start, or for the result of its start.
-    ensures wants { OnErr result (StartWants R.behaves parts.old.genesis number parts.old.seats) }
+    ensures wants { OnErr result (StartWants R.behaves parts.old.genesis number parts.old.sim_nodes) }
 {
-    let life = Life::Down(MemoryDisk::new(parts.alloc));
-    let mut seat = Seat { number, life };
+    let run_state = RunState::Down(MemoryDisk::new(parts.alloc));
+    let mut sim_node = SimNode { number, run_state };
     // Room for the node comes first, so that nothing can fail once its notes are added.
-    parts.seats.reserve(1)?;
-    let outcome = revive(parts.alloc, &mut seat, &parts.genesis)?;
+    parts.sim_nodes.reserve(1)?;
+    let outcome = revive(parts.alloc, &mut sim_node, &parts.genesis)?;
     let at = outcome.stop;
     add(parts, None, outcome)?;
-    carry_out_stop(parts.alloc, &mut seat, at);
-    parts.seats.push(seat).unwrap();
+    carry_out_stop(parts.alloc, &mut sim_node, at);
+    parts.sim_nodes.push(sim_node).unwrap();
     Ok(())
 }
 
@@ -49,16 +49,17 @@ fn start_new_node<R: MemoryReplica>(
 pub fn start<R: MemoryReplica>(parts: &mut WorldParts<R>, number: NodeNo) -> Result<(), Refused>
     requires { PartsKeepInvariant R.Shows (disks_by R.behaves) R.meaning parts.old }
     ensures holds { PartsKeepInvariant R.Shows (disks_by R.behaves) R.meaning parts.new }
-    ensures ok { OnOk result (IsExecuted R.behaves (scene_of parts.old) (event.Start number) (scene_of parts.new)) }
+    ensures ok { OnOk result (IsExecuted R.behaves (world_state_of parts.old) (event.Start number)
+        (world_state_of parts.new)) }
     ensures err { IfErr result
-        (λ e. IsRefused R.behaves (scene_of parts.old) (event.Start number) e (scene_of parts.new)) }
+        (λ e. IsRefused R.behaves (world_state_of parts.old) (event.Start number) e (world_state_of parts.new)) }
     ensures wants { IfErr result
-        (λ e. e ≡ WorldMemory → StartWants R.behaves parts.old.genesis number parts.old.seats) }
+        (λ e. e ≡ WorldMemory → StartWants R.behaves parts.old.genesis number parts.old.sim_nodes) }
 {
-    if let Some(_) = find(&parts.seats, number) {
+    if let Some(_) = find(&parts.sim_nodes, number) {
         return Err(Refused::AlreadyUp);
     }
-    if parts.seats.len() >= MAX_NODES {
+    if parts.sim_nodes.len() >= MAX_NODES {
         return Err(Refused::WorldFull);
     }
     start_new_node(parts, number)?;
@@ -69,11 +70,12 @@ pub fn start<R: MemoryReplica>(parts: &mut WorldParts<R>, number: NodeNo) -> Res
 pub fn restart<R: MemoryReplica>(parts: &mut WorldParts<R>, number: NodeNo) -> Result<(), Refused>
     requires { PartsKeepInvariant R.Shows (disks_by R.behaves) R.meaning parts.old }
     ensures holds { PartsKeepInvariant R.Shows (disks_by R.behaves) R.meaning parts.new }
-    ensures ok { OnOk result (IsExecuted R.behaves (scene_of parts.old) (event.Restart number) (scene_of parts.new)) }
+    ensures ok { OnOk result (IsExecuted R.behaves (world_state_of parts.old) (event.Restart number)
+        (world_state_of parts.new)) }
     ensures err { IfErr result
-        (λ e. IsRefused R.behaves (scene_of parts.old) (event.Restart number) e (scene_of parts.new)) }
+        (λ e. IsRefused R.behaves (world_state_of parts.old) (event.Restart number) e (world_state_of parts.new)) }
 {
-    let i = find_down(&parts.seats, number)?;
+    let i = find_down(&parts.sim_nodes, number)?;
     come_up(parts, i)?;
     Ok(())
 }
@@ -87,12 +89,13 @@ pub fn halt<R: MemoryReplica>(
 ) -> Result<(), Refused>
     requires { PartsKeepInvariant R.Shows (disks_by R.behaves) R.meaning parts.old }
     ensures holds { PartsKeepInvariant R.Shows (disks_by R.behaves) R.meaning parts.new }
-    ensures ok { OnOk result (IsExecuted R.behaves (scene_of parts.old) (event.Stop number x y) (scene_of parts.new)) }
+    ensures ok { OnOk result (IsExecuted R.behaves (world_state_of parts.old) (event.Stop number x y)
+        (world_state_of parts.new)) }
     ensures err { IfErr result
-        (λ e. IsRefused R.behaves (scene_of parts.old) (event.Stop number x y) e (scene_of parts.new)) }
+        (λ e. IsRefused R.behaves (world_state_of parts.old) (event.Stop number x y) e (world_state_of parts.new)) }
 {
-    let i = find_up(&parts.seats, number)?;
-    stop(parts.alloc, &mut parts.seats[i], x, y);
+    let i = find_up(&parts.sim_nodes, number)?;
+    stop(parts.alloc, &mut parts.sim_nodes[i], x, y);
     parts.ended = None;
     Ok(())
 }
@@ -105,13 +108,13 @@ pub fn fail_at<R: MemoryReplica>(
 ) -> Result<(), Refused>
     requires { PartsKeepInvariant R.Shows (disks_by R.behaves) R.meaning parts.old }
     ensures holds { PartsKeepInvariant R.Shows (disks_by R.behaves) R.meaning parts.new }
-    ensures ok { OnOk result (IsExecuted R.behaves (scene_of parts.old) (event.FailAt number count)
-        (scene_of parts.new)) }
+    ensures ok { OnOk result (IsExecuted R.behaves (world_state_of parts.old) (event.FailAt number count)
+        (world_state_of parts.new)) }
     ensures err { IfErr result
-        (λ e. IsRefused R.behaves (scene_of parts.old) (event.FailAt number count) e (scene_of parts.new)) }
+        (λ e. IsRefused R.behaves (world_state_of parts.old) (event.FailAt number count) e (world_state_of parts.new)) }
 {
-    let i = find(&parts.seats, number).ok_or(Refused::NoSuchNode)?;
-    set_trap(&mut parts.seats[i], Trap::Fail(count));
+    let i = find(&parts.sim_nodes, number).ok_or(Refused::NoSuchNode)?;
+    set_trap(&mut parts.sim_nodes[i], Trap::Fail(count));
     parts.ended = None;
     Ok(())
 }
@@ -125,13 +128,14 @@ pub fn arm<R: MemoryReplica>(
 ) -> Result<(), Refused>
     requires { PartsKeepInvariant R.Shows (disks_by R.behaves) R.meaning parts.old }
     ensures holds { PartsKeepInvariant R.Shows (disks_by R.behaves) R.meaning parts.new }
-    ensures ok { OnOk result (IsExecuted R.behaves (scene_of parts.old) (event.Arm number count bytes)
-        (scene_of parts.new)) }
+    ensures ok { OnOk result (IsExecuted R.behaves (world_state_of parts.old) (event.Arm number count bytes)
+        (world_state_of parts.new)) }
     ensures err { IfErr result
-        (λ e. IsRefused R.behaves (scene_of parts.old) (event.Arm number count bytes) e (scene_of parts.new)) }
+        (λ e. IsRefused R.behaves (world_state_of parts.old) (event.Arm number count bytes) e
+        (world_state_of parts.new)) }
 {
-    let i = find(&parts.seats, number).ok_or(Refused::NoSuchNode)?;
-    set_trap(&mut parts.seats[i], Trap::Arm(count, bytes));
+    let i = find(&parts.sim_nodes, number).ok_or(Refused::NoSuchNode)?;
+    set_trap(&mut parts.sim_nodes[i], Trap::Arm(count, bytes));
     parts.ended = None;
     Ok(())
 }

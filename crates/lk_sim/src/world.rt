@@ -19,12 +19,12 @@ pub struct World<R: MemoryReplica> {
 impl<R: MemoryReplica> Model for World<R> {
     ghost use Rattle.lk_replica.specs.Behaviours.{disks_by};
     ghost use Rattle.lk_sim_nodes.specs.Ends.{IsEndByCalls};
-    ghost use Rattle.lk_sim.specs.Scenes.{Scene};
-    ghost use Rattle.lk_sim.specs.Worlds.{PartsKeepInvariant, scene_of};
+    ghost use Rattle.lk_sim.specs.WorldStates.{WorldState};
+    ghost use Rattle.lk_sim.specs.Worlds.{PartsKeepInvariant, world_state_of};
 
-    ghost Value = { Scene R };
+    ghost Value = { WorldState R };
 
-    ghost view = { λ w. scene_of w.parts };
+    ghost view = { λ w. world_state_of w.parts };
 
     ghost invariant = { λ w. PartsKeepInvariant R.Shows (disks_by R.behaves) R.meaning w.parts
         × IsEndByCalls w.parts.ended };
@@ -37,23 +37,23 @@ impl<R: MemoryReplica> World<R> {
     ghost use Rattle.lk_sim.specs.Events.{IsExecuted, IsRefused, Grows};
     ghost use Rattle.lk_disk.specs.Disk.{contents};
     ghost use Rattle.lk_disk.specs.declared.device.Side.TheVariants.{A, B};
-    ghost use Rattle.lk_sim_nodes.specs.Seats.{disks_of, At, HasNo};
+    ghost use Rattle.lk_sim_nodes.specs.SimNodes.{disks_of, At, HasNo};
     ghost use Rattle.lk_sim_nodes.specs.Left.{left_of};
     ghost use Rattle.lk_sim.specs.Packed.{LeavesPackedState};
     ghost use Rattle.lk_sim.specs.Guarantees.{WorldGuarantee};
     ghost use Rattle.lk_sim.specs.Runs.{Runs};
     ghost use Rattle.lk_sim.specs.Worlds.{KeepsInvariant};
-    ghost use Rattle.lk_sim_nodes.specs.declared.seat.Seat.{Seat as SeatValue};
+    ghost use Rattle.lk_sim_nodes.specs.declared.sim_node.SimNode.{SimNode as SimNodeValue};
 
     /// Returns a world of this genesis in which no node was started and nothing was sent.
     pub fn new(alloc: Global, genesis: Genesis) -> Self
-        ensures { result ≡ record { genesis = genesis; seats = []; sent = []; trace = []; ended = None } }
+        ensures { result ≡ record { genesis = genesis; sim_nodes = []; sent = []; trace = []; ended = None } }
     {
         World {
             parts: WorldParts {
                 alloc,
                 genesis,
-                seats: Vec::new(alloc),
+                sim_nodes: Vec::new(alloc),
                 sent: Vec::new(alloc),
                 trace: Vec::new(alloc),
                 ended: None,
@@ -116,30 +116,31 @@ impl<R: MemoryReplica> World<R> {
 
     /// Returns how many bytes the disks A and B of this node have, synced or not, or `None` if it was never started.
     pub fn lengths(&self, node: NodeNo) -> Option<(usize, usize)>
-        ensures some { IfSome result (λ l. (k : ℕ) × (s : SeatValue R) × At self.now.seats k s × (s.number ≡ node)
-            × (l.0 ≡ length (contents (disks_of (disks_by R.behaves) s.life A)))
-            × (l.1 ≡ length (contents (disks_of (disks_by R.behaves) s.life B)))) }
-        ensures none { result ≡ None → HasNo self.now.seats node }
+        ensures some { IfSome result (λ l. (k : ℕ) × (s : SimNodeValue R) × At self.now.sim_nodes k s
+            × (s.number ≡ node)
+            × (l.0 ≡ length (contents (disks_of (disks_by R.behaves) s.run_state A)))
+            × (l.1 ≡ length (contents (disks_of (disks_by R.behaves) s.run_state B)))) }
+        ensures none { result ≡ None → HasNo self.now.sim_nodes node }
     {
-        let i = find(&self.parts.seats, node)?;
-        Some(lengths(&self.parts.seats[i]))
+        let i = find(&self.parts.sim_nodes, node)?;
+        Some(lengths(&self.parts.sim_nodes[i]))
     }
 
     /// Ends the world and returns the nodes that were ever started, with their disks, in the order of their starts.
     /// Fails only when out of memory.
     pub fn into_nodes(self) -> Result<Vec<LeftNode>, NoMemory>
-        ensures { IfOk result (λ nodes. nodes.items ≡ map (left_of R.behaves) self.seats) }
+        ensures { IfOk result (λ nodes. nodes.items ≡ map (left_of R.behaves) self.sim_nodes) }
     {
         let World { parts } = self;
         let WorldParts {
             alloc,
             genesis: _,
-            seats,
+            sim_nodes,
             sent: _,
             trace: _,
             ended: _,
         } = parts;
-        all_left(alloc, seats)
+        all_left(alloc, sim_nodes)
     }
 
     /// Makes the guarantee available to proofs about this world, and the whole invariant on which it rests. The

@@ -1,6 +1,6 @@
 use lk_node_interface::Note;
 use lk_replica::Datagram;
-use lk_sim_nodes::{End, Seat};
+use lk_sim_nodes::{End, SimNode};
 use lk_types::Genesis;
 use std::alloc::Global;
 
@@ -10,7 +10,7 @@ use std::alloc::Global;
 pub struct WorldParts<R: Drop> {
     pub alloc: Global,
     pub genesis: Genesis,
-    pub seats: Vec<Seat<R>>,
+    pub sim_nodes: Vec<SimNode<R>>,
     pub sent: Vec<Datagram>,
     pub trace: Vec<Note>,
     pub ended: Option<End>,

@@ -72,7 +72,7 @@ pub fn states_of<M: MemoryReplica>(
     alloc: Global,
     world: World<M>,
 ) -> Result<Vec<NodeState>, NoMemory>
-    ensures { IfOk result (λ states. AreStatesOf (map (left_of M.behaves) world.seats) states.items) }
+    ensures { IfOk result (λ states. AreStatesOf (map (left_of M.behaves) world.sim_nodes) states.items) }
 {
     let nodes = world.into_nodes()?;
     all_states(alloc, nodes)
@@ -101,8 +101,8 @@ fn write_disk<W: Write>(name: &str, synced: usize, written: usize, out: &mut W) 
 
 // Writes the lines of a node: `node N up` or `node N down`, its two disks, and its store.
 fn write_state<W: Write>(state: &NodeState, out: &mut W) -> io::Result<()> {
-    let life = if state.is_up { "up" } else { "down" };
-    writeln!(out, "node {} {life}", state.number.get())?;
+    let run_state = if state.is_up { "up" } else { "down" };
+    writeln!(out, "node {} {run_state}", state.number.get())?;
     write_disk("a", state.synced.0, state.written.0, out)?;
     write_disk("b", state.synced.1, state.written.1, out)?;
     write_store(&state.found, out)

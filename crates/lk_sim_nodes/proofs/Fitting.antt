@@ -13,10 +13,10 @@ use Rattle.lk_node.specs.Holdings.{Holding}
 use Rattle.lk_node.specs.Leavings.{header_of, DisksFit}
 use Rattle.lk_replica.specs.Behaviours.{Behaviour, disks_by}
 use Rattle.lk_sim_nodes.specs.Rooms.{AreShort}
-use Rattle.lk_sim_nodes.specs.Seats.{UpFits, SeatFits, device_in}
-use Rattle.lk_sim_nodes.specs.declared.seat.Seat.{Seat}
-use Rattle.lk_sim_nodes.specs.declared.seat.Life.{Life}
-use Rattle.lk_sim_nodes.specs.declared.seat.Life.TheVariants.{Up, Down}
+use Rattle.lk_sim_nodes.specs.SimNodes.{UpFits, SimNodeFits, device_in}
+use Rattle.lk_sim_nodes.specs.declared.sim_node.SimNode.{SimNode}
+use Rattle.lk_sim_nodes.specs.declared.sim_node.RunState.{RunState}
+use Rattle.lk_sim_nodes.specs.declared.sim_node.RunState.TheVariants.{Up, Down}
 use Rattle.lk_sim_nodes.proofs.Shortness.{same_short}
 
 -- ---- devices
@@ -62,8 +62,8 @@ module _ {R : Type 0} (Shows : R → Genesis → ℕ → Holding → Type 0) (di
       record { lawful = lawful; holding = u.holding; shown = u.shown; fits = u.fits; left = u.left }
 
   -- down, on these disks
-  pub down_fits : (new : Seat R) (d : Memory) → new.life ≡ Down d → DisksFit m h new.number (disk_of d)
-      → AreShort (disk_of d) → SeatFits Shows disks m h w new
+  pub down_fits : (new : SimNode R) (d : Memory) → new.run_state ≡ Down d → DisksFit m h new.number (disk_of d)
+      → AreShort (disk_of d) → SimNodeFits Shows disks m h w new
   down_fits new d down f short = record {
     up = λ q is. absurd (cc (down, is));
     down = λ e is. let same : d ≡ e = cc (down, is) in subst (λ z. DisksFit m h new.number (disk_of z)) same f;
@@ -71,9 +71,9 @@ module _ {R : Type 0} (Shows : R → Genesis → ℕ → Holding → Type 0) (di
   }
 
   -- a trap was set
-  pub trapped_up : (s new : Seat R) (r q : R) → s.life ≡ Up r → new.life ≡ Up q → new.number ≡ s.number
-      → ((n : ℕ) → UpFits Shows disks m h w n r → UpFits Shows disks m h w n q) → SeatFits Shows disks m h w s
-      → SeatFits Shows disks m h w new
+  pub trapped_up : (s new : SimNode R) (r q : R) → s.run_state ≡ Up r → new.run_state ≡ Up q → new.number ≡ s.number
+      → ((n : ℕ) → UpFits Shows disks m h w n r → UpFits Shows disks m h w n q) → SimNodeFits Shows disks m h w s
+      → SimNodeFits Shows disks m h w new
   trapped_up s new r q old now number on f = record {
     up = λ p is. let e : q ≡ p = cc (now, is) in
         subst (λ k. UpFits Shows disks m h w k p) (sym number)
@@ -82,8 +82,9 @@ module _ {R : Type 0} (Shows : R → Genesis → ℕ → Holding → Type 0) (di
     room = λ d is. absurd (cc (now, is));
   }
 
-  pub trapped_down : (s new : Seat R) (d e : Memory) → s.life ≡ Down d → new.life ≡ Down e → new.number ≡ s.number
-      → ((k : Side) → disk_of e k ≡ disk_of d k) → SeatFits Shows disks m h w s → SeatFits Shows disks m h w new
+  pub trapped_down : (s new : SimNode R) (d e : Memory) → s.run_state ≡ Down d → new.run_state ≡ Down e
+      → new.number ≡ s.number
+      → ((k : Side) → disk_of e k ≡ disk_of d k) → SimNodeFits Shows disks m h w s → SimNodeFits Shows disks m h w new
   trapped_down s new d e old now number same f =
       down_fits new e now (subst (λ k. DisksFit m h k (disk_of e)) (sym number)
       (same_disks m h s.number (disk_of d) (disk_of e) same (f.down d old)))
@@ -91,9 +92,9 @@ module _ {R : Type 0} (Shows : R → Genesis → ℕ → Holding → Type 0) (di
 
 -- where a node is down, what a stop may leave of it fits as it did
 pub down_left : {R : Type 0} (Shows : R → Genesis → ℕ → Holding → Type 0) (b : Behaviour R) (m : Meaning) (h : History)
-    (w : PaxosState) (s : Seat R) (d : Memory) → s.life ≡ Down d → SeatFits Shows (disks_by b) m h w s
-    → DisksFit m h s.number (disk_of (device_in b s.life)) × AreShort (disk_of (device_in b s.life))
+    (w : PaxosState) (s : SimNode R) (d : Memory) → s.run_state ≡ Down d → SimNodeFits Shows (disks_by b) m h w s
+    → DisksFit m h s.number (disk_of (device_in b s.run_state)) × AreShort (disk_of (device_in b s.run_state))
 down_left Shows b m h w s d down f = (
-  subst (λ (l : Life _). DisksFit m h s.number (disk_of (device_in b l))) (sym down) (f.down d down),
-  subst (λ (l : Life _). AreShort (disk_of (device_in b l))) (sym down) (f.room d down),
+  subst (λ (l : RunState _). DisksFit m h s.number (disk_of (device_in b l))) (sym down) (f.down d down),
+  subst (λ (l : RunState _). AreShort (disk_of (device_in b l))) (sym down) (f.room d down),
 )

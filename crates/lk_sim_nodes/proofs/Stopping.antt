@@ -21,10 +21,10 @@ use Rattle.lk_replica.specs.Behaviours.{Behaviour, TrapsAlone, disks_by}
 use Rattle.lk_sim_nodes.specs.Sends.{SentUpTo, counting}
 use Rattle.lk_sim_nodes.specs.Outcomes.{StopsIfArmed}
 use Rattle.lk_sim_nodes.specs.Rooms.{AreShort}
-use Rattle.lk_sim_nodes.specs.Seats.{UpFits, stopped_on, fallen_on, rested_on, device_in}
-use Rattle.lk_sim_nodes.specs.declared.seat.Seat.{Seat}
-use Rattle.lk_sim_nodes.specs.declared.seat.Life.{Life}
-use Rattle.lk_sim_nodes.specs.declared.seat.Life.TheVariants.{Down}
+use Rattle.lk_sim_nodes.specs.SimNodes.{UpFits, stopped_on, fallen_on, rested_on, device_in}
+use Rattle.lk_sim_nodes.specs.declared.sim_node.SimNode.{SimNode}
+use Rattle.lk_sim_nodes.specs.declared.sim_node.RunState.{RunState}
+use Rattle.lk_sim_nodes.specs.declared.sim_node.RunState.TheVariants.{Down}
 use Rattle.lk_sim_nodes.proofs.Fitting.{same_disks}
 use Rattle.lk_sim_nodes.proofs.Shortness.{same_short}
 
@@ -148,7 +148,8 @@ module _ {R : Type 0} (b : Behaviour R) (alone : TrapsAlone b) where
   stopped_sent (Some bytes) r q all sent up = ap (λ z. stopped_on 0 0 (b.memory z)) up.2
 
 -- the device of a node that has come to rest
-pub rested : {R : Type 0} (b : Behaviour R) (stop : Option ℕ) (t next : Seat R) (left : Memory)
-    → t.life ≡ Down (fallen_on left) → StopsIfArmed b stop t next → next.life ≡ Down (rested_on stop left)
-rested b None t next left down r = ap (λ (z : Seat _). z.life) r ∙ down
-rested b (Some bytes) t next left down r = r ∙ ap (λ (z : Life _). Down (stopped_on bytes bytes (device_in b z))) down
+pub rested : {R : Type 0} (b : Behaviour R) (stop : Option ℕ) (t next : SimNode R) (left : Memory)
+    → t.run_state ≡ Down (fallen_on left) → StopsIfArmed b stop t next → next.run_state ≡ Down (rested_on stop left)
+rested b None t next left down r = ap (λ (z : SimNode _). z.run_state) r ∙ down
+rested b (Some bytes) t next left down r =
+    r ∙ ap (λ (z : RunState _). Down (stopped_on bytes bytes (device_in b z))) down

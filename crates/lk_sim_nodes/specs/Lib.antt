@@ -1,5 +1,5 @@
 pub mod Rooms
-pub mod Seats
+pub mod SimNodes
 pub mod Ends
 pub mod Sends
 pub mod Outcomes

@@ -9,11 +9,11 @@ ghost use Rattle.lk_replica.specs.Behaviours.{disks_by};
 ghost use Rattle.lk_sim_nodes.specs.Ends.{Breaks, FailsToCompact, IsEndByCalls, StaysDown};
 ghost use Rattle.lk_sim_nodes.specs.Outcomes.{HasEndedByFault, HasCompacted, HasRevived, HasTaken};
 ghost use Rattle.lk_sim_nodes.specs.Outcomes.{HasStoppedOutOfMemory};
-ghost use Rattle.lk_sim_nodes.specs.Seats.{SeatFits, SeatGoes};
-ghost use Rattle.lk_sim_nodes.specs.declared.seat.Life.TheVariants.{Up, Down};
+ghost use Rattle.lk_sim_nodes.specs.SimNodes.{SimNodeFits, SimNodeGoes};
+ghost use Rattle.lk_sim_nodes.specs.declared.sim_node.RunState.TheVariants.{Up, Down};
 
 use crate::outcome::{Outcome, count_sends, ended_at, stop_node};
-use crate::seat::{Life, Seat, remove_device};
+use crate::sim_node::{RunState, SimNode, remove_device};
 use lk_node_interface::Input;
 use lk_replica::{MemoryReplica, Taken};
 use lk_store_format::Header;
@@ -24,29 +24,30 @@ use std::alloc::Global;
 /// down, and the outcome says why; on `NoMemory` it has stopped, and kept none of its unsynced bytes.
 pub fn step<R: MemoryReplica>(
     alloc: Global,
-    seat: &mut Seat<R>,
+    sim_node: &mut SimNode<R>,
     input: Input,
 ) -> Result<Outcome, NoMemory>
-    requires up { (r : R) × (seat.old.life ≡ Up r) }
-    ensures number { seat.new.number ≡ seat.old.number }
+    requires up { (r : R) × (sim_node.old.run_state ≡ Up r) }
+    ensures number { sim_node.new.number ≡ sim_node.old.number }
     ensures goes { (h : History) (w : PaxosState) → IsLawful R.meaning h
-        → SeatFits R.Shows (disks_by R.behaves) R.meaning h w seat.old → InputFits h input.entry
-        → IfOk result (λ o. (q : R) → seat.new.life ≡ Up q
-        → SeatGoes R.Shows (disks_by R.behaves) R.meaning h seat.new o.notes.items o.sent.items) }
+        → SimNodeFits R.Shows (disks_by R.behaves) R.meaning h w sim_node.old → InputFits h input.entry
+        → IfOk result (λ o. (q : R) → sim_node.new.run_state ≡ Up q
+        → SimNodeGoes R.Shows (disks_by R.behaves) R.meaning h sim_node.new o.notes.items o.sent.items) }
     ensures falls { (h : History) (w : PaxosState) → IsLawful R.meaning h
-        → SeatFits R.Shows (disks_by R.behaves) R.meaning h w seat.old → InputFits h input.entry
-        → (d : Memory) → seat.new.life ≡ Down d → SeatFits R.Shows (disks_by R.behaves) R.meaning h w seat.new }
-    ensures exact { (r : R) → seat.old.life ≡ Up r
+        → SimNodeFits R.Shows (disks_by R.behaves) R.meaning h w sim_node.old → InputFits h input.entry
+        → (d : Memory) → sim_node.new.run_state ≡ Down d → SimNodeFits R.Shows (disks_by R.behaves) R.meaning h w
+        sim_node.new }
+    ensures exact { (r : R) → sim_node.old.run_state ≡ Up r
         → IfOk result (λ o. HasTaken R.behaves r
-        input.entry seat.new o.notes.items o.sent.items o.ended o.stop
+        input.entry sim_node.new o.notes.items o.sent.items o.ended o.stop
         ⊎ HasEndedByFault (Breaks R.behaves r
-        input.entry) seat.new o.notes.items o.sent.items o.ended o.stop) }
+        input.entry) sim_node.new o.notes.items o.sent.items o.ended o.stop) }
     ensures told { IfOk result (λ o. IsEndByCalls o.ended) }
-    ensures wants { (r : R) → seat.old.life ≡ Up r
-        → OnErr result (HasStoppedOutOfMemory (Breaks R.behaves r input.entry) seat.new) }
+    ensures wants { (r : R) → sim_node.old.run_state ≡ Up r
+        → OnErr result (HasStoppedOutOfMemory (Breaks R.behaves r input.entry) sim_node.new) }
 {
-    let node = seat.number;
-    let Life::Up(replica) = &mut seat.life else {
+    let node = sim_node.number;
+    let RunState::Up(replica) = &mut sim_node.run_state else {
         unreachable!()
     };
     match replica.take(input) {
@@ -61,8 +62,8 @@ pub fn step<R: MemoryReplica>(
             })
         }
         Err(fault) => {
-            let device = remove_device(alloc, seat);
-            stop_node(alloc, seat, device, fault)
+            let device = remove_device(alloc, sim_node);
+            stop_node(alloc, sim_node, device, fault)
         }
     }
 }
@@ -70,25 +71,26 @@ pub fn step<R: MemoryReplica>(
 /// Makes the node, which is up, write a snapshot of everything executed. If that fails, it goes down as in `step`.
 pub fn compact_node<R: MemoryReplica>(
     alloc: Global,
-    seat: &mut Seat<R>,
+    sim_node: &mut SimNode<R>,
 ) -> Result<Outcome, NoMemory>
-    requires up { (r : R) × (seat.old.life ≡ Up r) }
-    ensures number { seat.new.number ≡ seat.old.number }
+    requires up { (r : R) × (sim_node.old.run_state ≡ Up r) }
+    ensures number { sim_node.new.number ≡ sim_node.old.number }
     ensures goes { (h : History) (w : PaxosState) → IsLawful R.meaning h
-        → SeatFits R.Shows (disks_by R.behaves) R.meaning h w seat.old
-        → IfOk result (λ o. (q : R) → seat.new.life ≡ Up q
-        → SeatGoes R.Shows (disks_by R.behaves) R.meaning h seat.new o.notes.items o.sent.items) }
+        → SimNodeFits R.Shows (disks_by R.behaves) R.meaning h w sim_node.old
+        → IfOk result (λ o. (q : R) → sim_node.new.run_state ≡ Up q
+        → SimNodeGoes R.Shows (disks_by R.behaves) R.meaning h sim_node.new o.notes.items o.sent.items) }
     ensures falls { (h : History) (w : PaxosState) → IsLawful R.meaning h
-        → SeatFits R.Shows (disks_by R.behaves) R.meaning h w seat.old
-        → (d : Memory) → seat.new.life ≡ Down d → SeatFits R.Shows (disks_by R.behaves) R.meaning h w seat.new }
-    ensures exact { (r : R) → seat.old.life ≡ Up r
-        → IfOk result (λ o. HasCompacted R.behaves r seat.new o.notes.items o.sent.items o.ended o.stop
-        ⊎ HasEndedByFault (FailsToCompact R.behaves r) seat.new o.notes.items o.sent.items o.ended o.stop) }
+        → SimNodeFits R.Shows (disks_by R.behaves) R.meaning h w sim_node.old
+        → (d : Memory) → sim_node.new.run_state ≡ Down d → SimNodeFits R.Shows (disks_by R.behaves) R.meaning h w
+        sim_node.new }
+    ensures exact { (r : R) → sim_node.old.run_state ≡ Up r
+        → IfOk result (λ o. HasCompacted R.behaves r sim_node.new o.notes.items o.sent.items o.ended o.stop
+        ⊎ HasEndedByFault (FailsToCompact R.behaves r) sim_node.new o.notes.items o.sent.items o.ended o.stop) }
     ensures told { IfOk result (λ o. IsEndByCalls o.ended) }
-    ensures wants { (r : R) → seat.old.life ≡ Up r
-        → OnErr result (HasStoppedOutOfMemory (FailsToCompact R.behaves r) seat.new) }
+    ensures wants { (r : R) → sim_node.old.run_state ≡ Up r
+        → OnErr result (HasStoppedOutOfMemory (FailsToCompact R.behaves r) sim_node.new) }
 {
-    let Life::Up(replica) = &mut seat.life else {
+    let RunState::Up(replica) = &mut sim_node.run_state else {
         unreachable!()
     };
     match replica.compact() {
@@ -99,8 +101,8 @@ pub fn compact_node<R: MemoryReplica>(
             stop: None,
         }),
         Err(fault) => {
-            let device = remove_device(alloc, seat);
-            stop_node(alloc, seat, device, fault)
+            let device = remove_device(alloc, sim_node);
+            stop_node(alloc, sim_node, device, fault)
         }
     }
 }
@@ -108,32 +110,34 @@ pub fn compact_node<R: MemoryReplica>(
 /// Restarts the node from its disks, and returns what it noted. If that fails, it stays down as in `step`.
 pub fn revive<R: MemoryReplica>(
     alloc: Global,
-    seat: &mut Seat<R>,
+    sim_node: &mut SimNode<R>,
     genesis: &Genesis,
 ) -> Result<Outcome, NoMemory>
-    ensures number { seat.new.number ≡ seat.old.number }
+    ensures number { sim_node.new.number ≡ sim_node.old.number }
     ensures goes { (h : History) (w : PaxosState) → h.genesis ≡ genesis.now → IsLawful R.meaning h
-        → SeatFits R.Shows (disks_by R.behaves) R.meaning h w seat.old
-        → IfOk result (λ o. (q : R) → seat.new.life ≡ Up q
-        → SeatGoes R.Shows (disks_by R.behaves) R.meaning h seat.new o.notes.items o.sent.items) }
+        → SimNodeFits R.Shows (disks_by R.behaves) R.meaning h w sim_node.old
+        → IfOk result (λ o. (q : R) → sim_node.new.run_state ≡ Up q
+        → SimNodeGoes R.Shows (disks_by R.behaves) R.meaning h sim_node.new o.notes.items o.sent.items) }
     ensures falls { (h : History) (w : PaxosState) → h.genesis ≡ genesis.now → IsLawful R.meaning h
-        → SeatFits R.Shows (disks_by R.behaves) R.meaning h w seat.old
-        → (d : Memory) → seat.new.life ≡ Down d → SeatFits R.Shows (disks_by R.behaves) R.meaning h w seat.new }
-    ensures exact { (d : Memory) → seat.old.life ≡ Down d
+        → SimNodeFits R.Shows (disks_by R.behaves) R.meaning h w sim_node.old
+        → (d : Memory) → sim_node.new.run_state ≡ Down d → SimNodeFits R.Shows (disks_by R.behaves) R.meaning h w
+        sim_node.new }
+    ensures exact { (d : Memory) → sim_node.old.run_state ≡ Down d
         → IfOk result (λ o. HasRevived R.behaves d
-        (header_of genesis.now seat.old.number) seat.new o.notes.items o.sent.items o.ended o.stop
-        ⊎ HasEndedByFault (StaysDown R.behaves d (header_of genesis.now seat.old.number)) seat.new o.notes.items
+        (header_of genesis.now sim_node.old.number) sim_node.new o.notes.items o.sent.items o.ended o.stop
+        ⊎ HasEndedByFault (StaysDown R.behaves d (header_of genesis.now sim_node.old.number)) sim_node.new o.notes.items
         o.sent.items o.ended o.stop) }
     ensures told { (h : History) (w : PaxosState) → h.genesis ≡ genesis.now → IsLawful R.meaning h
-        → SeatFits R.Shows (disks_by R.behaves) R.meaning h w seat.old → IfOk result (λ o. IsEndByCalls o.ended) }
-    ensures wants { (d : Memory) → seat.old.life ≡ Down d
+        → SimNodeFits R.Shows (disks_by R.behaves) R.meaning h w sim_node.old
+        → IfOk result (λ o. IsEndByCalls o.ended) }
+    ensures wants { (d : Memory) → sim_node.old.run_state ≡ Down d
         → OnErr result (HasStoppedOutOfMemory (StaysDown R.behaves d
-        (header_of genesis.now seat.old.number)) seat.new) }
+        (header_of genesis.now sim_node.old.number)) sim_node.new) }
 {
-    let device = remove_device(alloc, seat);
-    match R::revive(alloc, device, &Header::new(seat.number, genesis.copy())) {
+    let device = remove_device(alloc, sim_node);
+    match R::revive(alloc, device, &Header::new(sim_node.number, genesis.copy())) {
         Ok(revived) => {
-            seat.life = Life::Up(revived.replica);
+            sim_node.run_state = RunState::Up(revived.replica);
             Ok(Outcome {
                 notes: revived.notes,
                 sent: Vec::new(alloc),
@@ -141,6 +145,6 @@ pub fn revive<R: MemoryReplica>(
                 stop: None,
             })
         }
-        Err(refused) => stop_node(alloc, seat, refused.device, refused.fault),
+        Err(refused) => stop_node(alloc, sim_node, refused.device, refused.fault),
     }
 }

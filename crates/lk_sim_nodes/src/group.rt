@@ -12,12 +12,12 @@ ghost use Rattle.lk_replica.specs.Together.{EachLeavesFit, parts_of};
 ghost use Rattle.lk_sim_nodes.specs.Ends.{BreaksTogether, IsEndByCalls};
 ghost use Rattle.lk_sim_nodes.specs.Outcomes.{HasFallenTogether, HasTakenTogether, HasStoppedOutOfMemory};
 ghost use Rattle.lk_sim_nodes.specs.Rooms.{AreShort};
-ghost use Rattle.lk_sim_nodes.specs.Seats.{SeatFits, device_in};
-ghost use Rattle.lk_sim_nodes.specs.declared.seat.Life.TheVariants.{Up};
+ghost use Rattle.lk_sim_nodes.specs.SimNodes.{SimNodeFits, device_in};
+ghost use Rattle.lk_sim_nodes.specs.declared.sim_node.RunState.TheVariants.{Up};
 
 use crate::end::End;
 use crate::outcome::{Outcome, count_sends, ended_at, stop_node};
-use crate::seat::{Life, Seat, remove_device};
+use crate::sim_node::{RunState, SimNode, remove_device};
 use lk_node_interface::Input;
 use lk_replica::{Datagram, MemoryReplica, Step, TakenAll};
 use lk_types::NoMemory;
@@ -52,32 +52,33 @@ fn fallen(alloc: Global, outcome: Outcome) -> GroupOutcome
 /// the group was sent.
 pub fn step_all<R: MemoryReplica>(
     alloc: Global,
-    seat: &mut Seat<R>,
+    sim_node: &mut SimNode<R>,
     inputs: Vec<Input<'_>>,
 ) -> Result<GroupOutcome, NoMemory>
-    requires up { (r : R) × (seat.old.life ≡ Up r) }
-    ensures number { seat.new.number ≡ seat.old.number }
-    ensures goes { (r : R) → seat.old.life ≡ Up r → (genesis : GenesisValue) (held : Holding)
-        → R.Shows r genesis seat.old.number held
-        → IfOk result (λ o. (q : R) → seat.new.life ≡ Up q
-        → EachLeavesFit R.Shows (disks_by R.behaves) R.meaning seat.old.number r inputs.entry.items q
+    requires up { (r : R) × (sim_node.old.run_state ≡ Up r) }
+    ensures number { sim_node.new.number ≡ sim_node.old.number }
+    ensures goes { (r : R) → sim_node.old.run_state ≡ Up r → (genesis : GenesisValue) (held : Holding)
+        → R.Shows r genesis sim_node.old.number held
+        → IfOk result (λ o. (q : R) → sim_node.new.run_state ≡ Up q
+        → EachLeavesFit R.Shows (disks_by R.behaves) R.meaning sim_node.old.number r inputs.entry.items q
         (parts_of o.steps.items o.sent.items)) }
     // However it ends, whatever a stop may leave of it fits if nothing of the group is sent.
     ensures leaves { (h : History) (w : PaxosState) → IsLawful R.meaning h
-        → SeatFits R.Shows (disks_by R.behaves) R.meaning h w seat.old → AllByRecursion (InputFits h) inputs.entry.items
-        → DisksFit R.meaning h seat.new.number (disk_of (device_in R.behaves seat.new.life))
-        × AreShort (disk_of (device_in R.behaves seat.new.life)) }
-    ensures exact { (r : R) → seat.old.life ≡ Up r
+        → SimNodeFits R.Shows (disks_by R.behaves) R.meaning h w sim_node.old → AllByRecursion (InputFits h)
+        inputs.entry.items
+        → DisksFit R.meaning h sim_node.new.number (disk_of (device_in R.behaves sim_node.new.run_state))
+        × AreShort (disk_of (device_in R.behaves sim_node.new.run_state)) }
+    ensures exact { (r : R) → sim_node.old.run_state ≡ Up r
         → IfOk result (λ o. HasTakenTogether R.behaves r
-        inputs.entry.items seat.new o.steps.items o.sent.items o.ended o.stop
-        ⊎ HasFallenTogether (BreaksTogether R.behaves r inputs.entry.items) seat.new o.steps.items
+        inputs.entry.items sim_node.new o.steps.items o.sent.items o.ended o.stop
+        ⊎ HasFallenTogether (BreaksTogether R.behaves r inputs.entry.items) sim_node.new o.steps.items
         o.sent.items o.ended o.stop) }
     ensures told { IfOk result (λ o. IsEndByCalls o.ended) }
-    ensures wants { (r : R) → seat.old.life ≡ Up r
-        → OnErr result (HasStoppedOutOfMemory (BreaksTogether R.behaves r inputs.entry.items) seat.new) }
+    ensures wants { (r : R) → sim_node.old.run_state ≡ Up r
+        → OnErr result (HasStoppedOutOfMemory (BreaksTogether R.behaves r inputs.entry.items) sim_node.new) }
 {
-    let node = seat.number;
-    let Life::Up(replica) = &mut seat.life else {
+    let node = sim_node.number;
+    let RunState::Up(replica) = &mut sim_node.run_state else {
         unreachable!()
     };
     match replica.take_all(inputs) {
@@ -92,8 +93,8 @@ pub fn step_all<R: MemoryReplica>(
             })
         }
         Err(fault) => {
-            let device = remove_device(alloc, seat);
-            let outcome = stop_node(alloc, seat, device, fault)?;
+            let device = remove_device(alloc, sim_node);
+            let outcome = stop_node(alloc, sim_node, device, fault)?;
             Ok(fallen(alloc, outcome))
         }
     }

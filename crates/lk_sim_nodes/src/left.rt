@@ -2,7 +2,7 @@
 ghost use Rattle.std.specs.Prelude.{◌≡◌, ◌≤◌, map, true, false, IfOk};
 ghost use Rattle.lk_sim_nodes.specs.Left.{left_of, is_up};
 
-use crate::seat::{Life, Seat};
+use crate::sim_node::{RunState, SimNode};
 use lk_memory_disk::MemoryDisk;
 use lk_replica::MemoryReplica;
 use lk_types::{NoMemory, NodeNo};
@@ -17,17 +17,17 @@ pub struct LeftNode {
 }
 
 // Takes the disks out of a node, up or down.
-fn left<R: MemoryReplica>(seat: Seat<R>) -> LeftNode
-    ensures { result ≡ left_of R.behaves seat }
+fn left<R: MemoryReplica>(sim_node: SimNode<R>) -> LeftNode
+    ensures { result ≡ left_of R.behaves sim_node }
 {
-    let Seat { number, life } = seat;
-    match life {
-        Life::Up(replica) => LeftNode {
+    let SimNode { number, run_state } = sim_node;
+    match run_state {
+        RunState::Up(replica) => LeftNode {
             number,
             is_up: true,
             device: replica.into_disks(),
         },
-        Life::Down(device) => LeftNode {
+        RunState::Down(device) => LeftNode {
             number,
             is_up: false,
             device,
@@ -38,13 +38,13 @@ fn left<R: MemoryReplica>(seat: Seat<R>) -> LeftNode
 /// Returns the nodes with their disks, in order. Fails only when out of memory.
 pub fn all_left<R: MemoryReplica>(
     alloc: Global,
-    seats: Vec<Seat<R>>,
+    sim_nodes: Vec<SimNode<R>>,
 ) -> Result<Vec<LeftNode>, NoMemory>
-    ensures { IfOk result (λ nodes. nodes.items ≡ map (left_of R.behaves) seats.items) }
+    ensures { IfOk result (λ nodes. nodes.items ≡ map (left_of R.behaves) sim_nodes.items) }
 {
     let mut nodes = Vec::new(alloc);
-    'seats: for seat in seats {
-        nodes.push(left(seat))?;
+    'sim_nodes: for sim_node in sim_nodes {
+        nodes.push(left(sim_node))?;
     }
     Ok(nodes)
 }

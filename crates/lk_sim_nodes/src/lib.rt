@@ -10,7 +10,7 @@ mod left;
 mod notes;
 mod outcome;
 mod refused;
-mod seat;
+mod sim_node;
 
 pub use calls::{compact_node, revive, step};
 pub use end::End;
@@ -20,4 +20,4 @@ pub use left::{LeftNode, all_left};
 pub use notes::add_notes;
 pub use outcome::{Outcome, carry_out_stop};
 pub use refused::Refused;
-pub use seat::{Life, Seat, lengths, set_trap, stop};
+pub use sim_node::{RunState, SimNode, lengths, set_trap, stop};

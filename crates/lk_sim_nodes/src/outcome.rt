@@ -9,12 +9,12 @@ ghost use Rattle.lk_replica.specs.Behaviours.{disks_by};
 ghost use Rattle.lk_sim_nodes.specs.Ends.{IsOtherFault, IsNoStoreMismatch, IsEndByCalls, IsOutOfMemory, end_by, end_at};
 ghost use Rattle.lk_sim_nodes.specs.Outcomes.{HasEndedByFault, IsThis, StopsIfArmed};
 ghost use Rattle.lk_sim_nodes.specs.Rooms.{AreShort};
-ghost use Rattle.lk_sim_nodes.specs.Seats.{SeatFits, stopped_on};
+ghost use Rattle.lk_sim_nodes.specs.SimNodes.{SimNodeFits, stopped_on};
 ghost use Rattle.lk_sim_nodes.specs.Sends.{SentUpTo};
-ghost use Rattle.lk_sim_nodes.specs.declared.seat.Life.TheVariants.{Down};
+ghost use Rattle.lk_sim_nodes.specs.declared.sim_node.RunState.TheVariants.{Down};
 
 use crate::end::End;
-use crate::seat::{Life, Seat, stop};
+use crate::sim_node::{RunState, SimNode, stop};
 use lk_disk::{Trap, Trapped};
 use lk_memory_disk::MemoryDisk;
 use lk_node_interface::{Note, ReplicaFault};
@@ -33,14 +33,14 @@ pub struct Outcome {
 }
 
 /// Stops the node if `at` is the number of bytes of an armed stop; each disk keeps up to so many unsynced bytes.
-pub fn carry_out_stop<R: MemoryReplica>(alloc: Global, seat: &mut Seat<R>, at: Option<usize>)
-    ensures number { seat.new.number ≡ seat.old.number }
-    ensures fits { (h : History) (w : PaxosState) → SeatFits R.Shows (disks_by R.behaves) R.meaning h w seat.old
-        → SeatFits R.Shows (disks_by R.behaves) R.meaning h w seat.new }
-    ensures rests { StopsIfArmed R.behaves at seat.old seat.new }
+pub fn carry_out_stop<R: MemoryReplica>(alloc: Global, sim_node: &mut SimNode<R>, at: Option<usize>)
+    ensures number { sim_node.new.number ≡ sim_node.old.number }
+    ensures fits { (h : History) (w : PaxosState) → SimNodeFits R.Shows (disks_by R.behaves) R.meaning h w sim_node.old
+        → SimNodeFits R.Shows (disks_by R.behaves) R.meaning h w sim_node.new }
+    ensures rests { StopsIfArmed R.behaves at sim_node.old sim_node.new }
 {
     if let Some(bytes) = at {
-        stop(alloc, seat, bytes, bytes);
+        stop(alloc, sim_node, bytes, bytes);
     }
 }
 
@@ -61,32 +61,33 @@ fn is_wanting(fault: &ReplicaFault, device: &MemoryDisk) -> bool
 /// stop, the result says so, and the caller carries it out.
 pub fn stop_node<R: MemoryReplica>(
     alloc: Global,
-    seat: &mut Seat<R>,
+    sim_node: &mut SimNode<R>,
     mut device: MemoryDisk,
     fault: ReplicaFault,
 ) -> Result<Outcome, NoMemory>
-    ensures number { seat.new.number ≡ seat.old.number }
-    ensures fits { (h : History) (w : PaxosState) → DisksFit R.meaning h seat.old.number (disk_of device)
-        → AreShort (disk_of device) → SeatFits R.Shows (disks_by R.behaves) R.meaning h w seat.new }
+    ensures number { sim_node.new.number ≡ sim_node.old.number }
+    ensures fits { (h : History) (w : PaxosState) → DisksFit R.meaning h sim_node.old.number (disk_of device)
+        → AreShort (disk_of device) → SimNodeFits R.Shows (disks_by R.behaves) R.meaning h w sim_node.new }
     ensures fallen { IfOk result
-        (λ o. HasEndedByFault (IsThis (fault_number fault) device) seat.new o.notes.items o.sent.items o.ended o.stop) }
+        (λ o. HasEndedByFault (IsThis (fault_number fault) device) sim_node.new o.notes.items o.sent.items
+        o.ended o.stop) }
     ensures told { IsNoStoreMismatch (fault_number fault) → IfOk result (λ o. IsEndByCalls o.ended) }
-    ensures halted { OnErr result (seat.new.life ≡ Down (stopped_on 0 0 device)) }
+    ensures halted { OnErr result (sim_node.new.run_state ≡ Down (stopped_on 0 0 device)) }
     ensures want { OnErr result (IsOutOfMemory (fault_number fault) device) }
 {
     if is_wanting(&fault, &device) {
         device.stop(0, 0);
         device.trap(Trap::Off);
-        seat.life = Life::Down(device);
+        sim_node.run_state = RunState::Down(device);
         return Err(NoMemory);
     }
     let stop = device.stopping();
     device.trap(Trap::Off);
-    seat.life = Life::Down(device);
+    sim_node.run_state = RunState::Down(device);
     Ok(Outcome {
         notes: Vec::new(alloc),
         sent: Vec::new(alloc),
-        ended: Some(ended_by(stop, seat.number, fault.number())),
+        ended: Some(ended_by(stop, sim_node.number, fault.number())),
         stop,
     })
 }

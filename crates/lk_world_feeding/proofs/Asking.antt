@@ -20,7 +20,7 @@ use Rattle.lk_node_interface.specs.declared.input.Input.TheVariants.{Nudge, Data
 use Rattle.lk_node_interface.specs.declared.nudge_reason.NudgeReason.TheVariants.{Fed}
 use Rattle.lk_progress.specs.Feeding.{Asks, FollowerAsks, LaggingNodeAsks}
 use Rattle.lk_replica.specs.ReplicaValue.{ReplicaValue}
-use Rattle.lk_sim.specs.Scenes.{Scene}
+use Rattle.lk_sim.specs.WorldStates.{WorldState}
 use Rattle.lk_sim.specs.declared.event.Event.TheVariants as event
 use Rattle.lk_world_feeding.proofs.Nudging.{nudged_node_asks, wanted_same}
 use Rattle.lk_world_feeding.proofs.Taking.{IsAboutProgress, StepsFrom, TakesFrom, steps_from, taken_learner, takes_from}
@@ -39,7 +39,7 @@ asks_alone node other out less (inl k) =
     (Contains-push nothing.envelopes (envelope_to node question other))
 asks_alone node other out less (inr k) = absurd (omega (arith, less, k.0))
 
-module _ (m : Meaning) (IsText : List ℕ → Type 0) (law : EventIsStep m IsText) (old new : Scene ReplicaValue)
+module _ (m : Meaning) (IsText : List ℕ → Type 0) (law : EventIsStep m IsText) (old new : WorldState ReplicaValue)
     (n other : ℕ) (r : ReplicaValue) (up : IsUpAs old n r) where
   -- ---- a step that leaves the learner makes it ask
 

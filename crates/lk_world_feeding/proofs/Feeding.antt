@@ -10,8 +10,8 @@ use Rattle.lk_state.specs.Meanings.{Meaning}
 use Rattle.lk_state.specs.States.{WholeValue}
 use Rattle.lk_learner.specs.Learners.{LearnerValue, decided_from, executed, wanted}
 use Rattle.lk_replica.specs.ReplicaValue.{ReplicaValue}
-use Rattle.lk_sim.specs.Scenes.{Scene}
-use Rattle.lk_sim_nodes.specs.declared.seat.Life.TheVariants.{Up}
+use Rattle.lk_sim.specs.WorldStates.{WorldState}
+use Rattle.lk_sim_nodes.specs.declared.sim_node.RunState.TheVariants.{Up}
 use Rattle.lk_world_feeding.proofs.Taking.{delivery_only}
 use Rattle.lk_world_feeding.specs.Asking.{AreEnough, AskedNodesSend, AsksIn, ComesToAsk, Keeps}
 use Rattle.lk_world_feeding.specs.Asking.{NodesThatAreBehindAsk, ReachesIn, RejectedNodesSend, SendsIn}
@@ -32,14 +32,16 @@ some_of ahead first d there (inl many) = omega (arith, many)
 some_of ahead first d there (inr all) = omega (arith, all, there)
 
 -- the invariant holds before a node comes to ask, and after
-asked_before : (m : Meaning) (IsText : List ℕ → Type 0) (old new : Scene ReplicaValue) (n other : ℕ) (r : ReplicaValue)
+asked_before : (m : Meaning) (IsText : List ℕ → Type 0) (old new : WorldState ReplicaValue) (n other : ℕ)
+    (r : ReplicaValue)
     → ComesToAsk m IsText n other r old new → Holds m IsText old
 asked_before m IsText old new n other r (inl (inl (inl k))) = k.2.goes.before
 asked_before m IsText old new n other r (inl (inl (inr k))) = k.4.goes.before
 asked_before m IsText old new n other r (inl (inr k)) = k.4.before
 asked_before m IsText old new n other r (inr k) = k.8.before
 
-asked_after : (m : Meaning) (IsText : List ℕ → Type 0) (old new : Scene ReplicaValue) (n other : ℕ) (r : ReplicaValue)
+asked_after : (m : Meaning) (IsText : List ℕ → Type 0) (old new : WorldState ReplicaValue) (n other : ℕ)
+    (r : ReplicaValue)
     → ComesToAsk m IsText n other r old new → Holds m IsText new
 asked_after m IsText old new n other r (inl (inl (inl k))) = k.2.goes.after
 asked_after m IsText old new n other r (inl (inl (inr k))) = k.4.goes.after
@@ -54,7 +56,7 @@ module _ (m : Meaning) (IsText : List ℕ → Type 0) (law : EventIsStep m IsTex
     (executing : SentCommandsAreExecuted m IsText) where
   -- ---- what the first node gains
 
-  module _ (n other : ℕ) (behind ahead : ReplicaValue) (first last : Scene ReplicaValue) (apart : n ≡ other → ⊥)
+  module _ (n other : ℕ) (behind ahead : ReplicaValue) (first last : WorldState ReplicaValue) (apart : n ≡ other → ⊥)
       (up : IsUpAs first n behind) (k : IsFedOnce m IsText n other behind ahead first last) where
     asks : AsksIn n other behind first k.asked
     asks = asking first k.asked n other behind up k.comes
@@ -92,7 +94,7 @@ module _ (m : Meaning) (IsText : List ℕ → Type 0) (law : EventIsStep m IsTex
 
   -- ---- one exchange
 
-  module _ (n other : ℕ) (behind ahead : ReplicaValue) (first last : Scene ReplicaValue)
+  module _ (n other : ℕ) (behind ahead : ReplicaValue) (first last : WorldState ReplicaValue)
       (can : CanBeFed m IsText first n other behind ahead)
       (less : executed behind.node.learner < executed ahead.node.learner)
       (k : IsFedOnce m IsText n other behind ahead first last) where
@@ -152,7 +154,7 @@ module _ (m : Meaning) (IsText : List ℕ → Type 0) (law : EventIsStep m IsTex
   -- ---- several
 
   -- an exchange takes nothing back
-  takes_none : (n other : ℕ) (ahead : ReplicaValue) (first last : Scene ReplicaValue) → (n ≡ other → ⊥)
+  takes_none : (n other : ℕ) (ahead : ReplicaValue) (first last : WorldState ReplicaValue) → (n ≡ other → ⊥)
       → HasCaughtUp n ahead first → Later n other (IsFed m IsText n other) first last → HasCaughtUp n ahead last
   takes_none n other ahead first last apart has k =
       let f : IsFed m IsText n other k.mid last = k.happens in
@@ -167,15 +169,15 @@ module _ (m : Meaning) (IsText : List ℕ → Type 0) (law : EventIsStep m IsTex
       (r.now, r.is, omega (arith, has.2, is, r.reaches))
 
   -- once the node has caught up, it stays so
-  still_caught : (k n other : ℕ) (ahead : ReplicaValue) (first last : Scene ReplicaValue) → (n ≡ other → ⊥)
+  still_caught : (k n other : ℕ) (ahead : ReplicaValue) (first last : WorldState ReplicaValue) → (n ≡ other → ⊥)
       → HasCaughtUp n ahead first → IsFedAgain m IsText n other k first last → HasCaughtUp n ahead last
   still_caught zero n other ahead first last apart has same =
-      subst (λ (w : Scene ReplicaValue). HasCaughtUp n ahead w) (sym same) has
+      subst (λ (w : WorldState ReplicaValue). HasCaughtUp n ahead w) (sym same) has
   still_caught (suc k) n other ahead first last apart has d =
       still_caught k n other ahead d.0 last apart (takes_none n other ahead first d.0 apart has d.1) d.2
 
   -- when the next exchange begins, both are as they were
-  module _ (n other : ℕ) (behind ahead : ReplicaValue) (first mid : Scene ReplicaValue)
+  module _ (n other : ℕ) (behind ahead : ReplicaValue) (first mid : WorldState ReplicaValue)
       (can : CanBeFed m IsText first n other behind ahead) (k : Later n other (IsFed m IsText n other) first mid) where
     abbrev exchange : IsFed m IsText n other k.mid mid
     exchange = k.happens
@@ -208,7 +210,7 @@ module _ (m : Meaning) (IsText : List ℕ → Type 0) (law : EventIsStep m IsTex
           omega (arith, at, same_executed exchange.behind.node.learner behind.node.learner same_behind, can.kept);
     }
 
-  module _ (k n other : ℕ) (behind ahead : ReplicaValue) (first mid last : Scene ReplicaValue)
+  module _ (k n other : ℕ) (behind ahead : ReplicaValue) (first mid last : WorldState ReplicaValue)
       (can : CanBeFed m IsText first n other behind ahead)
       (less : executed behind.node.learner < executed ahead.node.learner)
       (near : executed ahead.node.learner ≤ executed behind.node.learner + suc k * 16)
@@ -252,12 +254,12 @@ module _ (m : Meaning) (IsText : List ℕ → Type 0) (law : EventIsStep m IsTex
         by_many (inr all) =
             still_caught k n other ahead mid last can.apart (q, gain.gains.1, omega (arith, all, reaches)) again
 
-  catches_up : (k n other : ℕ) (behind ahead : ReplicaValue) (first last : Scene ReplicaValue)
+  catches_up : (k n other : ℕ) (behind ahead : ReplicaValue) (first last : WorldState ReplicaValue)
       → CanBeFed m IsText first n other behind ahead
       → executed ahead.node.learner ≤ executed behind.node.learner + k * 16 → IsFedAgain m IsText n other k first last
       → HasCaughtUp n ahead last
   catches_up zero n other behind ahead first last can near same =
-      subst (λ (w : Scene ReplicaValue). HasCaughtUp n ahead w) (sym same) (behind, can.up, omega (arith, near))
+      subst (λ (w : WorldState ReplicaValue). HasCaughtUp n ahead w) (sym same) (behind, can.up, omega (arith, near))
   catches_up (suc k) n other behind ahead first last can near d =
       elim (cases_lt (executed behind.node.learner) (executed ahead.node.learner)) [
         | inl less ↦
@@ -282,7 +284,7 @@ module _ (m : Meaning) (IsText : List ℕ → Type 0) (law : EventIsStep m IsTex
 
 module _ (m : Meaning) (IsText : List ℕ → Type 0) (sending : RejectedNodesSend m IsText)
     (executing : SentCommandsAreExecuted m IsText) (n other : ℕ) (nack : Nack) (behind ahead : ReplicaValue)
-    (first last : Scene ReplicaValue) (can : CanBeFed m IsText first n other behind ahead)
+    (first last : WorldState ReplicaValue) (can : CanBeFed m IsText first n other behind ahead)
     (kept : ahead.node.learner.snapshot_position ≤ nack.executed) (past : nack.executed ≤ executed behind.node.learner)
     (less : nack.executed < executed ahead.node.learner)
     (k : IsFedUnasked m IsText n other nack ahead first last) where

@@ -28,7 +28,7 @@ use Rattle.lk_progress.proofs.Hearing.{Handled, handled, same_learner}
 use Rattle.lk_progress.specs.Gathering.{GetsOn, HasFirst, HasSoFar, parts_from}
 use Rattle.lk_progress.specs.Hearing.{Takes, TakesEach}
 use Rattle.lk_replica.specs.ReplicaValue.{ReplicaValue}
-use Rattle.lk_sim.specs.Scenes.{Scene}
+use Rattle.lk_sim.specs.WorldStates.{WorldState}
 use Rattle.lk_world_feeding.proofs.Knowing.{left_is}
 use Rattle.lk_world_feeding.proofs.Taking.{TakesFrom, takes_from, then_only}
 use Rattle.lk_world_feeding.specs.Asking.{ChangesOnly}
@@ -162,7 +162,7 @@ first_follows position text count p parts follow =
 
 -- The node took the parts, as steps of a node; after the last one a snapshot may have replaced what it has executed.
 pub record TookParts (m : Meaning) (IsText : List ℕ → Type 0) (n from : ℕ) (parts : List PartValue) (r : ReplicaValue)
-    (old new : Scene ReplicaValue) : Type 0 where
+    (old new : WorldState ReplicaValue) : Type 0 where
   pub last : NodeValue
   pub envelopes : List EnvelopeValue
   pub takes : TakesEach m IsText (parts_from from parts) r.node last envelopes
@@ -174,7 +174,7 @@ pub record TookParts (m : Meaning) (IsText : List ℕ → Type 0) (n from : ℕ)
 module _ (m : Meaning) (IsText : List ℕ → Type 0) (law : EventIsStep m IsText) (n from position : ℕ) (text : List ℕ)
   where
     -- one part, taken by a node that has no rebase due
-    module _ (x : Content) (r : ReplicaValue) (old new : Scene ReplicaValue) (up : IsUpAs old n r)
+    module _ (x : Content) (r : ReplicaValue) (old new : WorldState ReplicaValue) (up : IsUpAs old n r)
         (k : Delivers m IsText n x old new) where
       abbrev took : TakesFrom m IsText law n x r old new
       took = takes_from m IsText law n x r old new up k.hears
@@ -186,7 +186,8 @@ module _ (m : Meaning) (IsText : List ℕ → Type 0) (law : EventIsStep m IsTex
       taken = subst (λ (node : NodeValue). Takes m IsText node x took.steps.step.last took.steps.step.out) rested
           took.takes
 
-    took_parts : (parts : List PartValue) (p : PartValue) (count : ℕ) (r : ReplicaValue) (old new : Scene ReplicaValue)
+    took_parts : (parts : List PartValue) (p : PartValue) (count : ℕ) (r : ReplicaValue)
+        (old new : WorldState ReplicaValue)
         → IsUpAs old n r → executed r.node.learner < position → HasSoFar r.node.learner position text count
         → Follow position text count (p ∷ parts) → DeliversInTurn m IsText n (parts_from from (p ∷ parts)) old new
         → TookParts m IsText n from (p ∷ parts) r old new
@@ -205,9 +206,9 @@ module _ (m : Meaning) (IsText : List ℕ → Type 0) (law : EventIsStep m IsTex
             sym (append-nil t.steps.step.out.envelopes),
           );
           now = t.steps.step.after;
-          is = subst (λ (w : Scene ReplicaValue). IsUpAs w n t.steps.step.after) (sym e) t.steps.step.is;
+          is = subst (λ (w : WorldState ReplicaValue). IsUpAs w n t.steps.step.after) (sym e) t.steps.step.is;
           left = left_is t.steps.step.out t.steps.step.last t.steps.step.after t.steps.step.left;
-          only = subst (λ (w : Scene ReplicaValue). ChangesOnly n old w) (sym e) t.steps.only;
+          only = subst (λ (w : WorldState ReplicaValue). ChangesOnly n old w) (sym e) t.steps.only;
         }
     took_parts (q ∷ parts) p count r old new up behind has follow d =
         let x : Content = content.Node from (kinds.Part p) in
@@ -244,7 +245,7 @@ module _ (m : Meaning) (IsText : List ℕ → Type 0) (law : EventIsStep m IsTex
         }
 
     -- and the parts of an exchange, one at least
-    pub all_taken : (parts : List PartValue) (count : ℕ) (r : ReplicaValue) (old new : Scene ReplicaValue)
+    pub all_taken : (parts : List PartValue) (count : ℕ) (r : ReplicaValue) (old new : WorldState ReplicaValue)
         → 1 ≤ length parts → IsUpAs old n r → executed r.node.learner < position
         → HasSoFar r.node.learner position text count → Follow position text count parts
         → DeliversInTurn m IsText n (parts_from from parts) old new → TookParts m IsText n from parts r old new
@@ -279,14 +280,16 @@ same_parts position start text some all are others p c = (c.0, within others.all
     ap_some e = e ∙ sym is.0
 
 -- deliveries keep the invariant
-delivered_holds : (m : Meaning) (IsText : List ℕ → Type 0) (n : ℕ) (xs : List Content) (old new : Scene ReplicaValue)
+delivered_holds : (m : Meaning) (IsText : List ℕ → Type 0) (n : ℕ) (xs : List Content)
+    (old new : WorldState ReplicaValue)
     → Holds m IsText old → DeliversInTurn m IsText n xs old new → Holds m IsText new
-delivered_holds m IsText n [] old new holds same = subst (λ (w : Scene ReplicaValue). Holds m IsText w) (sym same) holds
+delivered_holds m IsText n [] old new holds same =
+    subst (λ (w : WorldState ReplicaValue). Holds m IsText w) (sym same) holds
 delivered_holds m IsText n (x ∷ xs) old new holds d =
     delivered_holds m IsText n xs d.0 new d.1.hears.goes.after d.2
 
 pub parts_hold : (m : Meaning) (IsText : List ℕ → Type 0) (n from : ℕ) (parts : List PartValue)
-    (old new : Scene ReplicaValue) → 1 ≤ length parts → DeliversInTurn m IsText n (parts_from from parts) old new
+    (old new : WorldState ReplicaValue) → 1 ≤ length parts → DeliversInTurn m IsText n (parts_from from parts) old new
     → Holds m IsText new
 parts_hold m IsText n from [] old new some d = absurd (omega (arith, some))
 parts_hold m IsText n from (p ∷ parts) old new some d =
@@ -314,7 +317,7 @@ gets_on_since old mid new position reached text same (inr more) = inr (more.0, m
 -- ---- a part of a newer snapshot
 
 module _ (m : Meaning) (IsText : List ℕ → Type 0) (law : EventIsStep m IsText) where
-  module _ (old new : Scene ReplicaValue) (n from : ℕ) (r : ReplicaValue) (g : GatheredValue) (p : PartValue)
+  module _ (old new : WorldState ReplicaValue) (n from : ℕ) (r : ReplicaValue) (g : GatheredValue) (p : PartValue)
       (up : IsUpAs old n r) (is : r.node.learner.gathered ≡ Some g) (newer : g.position < p.position)
       (behind : executed r.node.learner < p.position) (later : 1 ≤ p.offset) (some : 1 ≤ p.total)
       (k : Delivers m IsText n (content.Node from (kinds.Part p)) old new) where

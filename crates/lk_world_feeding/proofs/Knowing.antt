@@ -27,10 +27,10 @@ use Rattle.lk_node.specs.NodeValue.{NodeValue}
 use Rattle.lk_node_interface.specs.Outboxes.{OutboxValue}
 use Rattle.lk_progress.specs.Feeding.{MayServe}
 use Rattle.lk_replica.specs.ReplicaValue.{ReplicaValue}
-use Rattle.lk_sim.specs.Scenes.{Scene}
+use Rattle.lk_sim.specs.WorldStates.{WorldState}
 use Rattle.lk_replica.specs.Behaviours.{disks_by}
 use Rattle.lk_sim.specs.Traces.{happened}
-use Rattle.lk_sim_nodes.specs.Seats.{UpFits}
+use Rattle.lk_sim_nodes.specs.SimNodes.{UpFits}
 use Rattle.lk_world_progress.proofs.Noting.{genesis_fits, header_fits}
 use Rattle.lk_world_progress.proofs.Stepping.{shown, up_fits}
 use Rattle.lk_world_progress.specs.Stepping.{Holds, IsLeft, IsUpAs, Shows, behaviour}
@@ -55,7 +55,7 @@ some_text x = omega (
 
 -- ---- a node that is up
 
-module _ (m : Meaning) (IsText : List ℕ → Type 0) (w : Scene ReplicaValue) (holds : Holds m IsText w) (n : ℕ) where
+module _ (m : Meaning) (IsText : List ℕ → Type 0) (w : WorldState ReplicaValue) (holds : Holds m IsText w) (n : ℕ) where
   -- it knows the members alpha positions ahead
   pub window_alpha : (r : ReplicaValue) → IsUpAs w n r → alpha r.node.learner ≡ w.genesis.alpha
   window_alpha r c = (shown m IsText w holds n r c).1.told.tells.window
@@ -103,13 +103,13 @@ all_at P (v ∷ L) f = (f (suc zero) v refl, all_at P L later')
     later' (suc k) u e = f (suc (suc k)) u e
 
 -- it is the packed text of the state after a chosen list
-pub record HasSnapshot (m : Meaning) (w : Scene ReplicaValue) (r : ReplicaValue) : Type 0 where
+pub record HasSnapshot (m : Meaning) (w : WorldState ReplicaValue) (r : ReplicaValue) : Type 0 where
   pub under : List Command
   pub chosen : Chosen w.genesis w.sent under
   pub reaches : length under ≡ r.node.learner.snapshot_position
   pub is : r.node.learner.snapshot ≡ text m w.genesis under
 
-module _ (m : Meaning) (IsText : List ℕ → Type 0) (w : Scene ReplicaValue) (holds : Holds m IsText w) (n : ℕ)
+module _ (m : Meaning) (IsText : List ℕ → Type 0) (w : WorldState ReplicaValue) (holds : Holds m IsText w) (n : ℕ)
     (r : ReplicaValue) (up : IsUpAs w n r) where
   abbrev fits : UpFits (Shows m) (disks_by (behaviour m IsText)) m (happened w.genesis w.sent w.trace)
       (holds.states n) n r

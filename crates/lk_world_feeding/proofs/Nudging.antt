@@ -31,7 +31,7 @@ use Rattle.lk_node_interface.specs.declared.nudge_reason.NudgeReason.{NudgeReaso
 use Rattle.lk_node_interface.specs.declared.nudge_reason.NudgeReason.TheVariants.{Period, TicksWithheld, Fed}
 use Rattle.lk_progress.proofs.Hearing.{proposed_learner, proposed_envelopes}
 use Rattle.lk_replica.specs.ReplicaValue.{ReplicaValue}
-use Rattle.lk_sim.specs.Scenes.{Scene}
+use Rattle.lk_sim.specs.WorldStates.{WorldState}
 use Rattle.lk_sim.specs.declared.event.Event.TheVariants as event
 use Rattle.lk_world_feeding.proofs.Taking.{StepsFrom, steps_from, then_only}
 use Rattle.lk_world_feeding.specs.Asking.{AsksIn, IsNudged}
@@ -97,7 +97,7 @@ begins_afresh Period ne old new out k = (false, k)
 begins_afresh TicksWithheld ne old new out k = (true, k)
 begins_afresh Fed ne old new out k = absurd (ne refl)
 
-module _ (m : Meaning) (IsText : List ℕ → Type 0) (law : EventIsStep m IsText) (old new : Scene ReplicaValue)
+module _ (m : Meaning) (IsText : List ℕ → Type 0) (law : EventIsStep m IsText) (old new : WorldState ReplicaValue)
     (n other : ℕ) (r : ReplicaValue) (up : IsUpAs old n r) where
   -- ---- whom it asks or tells
 
@@ -289,7 +289,8 @@ module _ (m : Meaning) (IsText : List ℕ → Type 0) (law : EventIsStep m IsTex
       let afresh = begins_afresh k.1 k.2 s.step.start s.step.last s.step.out s.step.steps in
       nudged k.1 afresh.0 s afresh.1 k.0 k.3 k.4 k.5 k.6 k.7
 
-pub nudged_node_asks : (m : Meaning) (IsText : List ℕ → Type 0) → EventIsStep m IsText → (old new : Scene ReplicaValue)
+pub nudged_node_asks : (m : Meaning) (IsText : List ℕ → Type 0) → EventIsStep m IsText
+    → (old new : WorldState ReplicaValue)
     (n other : ℕ) (r : ReplicaValue) → IsUpAs old n r → IsNudged m IsText n other r old new → AsksIn n other r old new
 nudged_node_asks m IsText law old new n other r up k = nudged_asks m IsText law old new n other r up k
 

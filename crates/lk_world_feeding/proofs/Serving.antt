@@ -15,7 +15,7 @@ use Rattle.lk_node_interface.specs.Outboxes.{OutboxValue}
 use Rattle.lk_progress.specs.Feeding.{DecidedIsExecuted, LaggingNodeIsFed, Sends, WantIsAnswered}
 use Rattle.lk_progress.specs.Hearing.{Takes}
 use Rattle.lk_replica.specs.ReplicaValue.{ReplicaValue}
-use Rattle.lk_sim.specs.Scenes.{Scene}
+use Rattle.lk_sim.specs.WorldStates.{WorldState}
 use Rattle.lk_world_feeding.proofs.Knowing.{has_window, may_serve}
 use Rattle.lk_world_feeding.proofs.Taking.{IsAboutProgress, TakesFrom, taken_learner, takes_from}
 use Rattle.lk_world_feeding.specs.Asking.{AskedNodesSend, ChangesOnly, Keeps, RejectedNodesSend, SendsIn}
@@ -33,7 +33,7 @@ use Rattle.lk_world_progress.specs.Stepping.{EventIsStep, IsUpAs}
 -- ---- a rested node takes one datagram
 
 module _ (m : Meaning) (IsText : List ℕ → Type 0) (law : DeliveriesAreTaken m IsText) (n from : ℕ) (x : NodeMessage)
-    (other : IsOtherThanPart x) (about : IsAboutProgress x) (r : ReplicaValue) (old new : Scene ReplicaValue)
+    (other : IsOtherThanPart x) (about : IsAboutProgress x) (r : ReplicaValue) (old new : WorldState ReplicaValue)
     (up : IsUpAs old n r) (k : Delivers m IsText n (content.Node from x) old new) where
   all : TakesContents m IsText n (content.Node from x ∷ []) r old new
   all = law old new n (content.Node from x ∷ []) r k.hears.goes.before up
@@ -74,7 +74,7 @@ module _ (m : Meaning) (IsText : List ℕ → Type 0) (law : DeliveriesAreTaken 
 
 module _ (m : Meaning) (IsText : List ℕ → Type 0) (law : DeliveriesAreTaken m IsText) where
   sends_in : (n other first offset : ℕ) (x : NodeMessage) (part : IsOtherThanPart x) (about : IsAboutProgress x)
-      (r : ReplicaValue) (old new : Scene ReplicaValue) (up : IsUpAs old n r) → Keeps r first
+      (r : ReplicaValue) (old new : WorldState ReplicaValue) (up : IsUpAs old n r) → Keeps r first
       → (k : Delivers m IsText n (content.Node other x) old new)
       → (t : TakesOne m IsText law n other x part about r old new up k) → Sends r.node other first offset t.out
       → SendsIn n other r first old new

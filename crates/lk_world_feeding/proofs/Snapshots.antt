@@ -13,8 +13,8 @@ use Rattle.lk_learner.specs.Unpacking.{Unpacks}
 use Rattle.lk_progress.specs.Feeding.{MayServe, Sends, WantIsAnswered}
 use Rattle.lk_progress.specs.Gathering.{GetsOn, HasFirst, HasSoFar, PartsAreInstalled}
 use Rattle.lk_replica.specs.ReplicaValue.{ReplicaValue}
-use Rattle.lk_sim.specs.Scenes.{Scene}
-use Rattle.lk_sim_nodes.specs.declared.seat.Life.TheVariants.{Up}
+use Rattle.lk_sim.specs.WorldStates.{WorldState}
+use Rattle.lk_sim_nodes.specs.declared.sim_node.RunState.TheVariants.{Up}
 use Rattle.lk_world_feeding.proofs.Gathering.{TookParts, all_taken, gets_on_left, gets_on_since, parts_hold, same_parts}
 use Rattle.lk_world_feeding.proofs.Gathering.{start_here}
 use Rattle.lk_world_feeding.proofs.Knowing.{StatesFit, has_window, may_serve, snapshot_unpacks, window_alpha}
@@ -34,7 +34,7 @@ module _ (m : Meaning) (IsText : List ℕ → Type 0) (law : EventIsStep m IsTex
     (fit : StatesFit m IsText) where
   -- ---- one exchange
 
-  module _ (n other : ℕ) (behind ahead : ReplicaValue) (first last : Scene ReplicaValue)
+  module _ (n other : ℕ) (behind ahead : ReplicaValue) (first last : WorldState ReplicaValue)
       (needs : NeedsSnapshot m IsText first n other behind ahead)
       (k : IsSentParts m IsText n other behind ahead first last) where
     abbrev asks : AsksIn n other behind first k.asked
@@ -172,7 +172,7 @@ module _ (m : Meaning) (IsText : List ℕ → Type 0) (law : EventIsStep m IsTex
 
   -- ---- several
 
-  asked_before : (old new : Scene ReplicaValue) (n other : ℕ) (r : ReplicaValue)
+  asked_before : (old new : WorldState ReplicaValue) (n other : ℕ) (r : ReplicaValue)
       → ComesToAskOn m IsText n other r old new → Holds m IsText old
   asked_before old new n other r (inl (inl k)) = k.2.goes.before
   asked_before old new n other r (inl (inr k)) = k.4.goes.before
@@ -196,7 +196,7 @@ module _ (m : Meaning) (IsText : List ℕ → Type 0) (law : EventIsStep m IsTex
             ),
       )
 
-  module _ (k n other : ℕ) (behind ahead : ReplicaValue) (first mid last : Scene ReplicaValue)
+  module _ (k n other : ℕ) (behind ahead : ReplicaValue) (first mid last : WorldState ReplicaValue)
       (needs : NeedsSnapshot m IsText first n other behind ahead)
       (more : count_of behind + suc k * 8192 < length (text_of ahead))
       (rest : length (text_of ahead) ≤ count_of behind + suc (suc k) * 8192)
@@ -246,7 +246,7 @@ module _ (m : Meaning) (IsText : List ℕ → Type 0) (law : EventIsStep m IsTex
             }) (omega (arith, count, long, more)) (omega (arith, count, long, rest)) in
             (r.0, r.1, omega (arith, r.2, at))
 
-  last_one : (n other : ℕ) (behind ahead : ReplicaValue) (first last : Scene ReplicaValue)
+  last_one : (n other : ℕ) (behind ahead : ReplicaValue) (first last : WorldState ReplicaValue)
       → NeedsSnapshot m IsText first n other behind ahead → length (text_of ahead) ≤ count_of behind + 8192
       → IsSentParts m IsText n other behind ahead first last
       → (r : ReplicaValue) × IsUpAs last n r × (position_of ahead ≤ executed r.node.learner)
@@ -260,7 +260,7 @@ module _ (m : Meaning) (IsText : List ℕ → Type 0) (law : EventIsStep m IsTex
       ]
 
   -- when the next exchange begins, both are as they were
-  module _ (n other : ℕ) (behind ahead : ReplicaValue) (first mid : Scene ReplicaValue)
+  module _ (n other : ℕ) (behind ahead : ReplicaValue) (first mid : WorldState ReplicaValue)
       (needs : NeedsSnapshot m IsText first n other behind ahead)
       (k : Later n other (IsSentSome m IsText n other) first mid) where
     abbrev exchange : IsSentSome m IsText n other k.mid mid
@@ -309,7 +309,7 @@ module _ (m : Meaning) (IsText : List ℕ → Type 0) (law : EventIsStep m IsTex
         → length (text_of exchange.ahead) ≤ count_of exchange.behind + i
     rest_then i rest = of_both (λ l a. length a.snapshot ≤ gathered_bytes l.gathered + i) rest
 
-    back : (last : Scene ReplicaValue)
+    back : (last : WorldState ReplicaValue)
         → (r : ReplicaValue) × IsUpAs last n r × (position_of exchange.ahead ≤ executed r.node.learner)
         → (r : ReplicaValue) × IsUpAs last n r × (position_of ahead ≤ executed r.node.learner)
     back last r = (
@@ -318,7 +318,7 @@ module _ (m : Meaning) (IsText : List ℕ → Type 0) (law : EventIsStep m IsTex
       subst (λ (l : LearnerValue). l.snapshot_position ≤ executed r.0.node.learner) same_ahead r.2,
     )
 
-  all_whole : (k n other : ℕ) (behind ahead : ReplicaValue) (first last : Scene ReplicaValue)
+  all_whole : (k n other : ℕ) (behind ahead : ReplicaValue) (first last : WorldState ReplicaValue)
       → NeedsSnapshot m IsText first n other behind ahead → count_of behind + k * 8192 < length (text_of ahead)
       → length (text_of ahead) ≤ count_of behind + suc k * 8192
       → IsSentPartsAgain m IsText n other (suc k) first last
@@ -328,7 +328,7 @@ module _ (m : Meaning) (IsText : List ℕ → Type 0) (law : EventIsStep m IsTex
       let whole = last_one n other f.behind f.ahead d.1.mid d.0
       (needs_then n other behind ahead first d.0 needs d.1)
       (rest_then n other behind ahead first d.0 needs d.1 8192 (omega (arith, rest))) f.once in
-      subst (λ (w : Scene ReplicaValue). (r : ReplicaValue) × IsUpAs w n r
+      subst (λ (w : WorldState ReplicaValue). (r : ReplicaValue) × IsUpAs w n r
       × (position_of ahead ≤ executed r.node.learner)) (sym d.2)
       (back n other behind ahead first d.0 needs d.1 d.0 whole)
   all_whole (suc k) n other behind ahead first last needs more rest d =

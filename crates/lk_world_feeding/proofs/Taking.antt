@@ -23,7 +23,7 @@ use Rattle.lk_node_interface.specs.declared.input.Input.TheVariants.{Datagram as
 use Rattle.lk_progress.proofs.Hearing.{Handled, handled, same_learner}
 use Rattle.lk_progress.specs.Hearing.{Takes}
 use Rattle.lk_replica.specs.ReplicaValue.{ReplicaValue}
-use Rattle.lk_sim.specs.Scenes.{Scene}
+use Rattle.lk_sim.specs.WorldStates.{WorldState}
 use Rattle.lk_sim.specs.declared.event.Event.{Event}
 use Rattle.lk_sim.specs.declared.event.Event.TheVariants as event
 use Rattle.lk_world_feeding.specs.Asking.{ChangesOnly}
@@ -35,10 +35,10 @@ use Rattle.lk_world_progress.specs.Balloting.{HasSentTo}
 use Rattle.lk_world_progress.specs.Delivering.{Hears}
 use Rattle.lk_world_progress.specs.Stepping.{EventIsStep, Gives, GoesWell, IsFound, IsUpAs, TakesStep}
 
-pub then_only : (n : ℕ) (old mid new : Scene ReplicaValue) → ChangesOnly n old mid → ChangesOnly n mid new
+pub then_only : (n : ℕ) (old mid new : WorldState ReplicaValue) → ChangesOnly n old mid → ChangesOnly n mid new
     → ChangesOnly n old new
 then_only n old mid new a b = record {
-  others = λ k life ne c. b.others k life ne (a.others k life ne c);
+  others = λ k run_state ne c. b.others k run_state ne (a.others k run_state ne c);
   sent = λ d c. b.sent d (a.sent d c);
   genesis = b.genesis ∙ a.genesis;
 }
@@ -95,7 +95,7 @@ taken_learner m IsText old new from x out is k =
 -- ---- a step of a node of a world
 
 module _ (m : Meaning) (IsText : List ℕ → Type 0) (law : EventIsStep m IsText) where
-  step_only : (n : ℕ) (i : Input) (old new : Scene ReplicaValue) → TakesStep m IsText old n i new
+  step_only : (n : ℕ) (i : Input) (old new : WorldState ReplicaValue) → TakesStep m IsText old n i new
       → ChangesOnly n old new
   step_only n i old new s = record {
     others = s.others;
@@ -104,13 +104,13 @@ module _ (m : Meaning) (IsText : List ℕ → Type 0) (law : EventIsStep m IsTex
   }
 
   -- a delivery changes nobody but whom it reaches
-  pub delivery_only : (n : ℕ) (x : Content) (old new : Scene ReplicaValue) → Hears m IsText n x old new
+  pub delivery_only : (n : ℕ) (x : Content) (old new : WorldState ReplicaValue) → Hears m IsText n x old new
       → ChangesOnly n old new
   delivery_only n x old new k = step_only n (Heard k.datagram.bytes) old new
       (law old new (event.Deliver k.place) n (Heard k.datagram.bytes) k.goes (k.datagram, k.stands, k.bound, refl))
 
   -- the event is a step of this replica
-  pub record StepsFrom (n : ℕ) (i : Input) (r : ReplicaValue) (old new : Scene ReplicaValue) : Type 0 where
+  pub record StepsFrom (n : ℕ) (i : Input) (r : ReplicaValue) (old new : WorldState ReplicaValue) : Type 0 where
     pub step : TakesStep m IsText old n i new
     pub found : IsFound r step.start
     pub header : step.start.header ≡ header_of old.genesis n
@@ -118,7 +118,8 @@ module _ (m : Meaning) (IsText : List ℕ → Type 0) (law : EventIsStep m IsTex
     pub says : (k : ℕ) (y : NodeMessage) → Contains step.out.envelopes (envelope_to step.start y k)
         → HasSentTo new n k y
 
-  pub steps_from : (n : ℕ) (i : Input) (e : Event) (r : ReplicaValue) (old new : Scene ReplicaValue) → IsUpAs old n r
+  pub steps_from : (n : ℕ) (i : Input) (e : Event) (r : ReplicaValue) (old new : WorldState ReplicaValue)
+      → IsUpAs old n r
       → GoesWell m IsText old e new → Gives old e n i → StepsFrom n i r old new
   steps_from n i e r old new up goes gives = by_step (law old new e n i goes gives)
     where
@@ -138,12 +139,12 @@ module _ (m : Meaning) (IsText : List ℕ → Type 0) (law : EventIsStep m IsTex
           }
 
   -- a datagram that is delivered to the node
-  pub record TakesFrom (n : ℕ) (x : Content) (r : ReplicaValue) (old new : Scene ReplicaValue) : Type 0 where
+  pub record TakesFrom (n : ℕ) (x : Content) (r : ReplicaValue) (old new : WorldState ReplicaValue) : Type 0 where
     pub bytes : List ℕ
     pub steps : StepsFrom n (Heard bytes) r old new
     pub takes : Takes m IsText steps.step.start x steps.step.last steps.step.out
 
-  pub takes_from : (n : ℕ) (x : Content) (r : ReplicaValue) (old new : Scene ReplicaValue) → IsUpAs old n r
+  pub takes_from : (n : ℕ) (x : Content) (r : ReplicaValue) (old new : WorldState ReplicaValue) → IsUpAs old n r
       → Hears m IsText n x old new → TakesFrom n x r old new
   takes_from n x r old new up hears = by_steps (steps_from n (Heard hears.datagram.bytes) (event.Deliver hears.place) r
       old new up hears.goes (hears.datagram, hears.stands, hears.bound, refl))

@@ -10,14 +10,14 @@ use Rattle.lk_learner.specs.Learners.{GatheredValue, executed, gathered_bytes}
 use Rattle.lk_node.specs.BorneOut.{text}
 use Rattle.lk_progress.specs.Gathering.{HasFirst}
 use Rattle.lk_replica.specs.ReplicaValue.{ReplicaValue}
-use Rattle.lk_sim.specs.Scenes.{Scene}
+use Rattle.lk_sim.specs.WorldStates.{WorldState}
 use Rattle.lk_world_feeding.proofs.Knowing.{HasSnapshot, has_gathered, has_snapshot, may_serve}
 use Rattle.lk_world_feeding.specs.Feeding.{CanBeFed}
 use Rattle.lk_world_feeding.specs.Gathering.{AllCanBeFed, HasGathered, IsOpenAt, NeedsSnapshot, count_of, position_of}
 use Rattle.lk_world_feeding.specs.Gathering.{text_of}
 use Rattle.lk_world_progress.specs.Stepping.{Holds, IsUpAs}
 
-module _ (m : Meaning) (IsText : List ℕ → Type 0) (w : Scene ReplicaValue) (n other : ℕ)
+module _ (m : Meaning) (IsText : List ℕ → Type 0) (w : WorldState ReplicaValue) (n other : ℕ)
     (behind ahead : ReplicaValue) (holds : Holds m IsText w) (up : IsUpAs w n behind)
     (other_up : IsUpAs w other ahead) where
   module _ (g : GatheredValue) (is : behind.node.learner.gathered ≡ Some g) (at : g.position ≡ position_of ahead)

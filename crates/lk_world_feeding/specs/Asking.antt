@@ -16,66 +16,73 @@ use Rattle.lk_node_interface.specs.declared.nudge_reason.NudgeReason.{NudgeReaso
 use Rattle.lk_node_interface.specs.declared.nudge_reason.NudgeReason.TheVariants.{Fed}
 use Rattle.lk_node.specs.Reminding.{IsTermOf}
 use Rattle.lk_replica.specs.ReplicaValue.{ReplicaValue}
-use Rattle.lk_sim.specs.Scenes.{Scene}
+use Rattle.lk_sim.specs.WorldStates.{WorldState}
 use Rattle.lk_sim.specs.declared.event.Event.TheVariants as event
-use Rattle.lk_sim_nodes.specs.declared.seat.Life.{Life}
+use Rattle.lk_sim_nodes.specs.declared.sim_node.RunState.{RunState}
 use Rattle.lk_world_progress.specs.Balloting.{HasSentTo}
 use Rattle.lk_world_progress.specs.Delivering.{Delivers, Hears}
 use Rattle.lk_world_progress.specs.Stepping.{GoesWell, IsUpAs, Lives}
 
 -- only this node has changed, and what was sent stays
-pub record ChangesOnly (n : ℕ) (old new : Scene ReplicaValue) : Type 0 where
-  pub others : (k : ℕ) (life : Life ReplicaValue) → (k ≡ n → ⊥) → Lives old k life → Lives new k life
+pub record ChangesOnly (n : ℕ) (old new : WorldState ReplicaValue) : Type 0 where
+  pub others : (k : ℕ) (run_state : RunState ReplicaValue) → (k ≡ n → ⊥) → Lives old k run_state → Lives new k run_state
   pub sent : (d : Datagram) → Contains old.sent d → Contains new.sent d
   pub genesis : new.genesis ≡ old.genesis
 
 -- ---- it asks
 
 -- the node hears, by a rejection, that the other one has executed more
-abbrev pub IsRejected : Meaning → (List ℕ → Type 0) → ℕ → ℕ → ReplicaValue → Scene ReplicaValue → Scene ReplicaValue
+abbrev pub IsRejected : Meaning → (List ℕ → Type 0) → ℕ → ℕ → ReplicaValue → WorldState ReplicaValue
+    → WorldState ReplicaValue
     → Type 0
 IsRejected m IsText n other r old new = (nack : Nack) × (executed r.node.learner < nack.executed)
     × Hears m IsText n (content.Node other (kinds.Nack nack)) old new
 
 -- it hears so by the notice of a leader, whose ballot is not below the one that it has promised
-abbrev pub IsNotified : Meaning → (List ℕ → Type 0) → ℕ → ℕ → ReplicaValue → Scene ReplicaValue → Scene ReplicaValue
+abbrev pub IsNotified : Meaning → (List ℕ → Type 0) → ℕ → ℕ → ReplicaValue → WorldState ReplicaValue
+    → WorldState ReplicaValue
     → Type 0
 IsNotified m IsText n other r old new = (b : BallotValue) × (theirs : ℕ)
     × (is_below b r.node.acceptor.state.promised ≡ false) × (executed r.node.learner < theirs)
     × Hears m IsText n (content.Node other (kinds.Lead b theirs)) old new
 
 -- it hears of more from the other one
-abbrev pub HearsOfMore : Meaning → (List ℕ → Type 0) → ℕ → ℕ → ReplicaValue → Scene ReplicaValue → Scene ReplicaValue
+abbrev pub HearsOfMore : Meaning → (List ℕ → Type 0) → ℕ → ℕ → ReplicaValue → WorldState ReplicaValue
+    → WorldState ReplicaValue
     → Type 0
 HearsOfMore m IsText n other r old new = IsRejected m IsText n other r old new ⊎ IsNotified m IsText n other r old new
 
 -- it takes a nudge because it was fed; it has no term, and takes the other one for the leader
-abbrev pub IsNudgedOn : Meaning → (List ℕ → Type 0) → ℕ → ℕ → ReplicaValue → Scene ReplicaValue → Scene ReplicaValue
+abbrev pub IsNudgedOn : Meaning → (List ℕ → Type 0) → ℕ → ℕ → ReplicaValue → WorldState ReplicaValue
+    → WorldState ReplicaValue
     → Type 0
 IsNudgedOn m IsText n other r old new = (r.node.leader.term ≡ None) × (r.node.known ≡ Some other) × (other ≡ n → ⊥)
     × (executed r.node.learner < max_count) × GoesWell m IsText old (event.Nudge n Fed) new
 
 -- one of these makes it ask the other one, and takes nothing of what it has gathered
-abbrev pub ComesToAskOn : Meaning → (List ℕ → Type 0) → ℕ → ℕ → ReplicaValue → Scene ReplicaValue → Scene ReplicaValue
+abbrev pub ComesToAskOn : Meaning → (List ℕ → Type 0) → ℕ → ℕ → ReplicaValue → WorldState ReplicaValue
+    → WorldState ReplicaValue
     → Type 0
 ComesToAskOn m IsText n other r old new =
     HearsOfMore m IsText n other r old new ⊎ IsNudgedOn m IsText n other r old new
 
 -- it takes another nudge in a term, and the other one is of its window
-abbrev pub IsNudged : Meaning → (List ℕ → Type 0) → ℕ → ℕ → ReplicaValue → Scene ReplicaValue → Scene ReplicaValue
+abbrev pub IsNudged : Meaning → (List ℕ → Type 0) → ℕ → ℕ → ReplicaValue → WorldState ReplicaValue
+    → WorldState ReplicaValue
     → Type 0
 IsNudged m IsText n other r old new = (b : BallotValue) × (reason : NudgeReason) × (reason ≢ Fed)
     × IsTermOf b r.node.leader × (executed r.node.learner < max_count) × (1 ≤ other) × (other ≡ n → ⊥)
     × (is_named other r.node.learner.whole.roster.sets ≡ true) × GoesWell m IsText old (event.Nudge n reason) new
 
 -- one of these makes it ask the other one
-abbrev pub ComesToAsk : Meaning → (List ℕ → Type 0) → ℕ → ℕ → ReplicaValue → Scene ReplicaValue → Scene ReplicaValue
+abbrev pub ComesToAsk : Meaning → (List ℕ → Type 0) → ℕ → ℕ → ReplicaValue → WorldState ReplicaValue
+    → WorldState ReplicaValue
     → Type 0
 ComesToAsk m IsText n other r old new = ComesToAskOn m IsText n other r old new ⊎ IsNudged m IsText n other r old new
 
 -- It has asked the other one for what it lacks. It has executed the same as before, and has gathered the same of a
 -- snapshot, or has thrown that away.
-pub record AsksIn (n other : ℕ) (r : ReplicaValue) (old new : Scene ReplicaValue) : Type 0 where
+pub record AsksIn (n other : ℕ) (r : ReplicaValue) (old new : WorldState ReplicaValue) : Type 0 where
   pub now : ReplicaValue
   pub is : IsUpAs new n now
   pub whole : now.node.learner.whole ≡ r.node.learner.whole
@@ -84,12 +91,12 @@ pub record AsksIn (n other : ℕ) (r : ReplicaValue) (old new : Scene ReplicaVal
   pub only : ChangesOnly n old new
 
 abbrev pub NodesThatAreBehindAsk : Meaning → (List ℕ → Type 0) → Type 0
-NodesThatAreBehindAsk m IsText = (old new : Scene ReplicaValue) (n other : ℕ) (r : ReplicaValue) → IsUpAs old n r
+NodesThatAreBehindAsk m IsText = (old new : WorldState ReplicaValue) (n other : ℕ) (r : ReplicaValue) → IsUpAs old n r
     → ComesToAsk m IsText n other r old new → AsksIn n other r old new
 
 -- What it hears, or a nudge because it was fed, takes nothing of what it has gathered.
 abbrev pub AskersKeepGathered : Meaning → (List ℕ → Type 0) → Type 0
-AskersKeepGathered m IsText = (old new : Scene ReplicaValue) (n other : ℕ) (r : ReplicaValue) → IsUpAs old n r
+AskersKeepGathered m IsText = (old new : WorldState ReplicaValue) (n other : ℕ) (r : ReplicaValue) → IsUpAs old n r
     → ComesToAskOn m IsText n other r old new
     → (k : AsksIn n other r old new) × (k.now.node.learner.gathered ≡ r.node.learner.gathered)
 
@@ -101,7 +108,7 @@ AreEnough r first d =
     (length d.commands ≡ max_commands) ⊎ (first + length d.commands ≡ executed r.node.learner + 1)
 
 -- it has sent the commands from the position on, and has the same learner as before
-pub record SendsIn (n other : ℕ) (r : ReplicaValue) (first : ℕ) (old new : Scene ReplicaValue) : Type 0 where
+pub record SendsIn (n other : ℕ) (r : ReplicaValue) (first : ℕ) (old new : WorldState ReplicaValue) : Type 0 where
   pub now : ReplicaValue
   pub is : IsUpAs new n now
   pub learner : now.node.learner ≡ r.node.learner
@@ -116,20 +123,20 @@ pub record Keeps (r : ReplicaValue) (first : ℕ) : Type 0 where
 
 -- A node that is asked for a position that it keeps sends the commands from there on.
 abbrev pub AskedNodesSend : Meaning → (List ℕ → Type 0) → Type 0
-AskedNodesSend m IsText = (old new : Scene ReplicaValue) (n other : ℕ) (r : ReplicaValue) (want : WantValue)
+AskedNodesSend m IsText = (old new : WorldState ReplicaValue) (n other : ℕ) (r : ReplicaValue) (want : WantValue)
     → IsUpAs old n r → Keeps r want.first → Delivers m IsText n (content.Node other (kinds.Want want)) old new
     → SendsIn n other r want.first old new
 
 -- So does one that is rejected by a node that has executed less.
 abbrev pub RejectedNodesSend : Meaning → (List ℕ → Type 0) → Type 0
-RejectedNodesSend m IsText = (old new : Scene ReplicaValue) (n other : ℕ) (r : ReplicaValue) (nack : Nack)
+RejectedNodesSend m IsText = (old new : WorldState ReplicaValue) (n other : ℕ) (r : ReplicaValue) (nack : Nack)
     → IsUpAs old n r → Keeps r (nack.executed + 1) → Delivers m IsText n (content.Node other (kinds.Nack nack)) old new
     → SendsIn n other r (nack.executed + 1) old new
 
 -- ---- it executes them
 
 -- it has executed all positions below this one
-pub record ReachesIn (n i : ℕ) (old new : Scene ReplicaValue) : Type 0 where
+pub record ReachesIn (n i : ℕ) (old new : WorldState ReplicaValue) : Type 0 where
   pub now : ReplicaValue
   pub is : IsUpAs new n now
   pub reaches : i ≤ executed now.node.learner + 1
@@ -137,7 +144,8 @@ pub record ReachesIn (n i : ℕ) (old new : Scene ReplicaValue) : Type 0 where
 
 -- A node that takes commands, the first for its next position or an earlier one, has executed all of them.
 abbrev pub SentCommandsAreExecuted : Meaning → (List ℕ → Type 0) → Type 0
-SentCommandsAreExecuted m IsText = (old new : Scene ReplicaValue) (n from : ℕ) (r : ReplicaValue) (d : DecidedValue)
+SentCommandsAreExecuted m IsText =
+    (old new : WorldState ReplicaValue) (n from : ℕ) (r : ReplicaValue) (d : DecidedValue)
     → IsUpAs old n r → d.first ≤ executed r.node.learner + 1
     → Hears m IsText n (content.Node from (kinds.Decided d)) old new
     → ReachesIn n (d.first + length d.commands) old new

@@ -8,7 +8,7 @@ use Rattle.lk_messages.specs.declared.message.NodeMessage.TheVariants as kinds
 use Rattle.lk_state.specs.Meanings.{Meaning}
 use Rattle.lk_learner.specs.Learners.{decided_from, executed, wanted}
 use Rattle.lk_replica.specs.ReplicaValue.{ReplicaValue}
-use Rattle.lk_sim.specs.Scenes.{Scene}
+use Rattle.lk_sim.specs.WorldStates.{WorldState}
 use Rattle.lk_world_feeding.specs.Asking.{AreEnough, ComesToAsk}
 use Rattle.lk_world_progress.specs.Balloting.{HasSentTo}
 use Rattle.lk_world_progress.specs.Delivering.{Delivers, Hears}
@@ -17,7 +17,7 @@ use Rattle.lk_world_progress.specs.Stepping.{Holds, IsUpAs}
 -- ---- one exchange
 
 -- two nodes are up, and the second one keeps every command that it has executed and the first one has not
-pub record CanBeFed (m : Meaning) (IsText : List ℕ → Type 0) (w : Scene ReplicaValue) (n other : ℕ)
+pub record CanBeFed (m : Meaning) (IsText : List ℕ → Type 0) (w : WorldState ReplicaValue) (n other : ℕ)
     (behind ahead : ReplicaValue) : Type 0 where
   pub holds : Holds m IsText w
   pub apart : n ≡ other → ⊥
@@ -30,14 +30,14 @@ abbrev pub commands_for : ReplicaValue → ReplicaValue → DecidedValue
 commands_for behind ahead = decided_from (executed behind.node.learner + 1) ahead.node.learner
 
 -- the node is up, and has the learner that this replica had
-abbrev pub KeepsLearner : ℕ → ReplicaValue → Scene ReplicaValue → Type 0
+abbrev pub KeepsLearner : ℕ → ReplicaValue → WorldState ReplicaValue → Type 0
 KeepsLearner n r w = (q : ReplicaValue) × IsUpAs w n q × (q.node.learner ≡ r.node.learner)
 
 -- The event happens after others, whatever these are, if both nodes are still up when it does, and their learners are
 -- unchanged.
-pub record Later (n other : ℕ) (Happens : Scene ReplicaValue → Scene ReplicaValue → Type 0)
-    (old new : Scene ReplicaValue) : Type 0 where
-  pub mid : Scene ReplicaValue
+pub record Later (n other : ℕ) (Happens : WorldState ReplicaValue → WorldState ReplicaValue → Type 0)
+    (old new : WorldState ReplicaValue) : Type 0 where
+  pub mid : WorldState ReplicaValue
   pub rests : (r : ReplicaValue) → IsUpAs old n r → KeepsLearner n r mid
   pub other_rests : (r : ReplicaValue) → IsUpAs old other r → KeepsLearner other r mid
   pub genesis : mid.genesis ≡ old.genesis
@@ -46,25 +46,25 @@ pub record Later (n other : ℕ) (Happens : Scene ReplicaValue → Scene Replica
 -- The first node comes to ask the other one. Later that one takes the question, and later the first one takes the
 -- commands that it sends. The other one has no rebase due when it is asked.
 pub record IsFedOnce (m : Meaning) (IsText : List ℕ → Type 0) (n other : ℕ) (behind ahead : ReplicaValue)
-    (first last : Scene ReplicaValue) : Type 0 where
-  pub asked : Scene ReplicaValue
+    (first last : WorldState ReplicaValue) : Type 0 where
+  pub asked : WorldState ReplicaValue
   pub comes : ComesToAsk m IsText n other behind first asked
   pub asking : ReplicaValue
   pub up : IsUpAs asked n asking
-  pub served : Scene ReplicaValue
+  pub served : WorldState ReplicaValue
   pub serves : Later n other (Delivers m IsText other (content.Node n (kinds.Want (wanted asking.node.learner)))) asked
       served
   pub takes : Later n other (Hears m IsText n (content.Node other (kinds.Decided (commands_for behind ahead)))) served
       last
 
 -- the node is up, and has executed all positions below this one
-abbrev pub HasReached : ℕ → ℕ → Scene ReplicaValue → Type 0
+abbrev pub HasReached : ℕ → ℕ → WorldState ReplicaValue → Type 0
 HasReached n i w = (r : ReplicaValue) × IsUpAs w n r × (i ≤ executed r.node.learner + 1)
 
 -- What was delivered had been sent. The commands are one at least, and 16 unless they are all; the first node has
 -- executed them, and the other one has kept what it had.
 pub record GainsCommands (m : Meaning) (IsText : List ℕ → Type 0) (n other : ℕ) (behind ahead : ReplicaValue)
-    (first last : Scene ReplicaValue) (k : IsFedOnce m IsText n other behind ahead first last) : Type 0 where
+    (first last : WorldState ReplicaValue) (k : IsFedOnce m IsText n other behind ahead first last) : Type 0 where
   pub asks : HasSentTo k.asked n other (kinds.Want (wanted k.asking.node.learner))
   pub sends : HasSentTo k.served other n (kinds.Decided (commands_for behind ahead))
   pub some : 1 ≤ length (commands_for behind ahead).commands
@@ -74,7 +74,7 @@ pub record GainsCommands (m : Meaning) (IsText : List ℕ → Type 0) (n other :
 
 -- A node that has executed less than another one, which keeps what it lacks, gains by one exchange.
 abbrev pub ExchangesFeed : Meaning → (List ℕ → Type 0) → Type 0
-ExchangesFeed m IsText = (n other : ℕ) (behind ahead : ReplicaValue) (first last : Scene ReplicaValue)
+ExchangesFeed m IsText = (n other : ℕ) (behind ahead : ReplicaValue) (first last : WorldState ReplicaValue)
     → CanBeFed m IsText first n other behind ahead → executed behind.node.learner < executed ahead.node.learner
     → (k : IsFedOnce m IsText n other behind ahead first last)
     → GainsCommands m IsText n other behind ahead first last k
@@ -82,7 +82,8 @@ ExchangesFeed m IsText = (n other : ℕ) (behind ahead : ReplicaValue) (first la
 -- ---- several
 
 -- there is such an exchange between these worlds
-pub record IsFed (m : Meaning) (IsText : List ℕ → Type 0) (n other : ℕ) (old new : Scene ReplicaValue) : Type 0 where
+pub record IsFed (m : Meaning) (IsText : List ℕ → Type 0) (n other : ℕ) (old new : WorldState ReplicaValue)
+    : Type 0 where
   pub behind : ReplicaValue
   pub ahead : ReplicaValue
   pub up : IsUpAs old n behind
@@ -90,19 +91,20 @@ pub record IsFed (m : Meaning) (IsText : List ℕ → Type 0) (n other : ℕ) (o
   pub once : IsFedOnce m IsText n other behind ahead old new
 
 -- so many such exchanges follow each other
-abbrev pub IsFedAgain : Meaning → (List ℕ → Type 0) → ℕ → ℕ → ℕ → Scene ReplicaValue → Scene ReplicaValue → Type 0
+abbrev pub IsFedAgain : Meaning → (List ℕ → Type 0) → ℕ → ℕ → ℕ → WorldState ReplicaValue
+    → WorldState ReplicaValue → Type 0
 IsFedAgain m IsText n other zero old new = new ≡ old
-IsFedAgain m IsText n other (suc k) old new = (mid : Scene ReplicaValue)
+IsFedAgain m IsText n other (suc k) old new = (mid : WorldState ReplicaValue)
     × Later n other (IsFed m IsText n other) old mid × IsFedAgain m IsText n other k mid new
 
 -- the node is up, and has executed as much as this replica had
-abbrev pub HasCaughtUp : ℕ → ReplicaValue → Scene ReplicaValue → Type 0
+abbrev pub HasCaughtUp : ℕ → ReplicaValue → WorldState ReplicaValue → Type 0
 HasCaughtUp n ahead w =
     (r : ReplicaValue) × IsUpAs w n r × (executed ahead.node.learner ≤ executed r.node.learner)
 
 -- After one exchange for each 16 commands that it lacks, the node has executed as much as the other one.
 abbrev pub ExchangesCatchUp : Meaning → (List ℕ → Type 0) → Type 0
-ExchangesCatchUp m IsText = (n other : ℕ) (behind ahead : ReplicaValue) (k : ℕ) (first last : Scene ReplicaValue)
+ExchangesCatchUp m IsText = (n other : ℕ) (behind ahead : ReplicaValue) (k : ℕ) (first last : WorldState ReplicaValue)
     → CanBeFed m IsText first n other behind ahead
     → executed ahead.node.learner ≤ executed behind.node.learner + k * max_commands
     → IsFedAgain m IsText n other k first last → HasCaughtUp n ahead last
@@ -112,14 +114,14 @@ ExchangesCatchUp m IsText = (n other : ℕ) (behind ahead : ReplicaValue) (k : �
 -- The other node, whose message the first one has rejected, takes the rejection, and later the first one takes the
 -- commands that it sends. The rejection tells what the first one had executed by then.
 pub record IsFedUnasked (m : Meaning) (IsText : List ℕ → Type 0) (n other : ℕ) (nack : Nack) (ahead : ReplicaValue)
-    (first last : Scene ReplicaValue) : Type 0 where
-  pub served : Scene ReplicaValue
+    (first last : WorldState ReplicaValue) : Type 0 where
+  pub served : WorldState ReplicaValue
   pub serves : Delivers m IsText other (content.Node n (kinds.Nack nack)) first served
   pub takes : Later n other (Hears m IsText n
       (content.Node other (kinds.Decided (decided_from (nack.executed + 1) ahead.node.learner)))) served last
 
 pub record GainsUnasked (m : Meaning) (IsText : List ℕ → Type 0) (n other : ℕ) (nack : Nack) (ahead : ReplicaValue)
-    (first last : Scene ReplicaValue) (k : IsFedUnasked m IsText n other nack ahead first last) : Type 0 where
+    (first last : WorldState ReplicaValue) (k : IsFedUnasked m IsText n other nack ahead first last) : Type 0 where
   pub sends : HasSentTo k.served other n (kinds.Decided (decided_from (nack.executed + 1) ahead.node.learner))
   pub some : 1 ≤ length (decided_from (nack.executed + 1) ahead.node.learner).commands
   pub many : AreEnough ahead (nack.executed + 1) (decided_from (nack.executed + 1) ahead.node.learner)
@@ -130,7 +132,8 @@ pub record GainsUnasked (m : Meaning) (IsText : List ℕ → Type 0) (n other : 
 -- A node that rejects a message of one that has executed more, which keeps what it lacks, gains the same way without
 -- asking.
 abbrev pub RejectionsFeed : Meaning → (List ℕ → Type 0) → Type 0
-RejectionsFeed m IsText = (n other : ℕ) (nack : Nack) (behind ahead : ReplicaValue) (first last : Scene ReplicaValue)
+RejectionsFeed m IsText =
+    (n other : ℕ) (nack : Nack) (behind ahead : ReplicaValue) (first last : WorldState ReplicaValue)
     → CanBeFed m IsText first n other behind ahead → ahead.node.learner.snapshot_position ≤ nack.executed
     → nack.executed ≤ executed behind.node.learner → nack.executed < executed ahead.node.learner
     → (k : IsFedUnasked m IsText n other nack ahead first last)

@@ -8,7 +8,7 @@ use Rattle.lk_node_interface.specs.Ticks.{is_full}
 use Rattle.lk_node_interface.specs.declared.nudge_reason.NudgeReason.{NudgeReason}
 use Rattle.lk_node_interface.specs.declared.nudge_reason.NudgeReason.TheVariants.{Period, TicksWithheld, Fed}
 use Rattle.lk_replica.specs.ReplicaValue.{ReplicaValue}
-use Rattle.lk_sim.specs.Scenes.{Scene}
+use Rattle.lk_sim.specs.WorldStates.{WorldState}
 use Rattle.lk_sim.specs.declared.event.Event.TheVariants as event
 use Rattle.lk_world_feeding.specs.Asking.{ChangesOnly}
 use Rattle.lk_world_progress.specs.Balloting.{HasSentTo}
@@ -32,7 +32,7 @@ pub record IsSilent (n other : ℕ) (reason : NudgeReason) (r : ReplicaValue) : 
   pub named : is_named other r.node.learner.whole.roster.sets ≡ true
 
 -- it has told the other one how many positions it has executed, by a rejection of the least ballot
-pub record TellsIn (n other : ℕ) (r : ReplicaValue) (old new : Scene ReplicaValue) : Type 0 where
+pub record TellsIn (n other : ℕ) (r : ReplicaValue) (old new : WorldState ReplicaValue) : Type 0 where
   pub now : ReplicaValue
   pub is : IsUpAs new n now
   pub whole : now.node.learner.whole ≡ r.node.learner.whole
@@ -41,14 +41,14 @@ pub record TellsIn (n other : ℕ) (r : ReplicaValue) (old new : Scene ReplicaVa
 
 -- A nudge makes such a node tell each other node of its window how many positions it has executed.
 abbrev pub SilentNodesTell : Meaning → (List ℕ → Type 0) → Type 0
-SilentNodesTell m IsText = (old new : Scene ReplicaValue) (n other : ℕ) (reason : NudgeReason) (r : ReplicaValue)
+SilentNodesTell m IsText = (old new : WorldState ReplicaValue) (n other : ℕ) (reason : NudgeReason) (r : ReplicaValue)
     → IsUpAs old n r → IsSilent n other reason r → GoesWell m IsText old (event.Nudge n reason) new
     → TellsIn n other r old new
 
 -- ---- it throws away
 
 -- the node has gathered nothing, and has executed the same as before
-pub record ThrowsAway (n : ℕ) (r : ReplicaValue) (old new : Scene ReplicaValue) : Type 0 where
+pub record ThrowsAway (n : ℕ) (r : ReplicaValue) (old new : WorldState ReplicaValue) : Type 0 where
   pub now : ReplicaValue
   pub is : IsUpAs new n now
   pub whole : now.node.learner.whole ≡ r.node.learner.whole
@@ -58,6 +58,7 @@ pub record ThrowsAway (n : ℕ) (r : ReplicaValue) (old new : Scene ReplicaValue
 -- Two nudges, with nothing between them, throw away what a node has gathered of a snapshot, unless one of them comes
 -- because it was fed.
 abbrev pub NudgesThrowAway : Meaning → (List ℕ → Type 0) → Type 0
-NudgesThrowAway m IsText = (old mid new : Scene ReplicaValue) (n : ℕ) (reason again : NudgeReason) (r : ReplicaValue)
+NudgesThrowAway m IsText =
+    (old mid new : WorldState ReplicaValue) (n : ℕ) (reason again : NudgeReason) (r : ReplicaValue)
     → IsUpAs old n r → (reason ≢ Fed) → (again ≢ Fed) → GoesWell m IsText old (event.Nudge n reason) mid
     → GoesWell m IsText mid (event.Nudge n again) new → ThrowsAway n r old new

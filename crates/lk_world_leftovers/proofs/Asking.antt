@@ -12,8 +12,8 @@ use Rattle.lk_node.specs.NodeValue.{NodeValue}
 use Rattle.lk_progress.specs.Hearing.{Takes}
 use Rattle.lk_rebases.proofs.Rebases.{Handled, HasSame, handled, proposed_same}
 use Rattle.lk_replica.specs.ReplicaValue.{ReplicaValue}
-use Rattle.lk_sim.specs.Scenes.{Scene}
-use Rattle.lk_sim_nodes.specs.declared.seat.Life.TheVariants.{Up}
+use Rattle.lk_sim.specs.WorldStates.{WorldState}
+use Rattle.lk_sim_nodes.specs.declared.sim_node.RunState.TheVariants.{Up}
 use Rattle.lk_world_feeding.proofs.Knowing.{may_serve}
 use Rattle.lk_world_feeding.specs.Asking.{AreEnough}
 use Rattle.lk_world_feeding.specs.Feeding.{CanBeFed, ExchangesFeed, GainsCommands, IsFedOnce}
@@ -41,7 +41,8 @@ want_lasts m IsText old new from want out takes =
         (same.acceptor ∙ ap (λ (n : NodeValue). n.acceptor) h.handles.0)
 
 module _ (m : Meaning) (IsText : List ℕ → Type 0) (law : ExchangesFeed m IsText)
-    (fed_law : FedCandidateContends m IsText) (x e : ℕ) (others : List ℕ) (last n : ℕ) (old new : Scene ReplicaValue)
+    (fed_law : FedCandidateContends m IsText) (x e : ℕ) (others : List ℕ) (last n : ℕ)
+    (old new : WorldState ReplicaValue)
     (k : MayContend m IsText old x e others last) (there : Contains others n)
     (run : IsFedBy m IsText x n old new) where
   abbrev own : Contends m IsText old x e e [] last

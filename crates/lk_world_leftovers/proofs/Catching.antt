@@ -15,8 +15,8 @@ use Rattle.lk_node_interface.specs.Envelopes.{batch_of}
 use Rattle.lk_node.specs.NodeValue.{NodeValue}
 use Rattle.lk_leftovers.specs.Accepting.{IsVoterFrom}
 use Rattle.lk_replica.specs.ReplicaValue.{ReplicaValue}
-use Rattle.lk_sim.specs.Scenes.{Scene}
-use Rattle.lk_sim_nodes.specs.declared.seat.Life.TheVariants.{Up}
+use Rattle.lk_sim.specs.WorldStates.{WorldState}
+use Rattle.lk_sim_nodes.specs.declared.sim_node.RunState.TheVariants.{Up}
 use Rattle.lk_world_feeding.specs.Asking.{ReachesIn, SentCommandsAreExecuted}
 use Rattle.lk_world_progress.proofs.Balloting.{found_has}
 use Rattle.lk_world_progress.proofs.Delivering.{HeardIt, TakesFrom, heard_from, heard_it, still}
@@ -33,7 +33,7 @@ use Rattle.lk_world_leftovers.specs.Filling.{IsFilling, PairsUpTo, VotesIn, vote
 
 module _ (m : Meaning) (IsText : List ℕ → Type 0) (law : SentCommandsAreExecuted m IsText) (x : ℕ)
     (leader : ReplicaValue) (t : TermValue) (set : List Member) (others : List ℕ) (last n : ℕ)
-    (old new : Scene ReplicaValue) (k : IsFilling m IsText old x leader t set others last)
+    (old new : WorldState ReplicaValue) (k : IsFilling m IsText old x leader t set others last)
     (other : Contains others n) (run : CatchesUp m IsText x n old new) where
   abbrev f : ℕ
   f = executed leader.node.learner
@@ -194,13 +194,13 @@ module _ (m : Meaning) (IsText : List ℕ → Type 0) (law : SentCommandsAreExec
 
 module _ (m : Meaning) (IsText : List ℕ → Type 0) (law : SentCommandsAreExecuted m IsText) (x : ℕ)
     (leader : ReplicaValue) (t : TermValue) (set : List Member) (others : List ℕ) (last : ℕ) where
-  record Caught (ns : List ℕ) (old new : Scene ReplicaValue) : Type 0 where
+  record Caught (ns : List ℕ) (old new : WorldState ReplicaValue) : Type 0 where
     fills : IsFilling m IsText new x leader t set others last
     once : AreDistinct ns
     none_again : (n : ℕ) → Contains others n → ReachesNext old leader n → Contains ns n → ⊥
 
   -- whoever reaches the leader's next position does not catch up
-  not_at_end : (n : ℕ) (old new : Scene ReplicaValue) → IsFilling m IsText old x leader t set others last
+  not_at_end : (n : ℕ) (old new : WorldState ReplicaValue) → IsFilling m IsText old x leader t set others last
       → CatchesUp m IsText x n old new → ReachesNext old leader n → ⊥
   not_at_end n old new k run near =
       let led : executed run.leader.node.learner ≡ executed leader.node.learner =
@@ -210,10 +210,10 @@ module _ (m : Meaning) (IsText : List ℕ → Type 0) (law : SentCommandsAreExec
       < executed run.voter.node.learner + 2 * alpha run.voter.node.learner = near run.voter run.voter_up in
       omega (arith, beyond, run.ends, led)
 
-  all_catch : (ns : List ℕ) (old new : Scene ReplicaValue) → IsFilling m IsText old x leader t set others last
+  all_catch : (ns : List ℕ) (old new : WorldState ReplicaValue) → IsFilling m IsText old x leader t set others last
       → ((n : ℕ) → Contains ns n → Contains others n) → CatchUpInTurn m IsText x ns old new → Caught ns old new
   all_catch [] old new k among same = record {
-    fills = subst (λ (w : Scene ReplicaValue). IsFilling m IsText w x leader t set others last) (sym same) k;
+    fills = subst (λ (w : WorldState ReplicaValue). IsFilling m IsText w x leader t set others last) (sym same) k;
     once = tt;
     none_again = λ n c near d. omega (arith, d.1);
   }

@@ -37,10 +37,10 @@ use Rattle.lk_leftovers.proofs.Offering.{Offers, Tells, promises_offer, vote_in}
 use Rattle.lk_leftovers.specs.Accepting.{IsVoterAt, IsVoterFrom}
 use Rattle.lk_leftovers.specs.Collecting.{HasBegun, LeadsToFill, MayBeHeard, PromisedCandidateFills}
 use Rattle.lk_replica.specs.ReplicaValue.{ReplicaValue}
-use Rattle.lk_sim.specs.Scenes.{Scene}
+use Rattle.lk_sim.specs.WorldStates.{WorldState}
 use Rattle.lk_sim.specs.declared.event.Event.TheVariants as event
-use Rattle.lk_sim_nodes.specs.declared.seat.Life.{Life}
-use Rattle.lk_sim_nodes.specs.declared.seat.Life.TheVariants.{Up}
+use Rattle.lk_sim_nodes.specs.declared.sim_node.RunState.{RunState}
+use Rattle.lk_sim_nodes.specs.declared.sim_node.RunState.TheVariants.{Up}
 use Rattle.lk_world_progress.proofs.Balloting.{found_has, found_tells, tick_begins}
 use Rattle.lk_world_progress.proofs.Delivering.{EachHeard, HeardIt, among, each_heard}
 use Rattle.lk_world_progress.proofs.Exchanging.{each_promise}
@@ -72,8 +72,8 @@ numbers_of node (r ∷ rs) = ap (λ (ns : List ℕ). number_of r ∷ ns) (number
 -- The steps of a run, as far as it has come: first the tick, then what is asked, and then the promises.
 module _ (m : Meaning) (IsText : List ℕ → Type 0) (asks_law : DueNodeAsks)
     (prepare_law : PrepareIsPromisedOrRejected m IsText) (c : ReplicaValue) (set : List Member)
-    (others : List ReplicaValue) (highest : ℕ) (first : Scene ReplicaValue)
-    (k : HasLeftovers m IsText first c set others highest) (begun_in : Scene ReplicaValue)
+    (others : List ReplicaValue) (highest : ℕ) (first : WorldState ReplicaValue)
+    (k : HasLeftovers m IsText first c set others highest) (begun_in : WorldState ReplicaValue)
     (ticks : GoesWell m IsText first (event.Tick (number_of c)) begun_in) where
   abbrev pub x : ℕ
   x = number_of c
@@ -101,7 +101,8 @@ module _ (m : Meaning) (IsText : List ℕ → Type 0) (asks_law : DueNodeAsks)
     pub knows : Knows set e highest after.node
     pub stands : Stands b e highest own_votes after.node
     pub has : HasTerm b after.node
-    pub stay : (j : ℕ) (life : Life ReplicaValue) → (j ≡ x → ⊥) → Lives first j life → Lives begun_in j life
+    pub stay : (j : ℕ) (run_state : RunState ReplicaValue) → (j ≡ x → ⊥) → Lives first j run_state
+        → Lives begun_in j run_state
     pub genesis : begun_in.genesis ≡ first.genesis
 
   module _ (s : TakesStep m IsText first x Tick begun_in) where
@@ -171,7 +172,7 @@ module _ (m : Meaning) (IsText : List ℕ → Type 0) (asks_law : DueNodeAsks)
   pub began : Began
   began = began_by (event_steps m IsText first begun_in (event.Tick x) x Tick ticks (refl, refl))
 
-  module _ (polled : Scene ReplicaValue)
+  module _ (polled : WorldState ReplicaValue)
       (polls : HearsEach m IsText (content.Node (number_of c) (prepare_by c.node)) (map number_of (c ∷ others))
       begun_in polled) where
     -- ---- the promises
@@ -280,7 +281,7 @@ module _ (m : Meaning) (IsText : List ℕ → Type 0) (asks_law : DueNodeAsks)
       | inr other ↦ their_sent r other
     ]
 
-    module _ (fills_law : PromisedCandidateFills m IsText) (last : Scene ReplicaValue)
+    module _ (fills_law : PromisedCandidateFills m IsText) (last : WorldState ReplicaValue)
         (hears : HearsInTurn m IsText (number_of c)
         (promises (map (λ r. (number_of r, promise_in c.node r)) (c ∷ others))) polled last) where
       -- ---- the candidate takes them

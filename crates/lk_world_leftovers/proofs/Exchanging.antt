@@ -10,7 +10,7 @@ use Rattle.lk_state.specs.Sessions.{session_of, is_new}
 use Rattle.lk_leader.specs.Terms.{TermValue}
 use Rattle.lk_leftovers.specs.Filling.{FilledLeaderIsReady}
 use Rattle.lk_replica.specs.ReplicaValue.{ReplicaValue}
-use Rattle.lk_sim.specs.Scenes.{Scene}
+use Rattle.lk_sim.specs.WorldStates.{WorldState}
 use Rattle.lk_world_progress.proofs.Stepping.{one_replica}
 use Rattle.lk_world_progress.specs.Balloting.{HasSentTo}
 use Rattle.lk_world_progress.specs.Exchanging.{number_of}
@@ -24,7 +24,7 @@ use Rattle.lk_world_leftovers.specs.Filling.{FillsOnIn, IsFilling, IsNextVote, P
 
 module _ (m : Meaning) (IsText : List ℕ → Type 0) where
   -- a leader is up as one replica, with one term
-  one_term : (w : Scene ReplicaValue) (x : ℕ) (leader : ReplicaValue) (t : TermValue) (set : List Member)
+  one_term : (w : WorldState ReplicaValue) (x : ℕ) (leader : ReplicaValue) (t : TermValue) (set : List Member)
       (others : List ℕ) (last : ℕ) → IsFilling m IsText w x leader t set others last → (q : ReplicaValue)
       → IsUpAs w x q → (u : TermValue) → q.node.leader.term ≡ Some u → (leader ≡ q) × (t ≡ u)
   one_term w x leader t set others last k q up u is =
@@ -33,7 +33,7 @@ module _ (m : Meaning) (IsText : List ℕ → Type 0) where
       sym k.fills.leads.leads.current ∙ ap (λ (r : ReplicaValue). r.node.leader.term) same ∙ is in
       (same, cc e)
 
-  next_vote : (w : Scene ReplicaValue) (x : ℕ) (leader : ReplicaValue) (t : TermValue) (set : List Member)
+  next_vote : (w : WorldState ReplicaValue) (x : ℕ) (leader : ReplicaValue) (t : TermValue) (set : List Member)
       (others : List ℕ) (last : ℕ) (v : Vote) → IsFilling m IsText w x leader t set others last → IsNextIn w x v
       → IsNextVote leader.node t v
   next_vote w x leader t set others last v k next =
@@ -50,7 +50,7 @@ module _ (m : Meaning) (IsText : List ℕ → Type 0) where
       ballot = refl;
       received = refl;
       moves = omega arith;
-      fills = subst (λ (w : Scene ReplicaValue). IsFilling m IsText w x leader t set others last) (sym same) k;
+      fills = subst (λ (w : WorldState ReplicaValue). IsFilling m IsText w x leader t set others last) (sym same) k;
     }
     in_turn x leader t set others last (v ∷ vs) old new k run =
         let next : IsNextVote leader.node t v = next_vote old x leader t set others last v k run.1 in
@@ -79,7 +79,7 @@ module _ (m : Meaning) (IsText : List ℕ → Type 0) where
   module _ (collects : CandidateFillsIn m IsText) (fills : LeftoversAreFilled m IsText)
       (catches : VotersCatchUp m IsText) (ready : FilledLeaderIsReady) (answers : ReadyLeaderAnswers m IsText)
       (c : ReplicaValue) (set : List Member) (r : RequestValue) (others : List ReplicaValue) (highest : ℕ)
-      (first last : Scene ReplicaValue)
+      (first last : WorldState ReplicaValue)
       (k : HasLeftovers m IsText first c set others highest)
       (run : Exchanges m IsText c r others first last)
       (fresh : is_new (session_of r.client run.leader.node.learner.whole.sessions) r.number ≡ true) where

@@ -30,8 +30,8 @@ use Rattle.lk_progress.specs.Hearing.{Takes}
 use Rattle.lk_rebases.proofs.Rebases.{Handled, handled}
 use Rattle.lk_leftovers.proofs.Offering.{Reaches, learned_reaches, runs_reach}
 use Rattle.lk_replica.specs.ReplicaValue.{ReplicaValue}
-use Rattle.lk_sim.specs.Scenes.{Scene}
-use Rattle.lk_sim_nodes.specs.declared.seat.Life.TheVariants.{Up}
+use Rattle.lk_sim.specs.WorldStates.{WorldState}
+use Rattle.lk_sim_nodes.specs.declared.sim_node.RunState.TheVariants.{Up}
 use Rattle.lk_world_progress.proofs.Balloting.{found_has}
 use Rattle.lk_world_progress.proofs.Delivering.{heard_from, TakesFrom, found_as, left_as}
 use Rattle.lk_world_progress.proofs.Stepping.{shown}
@@ -122,7 +122,7 @@ idle_proposes [] old new before out p idle = p.1
 idle_proposes (x ∷ xs) old new before out p idle = absurd (cc (sym idle ∙ p.0.current))
 
 module _ (m : Meaning) (IsText : List ℕ → Type 0) (x e top : ℕ) (others : List ℕ) (last from : ℕ)
-    (told : DecidedValue) (old new : Scene ReplicaValue) (k : Contends m IsText old x e top others last)
+    (told : DecidedValue) (old new : WorldState ReplicaValue) (k : Contends m IsText old x e top others last)
     (low : told.first + length told.commands ≤ last + 1) (within : e ≤ last)
     (hears : Hears m IsText x (content.Node from (kinds.Decided told)) old new) where
   fed_from : TakesFrom m IsText x (content.Node from (kinds.Decided told)) old new

@@ -41,8 +41,8 @@ use Rattle.lk_leftovers.specs.Accepting.{AcceptsAndStays, AcceptsItself, IsVoter
 use Rattle.lk_leftovers.specs.Accepting.{VoterAccepts}
 use Rattle.lk_leftovers.specs.Filling.{FillsNext, FillsOn, FillsUp, LeaderFillsOn}
 use Rattle.lk_replica.specs.ReplicaValue.{ReplicaValue}
-use Rattle.lk_sim.specs.Scenes.{Scene}
-use Rattle.lk_sim_nodes.specs.declared.seat.Life.TheVariants.{Up}
+use Rattle.lk_sim.specs.WorldStates.{WorldState}
+use Rattle.lk_sim_nodes.specs.declared.sim_node.RunState.TheVariants.{Up}
 use Rattle.lk_world_progress.proofs.Balloting.{found_has}
 use Rattle.lk_world_progress.proofs.Delivering.{EachHeard, HeardIt, among, each_heard, still}
 use Rattle.lk_world_progress.proofs.Exchanging.{each_acceptance}
@@ -58,7 +58,7 @@ use Rattle.lk_world_leftovers.specs.Filling.{Fills, FillingLeaderOffers, FillsOn
 use Rattle.lk_world_leftovers.specs.Filling.{PairsUpTo, PositionIsFilled, VotesIn, decided_by}
 
 -- what was sent stays sent
-pub still_sent : (old new : Scene ReplicaValue) (n k : ℕ) (y : NodeMessage)
+pub still_sent : (old new : WorldState ReplicaValue) (n k : ℕ) (y : NodeMessage)
     → ((d : Datagram) → Contains old.sent d → Contains new.sent d) → new.genesis ≡ old.genesis → HasSentTo old n k y
     → HasSentTo new n k y
 still_sent old new n k y grows genesis s = subst (λ (g : Genesis). Contains new.sent (record {
@@ -96,7 +96,7 @@ found_vote i (q ∷ qs) e last low =
 -- ---- an offer
 
 module _ (m : Meaning) (IsText : List ℕ → Type 0) where
-  pub next_offered : (w : Scene ReplicaValue) (x : ℕ) (leader : ReplicaValue) (t : TermValue) (set : List Member)
+  pub next_offered : (w : WorldState ReplicaValue) (x : ℕ) (leader : ReplicaValue) (t : TermValue) (set : List Member)
       (others : List ℕ) (last : ℕ) → IsFilling m IsText w x leader t set others last → (p : ProposalValue)
       → proposal_at (executed leader.node.learner + 1) t.proposals ≡ Some p
       → (n : ℕ) → Contains (nodes_of set) n
@@ -118,7 +118,7 @@ module _ (m : Meaning) (IsText : List ℕ → Type 0) where
 -- ---- one position
 
 module _ (m : Meaning) (IsText : List ℕ → Type 0) (leader_law : LeaderAccepts m IsText)
-    (fills_law : LeaderFillsOn m IsText) (voter_law : VoterAccepts m IsText) (old new : Scene ReplicaValue) (x : ℕ)
+    (fills_law : LeaderFillsOn m IsText) (voter_law : VoterAccepts m IsText) (old new : WorldState ReplicaValue) (x : ℕ)
     (leader : ReplicaValue) (t : TermValue) (set : List Member) (others : List ℕ) (last : ℕ) (v : Vote)
     (k : IsFilling m IsText old x leader t set others last) (next : IsNextVote leader.node t v)
     (run : Fills m IsText x (x ∷ others) v old new) where

@@ -34,9 +34,9 @@ use Rattle.lk_progress.specs.LeadingOn.{AreAll, KeepsMembers}
 use Rattle.lk_leftovers.proofs.Walking.{same_change}
 use Rattle.lk_replica.specs.Behaviours.{disks_by}
 use Rattle.lk_replica.specs.ReplicaValue.{ReplicaValue}
-use Rattle.lk_sim.specs.Scenes.{Scene}
+use Rattle.lk_sim.specs.WorldStates.{WorldState}
 use Rattle.lk_sim.specs.Traces.{happened}
-use Rattle.lk_sim_nodes.specs.Seats.{UpFits}
+use Rattle.lk_sim_nodes.specs.SimNodes.{UpFits}
 use Rattle.lk_world_progress.proofs.Overtaking.{promised_round, round_above}
 use Rattle.lk_world_progress.proofs.Stepping.{has_header, up_fits}
 use Rattle.lk_world_progress.specs.Exchanging.{number_of}
@@ -79,7 +79,7 @@ module _ (m : Meaning) (genesis : Genesis) (some : 1 ≤ genesis.alpha) where
 
 -- ---- what was asked
 
-module _ (m : Meaning) (IsText : List ℕ → Type 0) (w : Scene ReplicaValue) (holds : Holds m IsText w) where
+module _ (m : Meaning) (IsText : List ℕ → Type 0) (w : WorldState ReplicaValue) (holds : Holds m IsText w) where
   chosen_asked : (i : ℕ) (v : Command) → ChosenAt w.genesis w.sent i v
       → WasAsked (happened w.genesis w.sent w.trace) v
   chosen_asked i v chosen =
@@ -119,7 +119,7 @@ fresh_new m IsText w n node r holds up fresh = by_session m IsText w holds n nod
 
 -- ---- members
 
-module _ (m : Meaning) (IsText : List ℕ → Type 0) (w : Scene ReplicaValue) (holds : Holds m IsText w)
+module _ (m : Meaning) (IsText : List ℕ → Type 0) (w : WorldState ReplicaValue) (holds : Holds m IsText w)
     (changes : NobodyChanges w) where
   asked_keeps : (v : Command) → WasAsked (happened w.genesis w.sent w.trace) v → KeepsMembers v
   asked_keeps Noop asked = tt
@@ -173,7 +173,8 @@ next_above : (node : NodeValue) → IsBelow node.acceptor.state.promised (next_b
 next_above node = inl (round_above node.acceptor.state.promised.round node.acceptor.state.promised.round
     (greatest_round node) (promised_round node.acceptor.state.promised node.rounds) refl)
 
-module _ (m : Meaning) (IsText : List ℕ → Type 0) (w : Scene ReplicaValue) (n x : ℕ) (r c : ReplicaValue) (v : Vote)
+module _ (m : Meaning) (IsText : List ℕ → Type 0) (w : WorldState ReplicaValue) (n x : ℕ)
+    (r c : ReplicaValue) (v : Vote)
     (holds : Holds m IsText w) (up : IsUpAs w n r) (candidate_up : IsUpAs w x c)
     (ballot : IsAtMost r.node.acceptor.state.promised (next_ballot c.node))
     (kept : Contains r.node.acceptor.state.votes v) where
@@ -213,7 +214,7 @@ votes_older m IsText w n x r c v holds up candidate_up ballot kept =
 
 -- ---- leftovers
 
-module _ (m : Meaning) (IsText : List ℕ → Type 0) (w : Scene ReplicaValue) (c : ReplicaValue)
+module _ (m : Meaning) (IsText : List ℕ → Type 0) (w : WorldState ReplicaValue) (c : ReplicaValue)
     (others : List ReplicaValue) (last : ℕ) (k : NobodyIsAhead m IsText w c others last) where
   knows_of : (r : ReplicaValue) → IsUpAs w (number_of r) r → KnowsMembers w.genesis r.node
   knows_of r up = nodes_know m IsText w (number_of r) r k.holds k.changes up

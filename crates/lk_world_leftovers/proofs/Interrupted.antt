@@ -27,11 +27,11 @@ use Rattle.lk_leftovers.proofs.Accepting.{kept_or_new}
 use Rattle.lk_leftovers.specs.Accepting.{AcceptsAndStays, IsVoterAt, IsVoterFrom, VoterAccepts}
 use Rattle.lk_replica.specs.ReplicaValue.{ReplicaValue}
 use Rattle.lk_sim.specs.Events.{IsAsked}
-use Rattle.lk_sim.specs.Scenes.{Scene}
+use Rattle.lk_sim.specs.WorldStates.{WorldState}
 use Rattle.lk_sim.specs.declared.event.Event.TheVariants as event
-use Rattle.lk_sim_nodes.specs.declared.seat.Life.{Life}
-use Rattle.lk_sim_nodes.specs.declared.seat.Life.TheVariants.{Up}
-use Rattle.lk_sim_nodes.specs.declared.seat.Seat.{Seat}
+use Rattle.lk_sim_nodes.specs.declared.sim_node.RunState.{RunState}
+use Rattle.lk_sim_nodes.specs.declared.sim_node.RunState.TheVariants.{Up}
+use Rattle.lk_sim_nodes.specs.declared.sim_node.SimNode.{SimNode}
 use Rattle.lk_world_progress.proofs.Balloting.{found_has}
 use Rattle.lk_world_progress.proofs.Delivering.{EachHeard, HeardIt, TakesFrom, each_heard, heard_from}
 use Rattle.lk_world_progress.proofs.Stepping.{event_steps}
@@ -59,18 +59,19 @@ new_is_kept x (w ∷ vs) none =
     by_tests rest false false is b = (0, omega arith, refl)
 
 -- deliveries to one node change no other
-turn_stays : (m : Meaning) (IsText : List ℕ → Type 0) (n : ℕ) (xs : List Content) (old new : Scene ReplicaValue)
-    → HearsInTurn m IsText n xs old new → (k : ℕ) (life : Life ReplicaValue) → (k ≡ n → ⊥) → Lives old k life
-    → Lives new k life
-turn_stays m IsText n [] old new same k life apart up =
-    subst (λ (w : Scene ReplicaValue). Lives w k life) (sym same) up
-turn_stays m IsText n (x ∷ xs) old new d k life apart up =
+turn_stays : (m : Meaning) (IsText : List ℕ → Type 0) (n : ℕ) (xs : List Content) (old new : WorldState ReplicaValue)
+    → HearsInTurn m IsText n xs old new → (k : ℕ) (run_state : RunState ReplicaValue) → (k ≡ n → ⊥)
+    → Lives old k run_state
+    → Lives new k run_state
+turn_stays m IsText n [] old new same k run_state apart up =
+    subst (λ (w : WorldState ReplicaValue). Lives w k run_state) (sym same) up
+turn_stays m IsText n (x ∷ xs) old new d k run_state apart up =
     let one : TakesFrom m IsText n x old d.0 = heard_from m IsText n x old d.0 d.1 in
-    turn_stays m IsText n xs d.0 new d.2 k life apart (one.others k life apart up)
+    turn_stays m IsText n xs d.0 new d.2 k run_state apart (one.others k run_state apart up)
 
 module _ (m : Meaning) (IsText : List ℕ → Type 0) (prepare_law : PrepareIsPromisedOrRejected m IsText)
     (voter_law : VoterAccepts m IsText) (c : ReplicaValue) (index ticks : ℕ) (r : RequestValue) (others : List ℕ)
-    (x passed : ℕ) (z : ReplicaValue) (first last : Scene ReplicaValue)
+    (x passed : ℕ) (z : ReplicaValue) (first last : WorldState ReplicaValue)
     (new : IsNewWorld m IsText first c index ticks others) (fresh : IsNewIn m first x passed z)
     (outside : Contains (number_of c ∷ others) x → ⊥) (run : IsInterrupted m IsText c r others first last)
     (quiet : StartsQuietly m first.genesis (number_of c) ticks) where
@@ -124,12 +125,17 @@ module _ (m : Meaning) (IsText : List ℕ → Type 0) (prepare_law : PrepareIsPr
   accepted = each_heard m IsText accept others run.proposed last run.proposes.goes.after tt new.distinct.1 run.accepts
 
   -- from the promises to the Accept only the candidate changes
-  stays_on : (k : ℕ) (life : Life ReplicaValue) → (k ≡ own → ⊥) → Lives run.asked k life → Lives run.proposed k life
-  stays_on k life apart up = request.others k life apart
-      (subst (λ (seats : List (Seat ReplicaValue)). Contains seats (record { number = k; life = life }))
-      (sym asking.seats)
+  stays_on : (k : ℕ) (run_state : RunState ReplicaValue) → (k ≡ own → ⊥) → Lives run.asked k run_state
+      → Lives run.proposed k run_state
+  stays_on k run_state apart up = request.others k run_state apart
+      (subst (λ (sim_nodes : List (SimNode ReplicaValue)). Contains sim_nodes (record {
+        number = k;
+        run_state =
+            run_state;
+      }))
+      (sym asking.sim_nodes)
       (turn_stays m IsText own (promises (map (λ n. (n, promise_to c.node)) (own ∷ others))) run.asked run.promised
-      run.leads k life apart up))
+      run.leads k run_state apart up))
 
   -- ---- one that accepts
 

@@ -28,9 +28,9 @@ use Rattle.lk_progress.specs.Feeding.{MayServe}
 use Rattle.lk_progress.specs.Hearing.{Takes}
 use Rattle.lk_rebases.proofs.Rebases.{Handled, HasSame, handled, proposed_same}
 use Rattle.lk_replica.specs.ReplicaValue.{ReplicaValue}
-use Rattle.lk_sim.specs.Scenes.{Scene}
+use Rattle.lk_sim.specs.WorldStates.{WorldState}
 use Rattle.lk_sim.specs.declared.event.Event.TheVariants as event
-use Rattle.lk_sim_nodes.specs.declared.seat.Life.TheVariants.{Up}
+use Rattle.lk_sim_nodes.specs.declared.sim_node.RunState.TheVariants.{Up}
 use Rattle.lk_world_feeding.proofs.Knowing.{may_serve}
 use Rattle.lk_world_feeding.specs.Asking.{AreEnough}
 use Rattle.lk_world_feeding.specs.Feeding.{CanBeFed, GainsUnasked, IsFedUnasked, RejectionsFeed}
@@ -84,7 +84,7 @@ decided_within l i f kept less =
 
 module _ (m : Meaning) (IsText : List ℕ → Type 0) (feeds_law : RejectionsFeed m IsText) (x e : ℕ) (others : List ℕ)
     (last : ℕ) where
-  module _ (n : ℕ) (old new : Scene ReplicaValue) (k : MayContend m IsText old x e others last)
+  module _ (n : ℕ) (old new : WorldState ReplicaValue) (k : MayContend m IsText old x e others last)
       (there : Contains others n) (run : Feeds m IsText x n old new) where
     abbrev own : Contends m IsText old x e e [] last
     own = k.candidate
@@ -308,7 +308,8 @@ lagging_voter_fed m IsText feeds_law x e n others last old new k there run =
 -- ---- what lasts
 
 module _ (m : Meaning) (IsText : List ℕ → Type 0) (x e : ℕ) (others : List ℕ) (last : ℕ) where
-  pub lag_lasts : (old new : Scene ReplicaValue) (n : ℕ) (k : MayLag old last n) (q : ReplicaValue) → IsUpAs new n q
+  pub lag_lasts : (old new : WorldState ReplicaValue) (n : ℕ) (k : MayLag old last n) (q : ReplicaValue)
+      → IsUpAs new n q
       → Lasts k.replica.node q.node → MayLag new last n
   lag_lasts old new n k q up l = record {
     replica = q;
@@ -319,7 +320,7 @@ module _ (m : Meaning) (IsText : List ℕ → Type 0) (x e : ℕ) (others : List
     votes = λ v d. k.votes v (l.votes v d);
   }
 
-  pub last_may : (old new : Scene ReplicaValue) → MayContend m IsText old x e others last
+  pub last_may : (old new : WorldState ReplicaValue) → MayContend m IsText old x e others last
       → AllLast m IsText x others old new → MayContend m IsText new x e others last
   last_may old new k all =
       let own = all.candidate_lasts k.candidate.candidate k.candidate.up in
@@ -334,7 +335,8 @@ module _ (m : Meaning) (IsText : List ℕ → Type 0) (x e : ℕ) (others : List
       }
 
   -- a nudge of one of the others
-  module _ (n : ℕ) (reason : NudgeReason) (old new : Scene ReplicaValue) (k : MayContend m IsText old x e others last)
+  module _ (n : ℕ) (reason : NudgeReason) (old new : WorldState ReplicaValue) (k : MayContend m IsText old x
+      e others last)
       (there : Contains others n) (goes : GoesWell m IsText old (event.Nudge n reason) new)
       (s : TakesStep m IsText old n (Nudge reason) new) where
     refreshed_lasts : Lasts s.start (refreshed s.start)

@@ -25,7 +25,7 @@ use Rattle.lk_progress.specs.Exchanges.{IsQuietVoter}
 use Rattle.lk_progress.specs.Hearing.{Takes}
 use Rattle.lk_rebases.proofs.Rebases.{Handled, HasSame, handled, proposed_same, taken_learner}
 use Rattle.lk_replica.specs.ReplicaValue.{ReplicaValue}
-use Rattle.lk_sim.specs.Scenes.{Scene}
+use Rattle.lk_sim.specs.WorldStates.{WorldState}
 use Rattle.lk_world_progress.proofs.Balloting.{found_has, near_snapshot}
 use Rattle.lk_world_progress.proofs.Overtaking.{new_acceptor, responds}
 use Rattle.lk_world_progress.specs.Beginning.{IsNewWorld}
@@ -144,7 +144,7 @@ module _ (m : Meaning) (IsText : List ℕ → Type 0) where
 
 -- ---- what that leaves of those that take part
 
-pub may_vote : (old new : Scene ReplicaValue) (top last n : ℕ) (k : MayVote old top last n) (q : ReplicaValue)
+pub may_vote : (old new : WorldState ReplicaValue) (top last n : ℕ) (k : MayVote old top last n) (q : ReplicaValue)
     → IsUpAs new n q → Lasts k.replica.node q.node → MayVote new top last n
 may_vote old new top last n k q up l = record {
   replica = q;
@@ -156,7 +156,7 @@ may_vote old new top last n k q up l = record {
   votes = λ v c. k.votes v (l.votes v c);
 }
 
-pub still_contends : (m : Meaning) (IsText : List ℕ → Type 0) (old new : Scene ReplicaValue) (x e top : ℕ)
+pub still_contends : (m : Meaning) (IsText : List ℕ → Type 0) (old new : WorldState ReplicaValue) (x e top : ℕ)
     (others : List ℕ)
     (last : ℕ) (k : Contends m IsText old x e top others last) (q : ReplicaValue) → Holds m IsText new → IsUpAs new x q
     → Lasts k.candidate.node q.node → q.node.leader.term ≡ None → q.node.leader.waiting ≡ []
@@ -179,7 +179,7 @@ still_contends m IsText old new x e top others last k q holds up l idle waiting 
 
 -- ---- a new cluster
 
-module _ (m : Meaning) (IsText : List ℕ → Type 0) (w : Scene ReplicaValue) (c : ReplicaValue) (index ticks : ℕ)
+module _ (m : Meaning) (IsText : List ℕ → Type 0) (w : WorldState ReplicaValue) (c : ReplicaValue) (index ticks : ℕ)
     (others : List ℕ) (new : IsNewWorld m IsText w c index ticks others)
     (quiet : StartsQuietly m w.genesis (number_of c) ticks) where
   abbrev own : NodeValue

@@ -7,7 +7,7 @@ use Rattle.lk_state.specs.Meanings.{Meaning}
 use Rattle.lk_state.specs.States.{WholeValue}
 use Rattle.lk_learner.specs.Learners.{executed}
 use Rattle.lk_replica.specs.ReplicaValue.{ReplicaValue}
-use Rattle.lk_sim.specs.Scenes.{Scene}
+use Rattle.lk_sim.specs.WorldStates.{WorldState}
 use Rattle.lk_world_feeding.proofs.Knowing.{window_alpha}
 use Rattle.lk_world_feeding.specs.Gathering.{AllCanBeFed}
 use Rattle.lk_world_progress.proofs.Stepping.{one_replica}
@@ -94,14 +94,14 @@ moves_on a fs j e f g r q p grown grown_on one rest = record {
 module _ (m : Meaning) (IsText : List ℕ → Type 0) (voter_law : LaggingVoterIsFed m IsText)
     (own_law : LaggingCandidateIsFed m IsText) (parts_law : PartsAreTaken m IsText) (x : ℕ) (others : List ℕ)
     (last : ℕ) where
-  record Levels (fs : List Feeding) (e : ℕ) (old new : Scene ReplicaValue) : Type 0 where
+  record Levels (fs : List Feeding) (e : ℕ) (old new : WorldState ReplicaValue) : Type 0 where
     f : ℕ
     may : MayContend m IsText new x f others last
     grows : e + times_fed fs ≤ f
     moves : (j : ℕ) → Contains others j → (r : ReplicaValue) → IsUpAs old j r
         → (q : ReplicaValue) × IsUpAs new j q × Moves fs j e f r q
 
-  then_level : (a : Feeding) (fs : List Feeding) (e : ℕ) (old mid new : Scene ReplicaValue)
+  then_level : (a : Feeding) (fs : List Feeding) (e : ℕ) (old mid new : WorldState ReplicaValue)
       (one : Levels (a ∷ []) e old mid) → Levels fs one.f mid new → Levels (a ∷ fs) e old new
   then_level a fs e old mid new one rest = record {
     f = rest.f;
@@ -118,7 +118,7 @@ module _ (m : Meaning) (IsText : List ℕ → Type 0) (voter_law : LaggingVoterI
 
   -- ---- one of them
 
-  module _ (e : ℕ) (old ready mid : Scene ReplicaValue) (k : MayContend m IsText old x e others last)
+  module _ (e : ℕ) (old ready mid : WorldState ReplicaValue) (k : MayContend m IsText old x e others last)
       (all : AllLast m IsText x others old ready) (n : ℕ) (there : Contains others n) where
     abbrev then_may : MayContend m IsText ready x e others last
     then_may = last_may m IsText x e others last old ready k all
@@ -293,7 +293,7 @@ module _ (m : Meaning) (IsText : List ℕ → Type 0) (voter_law : LaggingVoterI
 
   -- ---- all of them
 
-  one_levels : (a : Feeding) (e : ℕ) (old ready mid : Scene ReplicaValue) → MayContend m IsText old x e others last
+  one_levels : (a : Feeding) (e : ℕ) (old ready mid : WorldState ReplicaValue) → MayContend m IsText old x e others last
       → AllLast m IsText x others old ready → Contains others (partner a) → Happens m IsText x a ready mid
       → Levels (a ∷ []) e old mid
   one_levels (feeds n) e old ready mid k all there run = level_to e old ready mid k all n there run
@@ -301,15 +301,15 @@ module _ (m : Meaning) (IsText : List ℕ → Type 0) (voter_law : LaggingVoterI
   one_levels (sends_parts n) e old ready mid k all there run = level_sent e old ready mid k all n there run
   one_levels (is_sent_parts_by n) e old ready mid k all there run = level_taken e old ready mid k all n there run
 
-  all_level : (fs : List Feeding) (e : ℕ) (old new : Scene ReplicaValue) → MayContend m IsText old x e others last
+  all_level : (fs : List Feeding) (e : ℕ) (old new : WorldState ReplicaValue) → MayContend m IsText old x e others last
       → FeedInTurn m IsText x others fs old new → Levels fs e old new
   all_level [] e old new k same = record {
     f = e;
-    may = subst (λ (w : Scene ReplicaValue). MayContend m IsText w x e others last) (sym same) k;
+    may = subst (λ (w : WorldState ReplicaValue). MayContend m IsText w x e others last) (sym same) k;
     grows = omega arith;
     moves = λ j c r up. (
       r,
-      subst (λ (w : Scene ReplicaValue). IsUpAs w j r) (sym same) up,
+      subst (λ (w : WorldState ReplicaValue). IsUpAs w j r) (sym same) up,
       record {
         rises = omega arith;
         fed = inr (omega arith);
@@ -322,7 +322,7 @@ module _ (m : Meaning) (IsText : List ℕ → Type 0) (voter_law : LaggingVoterI
       let one : Levels (a ∷ []) e old d.1 = one_levels a e old d.0 d.1 k d.2 d.3 d.4 in
       then_level a fs e old d.1 new one (all_level fs one.f d.1 new one.may d.5)
 
-  have_fed : (fs : List Feeding) (e : ℕ) (old new : Scene ReplicaValue) → Levels fs e old new
+  have_fed : (fs : List Feeding) (e : ℕ) (old new : WorldState ReplicaValue) → Levels fs e old new
       → HaveFed m IsText x e others last fs old new
   have_fed fs e old new l = record {
     f = l.f;
@@ -402,7 +402,7 @@ level_nodes_contend m IsText x e others last w k level = record {
 -- ---- not level
 
 module _ (m : Meaning) (IsText : List ℕ → Type 0) (law : AllCanBeFed m IsText) (x e : ℕ) (others : List ℕ) (most : ℕ)
-    (w : Scene ReplicaValue) (k : MayContend m IsText w x e others (most + 2 * w.genesis.alpha))
+    (w : WorldState ReplicaValue) (k : MayContend m IsText w x e others (most + 2 * w.genesis.alpha))
     (some : HasExecuted w (x ∷ others) most) (are_open : AreOpen w (x ∷ others)) where
   abbrev own : ReplicaValue
   own = k.candidate.candidate
@@ -515,7 +515,7 @@ unlevel_can_be_fed m IsText law x e others most w k some are_open =
 
 -- ---- a new cluster
 
-module _ (m : Meaning) (IsText : List ℕ → Type 0) (w : Scene ReplicaValue) (x : ℕ) (others : List ℕ)
+module _ (m : Meaning) (IsText : List ℕ → Type 0) (w : WorldState ReplicaValue) (x : ℕ) (others : List ℕ)
     (k : Contends m IsText w x 0 0 others 0) where
   none_above : (n : ℕ) → Contains others n → (r : ReplicaValue) → IsUpAs w n r → executed r.node.learner ≤ 0
   none_above n c r up =

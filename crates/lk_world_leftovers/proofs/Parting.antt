@@ -22,8 +22,8 @@ use Rattle.lk_progress.specs.Gathering.{HasSoFar}
 use Rattle.lk_progress.specs.Hearing.{Takes}
 use Rattle.lk_rebases.proofs.Rebases.{Handled, handled}
 use Rattle.lk_replica.specs.ReplicaValue.{ReplicaValue}
-use Rattle.lk_sim.specs.Scenes.{Scene}
-use Rattle.lk_sim_nodes.specs.declared.seat.Life.TheVariants.{Up}
+use Rattle.lk_sim.specs.WorldStates.{WorldState}
+use Rattle.lk_sim_nodes.specs.declared.sim_node.RunState.TheVariants.{Up}
 use Rattle.lk_world_feeding.proofs.Gathering.{TookParts, all_taken, parts_hold}
 use Rattle.lk_world_feeding.proofs.Knowing.{may_serve}
 use Rattle.lk_world_feeding.proofs.Taking.{taken_learner}
@@ -59,7 +59,7 @@ abbrev first_of : ℕ → List ℕ → ℕ → GatheredValue
 first_of position text count = record { position = position; total = length text; bytes = take count text }
 
 module _ (m : Meaning) (IsText : List ℕ → Type 0) (law : PartsFeed m IsText) (last n other : ℕ)
-    (old new : Scene ReplicaValue) (holds : Holds m IsText old) (apart : n ≡ other → ⊥)
+    (old new : WorldState ReplicaValue) (holds : Holds m IsText old) (apart : n ≡ other → ⊥)
     (run : TakesParts m IsText n other old new) (lag : MayLag old last n) (lag_other : MayLag old last other) where
   same_behind : lag.replica ≡ run.behind
   same_behind = one_replica m IsText old holds n lag.replica run.behind lag.up run.up
@@ -321,7 +321,7 @@ module _ (m : Meaning) (IsText : List ℕ → Type 0) (law : PartsFeed m IsText)
 -- ---- the candidate takes them
 
 module _ (m : Meaning) (IsText : List ℕ → Type 0) (law : PartsFeed m IsText) (x e n : ℕ) (others : List ℕ) (last : ℕ)
-    (old new : Scene ReplicaValue) (k : MayContend m IsText old x e others last) (there : Contains others n) where
+    (old new : WorldState ReplicaValue) (k : MayContend m IsText old x e others last) (there : Contains others n) where
   differs : n ≡ x → ⊥
   differs is = k.distinct.0 (subst (λ (j : ℕ). Contains others j) is there)
 

@@ -14,7 +14,7 @@ use Rattle.lk_node.specs.Beginning.{next_ballot}
 use Rattle.lk_node.specs.Executing.{NothingToRun}
 use Rattle.lk_node.specs.Nearness.{AreNear}
 use Rattle.lk_replica.specs.ReplicaValue.{ReplicaValue}
-use Rattle.lk_sim.specs.Scenes.{Scene}
+use Rattle.lk_sim.specs.WorldStates.{WorldState}
 use Rattle.lk_world_progress.proofs.Stepping.{has_header, one_replica}
 use Rattle.lk_world_progress.specs.Delivering.{AreDistinct}
 use Rattle.lk_world_progress.specs.Exchanging.{number_of}
@@ -32,7 +32,7 @@ use Rattle.lk_world_leftovers.specs.Persisting.{PersistingCandidateAnswers, Reje
 module _ (m : Meaning) (IsText : List ℕ → Type 0) (few_law : RejectionsAreFew m IsText)
     (fixed_law : FixedWorldHasLeftovers m IsText) (new_law : FreshRequestsAreNew m IsText)
     (answers_law : WorldWithLeftoversAnswers m IsText) (x e top : ℕ)
-    (others : List ℕ) (highest : ℕ) (r : RequestValue) (first last : Scene ReplicaValue)
+    (others : List ℕ) (highest : ℕ) (r : RequestValue) (first last : WorldState ReplicaValue)
     (k : Contends m IsText first x e top others highest) (ahead_of : top ≤ e) (low : e ≤ highest)
     (room : highest < 281474976710656)
     (run : Persists m IsText x others r first last) (fixed : AreFixed run.ready x others)

@@ -21,9 +21,9 @@ use Rattle.lk_progress.specs.Electing.{AsksWindow, DueNodeAsks, IsDue}
 use Rattle.lk_progress.specs.Exchanges.{prepare_by}
 use Rattle.lk_rebases.proofs.Rebases.{idle_begins}
 use Rattle.lk_replica.specs.ReplicaValue.{ReplicaValue}
-use Rattle.lk_sim.specs.Scenes.{Scene}
+use Rattle.lk_sim.specs.WorldStates.{WorldState}
 use Rattle.lk_sim.specs.declared.event.Event.TheVariants as event
-use Rattle.lk_sim_nodes.specs.declared.seat.Life.TheVariants.{Up}
+use Rattle.lk_sim_nodes.specs.declared.sim_node.RunState.TheVariants.{Up}
 use Rattle.lk_world_progress.proofs.Balloting.{found_has, found_tells, tick_begins}
 use Rattle.lk_world_progress.proofs.Delivering.{EachHeard, HeardIt, each_heard, heard_from, heard_it}
 use Rattle.lk_world_progress.proofs.Rebasing.{begun_rests}
@@ -41,7 +41,7 @@ use Rattle.lk_world_leftovers.specs.Persisting.{RetriesInTurn, WaitsIn}
 
 -- ---- a tick that begins nothing
 
-module _ (m : Meaning) (IsText : List ℕ → Type 0) (old new : Scene ReplicaValue) (x e top : ℕ) (others : List ℕ)
+module _ (m : Meaning) (IsText : List ℕ → Type 0) (old new : WorldState ReplicaValue) (x e top : ℕ) (others : List ℕ)
     (last : ℕ) (k : Contends m IsText old x e top others last) (goes : GoesWell m IsText old (event.Tick x) new)
     (idle : (r : ReplicaValue) → IsUpAs new x r → r.node.leader.term ≡ None)
     (s : TakesStep m IsText old x Tick new) where
@@ -104,18 +104,18 @@ module _ (m : Meaning) (IsText : List ℕ → Type 0) (old new : Scene ReplicaVa
       })
 
 module _ (m : Meaning) (IsText : List ℕ → Type 0) (x e top : ℕ) (others : List ℕ) (last : ℕ) where
-  abbrev pub Settled : Scene ReplicaValue → List ℕ → Type 0
+  abbrev pub Settled : WorldState ReplicaValue → List ℕ → Type 0
   Settled w ns = (n : ℕ) → Contains ns n → IsNoRival w x n
 
-  pub record HasWaited (old new : Scene ReplicaValue) : Type 0 where
+  pub record HasWaited (old new : WorldState ReplicaValue) : Type 0 where
     pub contends : Contends m IsText new x e top others last
     pub settled : (ns : List ℕ) → ((n : ℕ) → Contains ns n → Contains others n) → Settled old ns → Settled new ns
 
-  pub waited : (j : ℕ) (old new : Scene ReplicaValue) → Contends m IsText old x e top others last
+  pub waited : (j : ℕ) (old new : WorldState ReplicaValue) → Contends m IsText old x e top others last
       → WaitsIn m IsText x j old new → HasWaited old new
   waited zero old new k same = record {
-    contends = subst (λ (w : Scene ReplicaValue). Contends m IsText w x e top others last) (sym same) k;
-    settled = λ ns among none. subst (λ (w : Scene ReplicaValue). Settled w ns) (sym same) none;
+    contends = subst (λ (w : WorldState ReplicaValue). Contends m IsText w x e top others last) (sym same) k;
+    settled = λ ns among none. subst (λ (w : WorldState ReplicaValue). Settled w ns) (sym same) none;
   }
   waited (suc j) old new k d =
       let s : TakesStep m IsText old x Tick d.0 =
@@ -140,7 +140,7 @@ below_test a b (inr equal) =
     rw (f, s, t) refl
 
 module _ (m : Meaning) (IsText : List ℕ → Type 0) (asks_law : DueNodeAsks) (raises_law : DeliveredNackRaises m IsText)
-    (c : ReplicaValue) (others : List ℕ) (rival : ℕ) (old new : Scene ReplicaValue) (e top last : ℕ)
+    (c : ReplicaValue) (others : List ℕ) (rival : ℕ) (old new : WorldState ReplicaValue) (e top last : ℕ)
     (k : Contends m IsText old (number_of c) e top others last)
     (r : IsRejected m IsText c others rival old new) where
   abbrev x : ℕ
@@ -256,7 +256,7 @@ module _ (m : Meaning) (IsText : List ℕ → Type 0) (asks_law : DueNodeAsks) (
 module _ (m : Meaning) (IsText : List ℕ → Type 0) (asks_law : DueNodeAsks) (raises_law : DeliveredNackRaises m IsText)
     (fewer_law : RejectedCandidateHasFewerRivals m IsText) (e top : ℕ) (others : List ℕ) (last : ℕ) where
   -- the candidate has heard of this one, is no rival's candidate of these any more, and goes on
-  record HasRetried (x : ℕ) (rival : ℕ) (old new : Scene ReplicaValue) : Type 0 where
+  record HasRetried (x : ℕ) (rival : ℕ) (old new : WorldState ReplicaValue) : Type 0 where
     contends : Contends m IsText new x e top others last
     among : Contains others rival
     was_rival : IsNoRival old x rival → ⊥
@@ -264,7 +264,7 @@ module _ (m : Meaning) (IsText : List ℕ → Type 0) (asks_law : DueNodeAsks) (
     settled : (ns : List ℕ) → ((n : ℕ) → Contains ns n → Contains others n)
         → ((n : ℕ) → Contains ns n → IsNoRival old x n) → (n : ℕ) → Contains ns n → IsNoRival new x n
 
-  retried_at : (rival : ℕ) (old due new : Scene ReplicaValue) (c : ReplicaValue) (j : ℕ)
+  retried_at : (rival : ℕ) (old due new : WorldState ReplicaValue) (c : ReplicaValue) (j : ℕ)
       → Contends m IsText old (number_of c) e top others last → WaitsIn m IsText (number_of c) j old due
       → IsRejected m IsText c others rival due new → HasRetried (number_of c) rival old new
   retried_at rival old due new c j k waits r =
@@ -290,7 +290,7 @@ module _ (m : Meaning) (IsText : List ℕ → Type 0) (asks_law : DueNodeAsks) (
             (one_replica m IsText new r.tells.goes.after (number_of c) q fewer.after up fewer.is) is));
       }
 
-  retried : (x rival : ℕ) (old new : Scene ReplicaValue) → Contends m IsText old x e top others last
+  retried : (x rival : ℕ) (old new : WorldState ReplicaValue) → Contends m IsText old x e top others last
       → Retries m IsText x others rival old new → HasRetried x rival old new
   retried x rival old new k run = subst (λ (n : ℕ). HasRetried n rival old new) run.number
       (retried_at rival old run.due new run.candidate run.ticks
@@ -298,7 +298,7 @@ module _ (m : Meaning) (IsText : List ℕ → Type 0) (asks_law : DueNodeAsks) (
       (subst (λ (n : ℕ). WaitsIn m IsText n run.ticks old run.due) (sym run.number) run.waits) run.rejected)
 
   -- the rivals, none of which was settled before
-  record HaveRetried (x : ℕ) (rivals : List ℕ) (old new : Scene ReplicaValue) : Type 0 where
+  record HaveRetried (x : ℕ) (rivals : List ℕ) (old new : WorldState ReplicaValue) : Type 0 where
     contends : Contends m IsText new x e top others last
     distinct : AreDistinct rivals
     among : (n : ℕ) → Contains rivals n → Contains others n
@@ -306,15 +306,16 @@ module _ (m : Meaning) (IsText : List ℕ → Type 0) (asks_law : DueNodeAsks) (
     unsettled : (n : ℕ) → Contains rivals n → IsNoRival old x n → ⊥
     stays : (n : ℕ) → Contains others n → IsNoRival old x n → IsNoRival new x n
 
-  all_retried : (x : ℕ) (rivals : List ℕ) (old new : Scene ReplicaValue) → Contends m IsText old x e top others last
+  all_retried : (x : ℕ) (rivals : List ℕ) (old new : WorldState ReplicaValue) → Contends m IsText old x e
+      top others last
       → RetriesInTurn m IsText x others rivals old new → HaveRetried x rivals old new
   all_retried x [] old new k same = record {
-    contends = subst (λ (w : Scene ReplicaValue). Contends m IsText w x e top others last) (sym same) k;
+    contends = subst (λ (w : WorldState ReplicaValue). Contends m IsText w x e top others last) (sym same) k;
     distinct = tt;
     among = λ n d. absurd (omega (arith, d.1));
     settled = λ n d. absurd (omega (arith, d.1));
     unsettled = λ n d. absurd (omega (arith, d.1));
-    stays = λ n d none. subst (λ (w : Scene ReplicaValue). IsNoRival w x n) (sym same) none;
+    stays = λ n d none. subst (λ (w : WorldState ReplicaValue). IsNoRival w x n) (sym same) none;
   }
   all_retried x (y ∷ ys) old new k run =
       let one : HasRetried x y old run.0 = retried x y old run.0 k run.1 in

@@ -46,12 +46,12 @@ use Rattle.lk_leftovers.proofs.Accepting.{near_vote}
 use Rattle.lk_leftovers.specs.Accepting.{IsVoterAt}
 use Rattle.lk_replica.specs.ReplicaValue.{ReplicaValue}
 use Rattle.lk_sim.specs.Events.{IsAsked}
-use Rattle.lk_sim.specs.Scenes.{Scene}
+use Rattle.lk_sim.specs.WorldStates.{WorldState}
 use Rattle.lk_sim.specs.Traces.{told_in}
 use Rattle.lk_sim.specs.declared.event.Event.TheVariants as event
-use Rattle.lk_sim_nodes.specs.declared.seat.Life.{Life}
-use Rattle.lk_sim_nodes.specs.declared.seat.Life.TheVariants.{Up}
-use Rattle.lk_sim_nodes.specs.declared.seat.Seat.{Seat}
+use Rattle.lk_sim_nodes.specs.declared.sim_node.RunState.{RunState}
+use Rattle.lk_sim_nodes.specs.declared.sim_node.RunState.TheVariants.{Up}
+use Rattle.lk_sim_nodes.specs.declared.sim_node.SimNode.{SimNode}
 use Rattle.lk_world_progress.proofs.Balloting.{found_has}
 use Rattle.lk_world_progress.proofs.Delivering.{EachHeard, HeardIt, TakesFrom, among, each_heard, heard_from}
 use Rattle.lk_world_progress.proofs.Exchanging.{each_acceptance}
@@ -70,10 +70,10 @@ use Rattle.lk_world_leftovers.specs.Answering.{IsReadyIn, IsServed, ReadyLeaderA
 -- The steps of a run, as far as it has come: first the request, then the votes, and then the replies.
 module _ (m : Meaning) (IsText : List ℕ → Type 0) (proposes_law : FreshRequestIsProposed m IsText) (x : ℕ)
     (leader : ReplicaValue) (t : TermValue) (set : List Member) (r : RequestValue) (others : List ℕ)
-    (first : Scene ReplicaValue) (k : IsReadyIn m IsText first x leader t set others)
+    (first : WorldState ReplicaValue) (k : IsReadyIn m IsText first x leader t set others)
     (fresh : is_new (session_of r.client leader.node.learner.whole.sessions) r.number ≡ true)
-    (requested : Scene ReplicaValue) (requests : GoesWell m IsText first (event.Client x r) requested)
-    (proposed : Scene ReplicaValue) (proposes : Hears m IsText x (content.Request r) requested proposed) where
+    (requested : WorldState ReplicaValue) (requests : GoesWell m IsText first (event.Client x r) requested)
+    (proposed : WorldState ReplicaValue) (proposes : Hears m IsText x (content.Request r) requested proposed) where
   abbrev e : ℕ
   e = executed leader.node.learner
 
@@ -94,10 +94,14 @@ module _ (m : Meaning) (IsText : List ℕ → Type 0) (proposes_law : FreshReque
   asking : IsAsked first requested x r
   asking = requests.done.1
 
-  requested_lives : (n : ℕ) (life : Life ReplicaValue) → Lives first n life → Lives requested n life
-  requested_lives n life l =
-      subst (λ (seats : List (Seat ReplicaValue)). Contains seats (record { number = n; life = life }))
-      (sym asking.seats) l
+  requested_lives : (n : ℕ) (run_state : RunState ReplicaValue) → Lives first n run_state → Lives requested n run_state
+  requested_lives n run_state l =
+      subst (λ (sim_nodes : List (SimNode ReplicaValue)). Contains sim_nodes (record {
+        number = n;
+        run_state =
+            run_state;
+      }))
+      (sym asking.sim_nodes) l
 
   request : TakesFrom m IsText x (content.Request r) requested proposed
   request = heard_from m IsText x (content.Request r) requested proposed proposes
@@ -142,7 +146,7 @@ module _ (m : Meaning) (IsText : List ℕ → Type 0) (proposes_law : FreshReque
       (among x request.out.envelopes requested proposed request.sent
       (envelope_to leader.node (kinds.Accept vote) n) (asks.told n d))
 
-  module _ (near_law : NearNodeAccepts m IsText) (polled : Scene ReplicaValue)
+  module _ (near_law : NearNodeAccepts m IsText) (polled : WorldState ReplicaValue)
       (polls : HearsEach m IsText (content.Node x (kinds.Accept (vote_in leader t r))) (x ∷ others) proposed polled)
     where
       -- ---- the votes
@@ -204,7 +208,7 @@ module _ (m : Meaning) (IsText : List ℕ → Type 0) (proposes_law : FreshReque
       ]
 
       module _ (keeps : KeepsTexts IsText m) (answers_law : AcceptedRequestIsAnswered m IsText)
-          (last : Scene ReplicaValue)
+          (last : WorldState ReplicaValue)
           (replies : HearsInTurn m IsText x (acceptances (x ∷ others) (vote_in leader t r)) polled last) where
         -- ---- the replies
 

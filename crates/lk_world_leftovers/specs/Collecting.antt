@@ -26,7 +26,7 @@ use Rattle.lk_progress.specs.Electing.{IsDue, promises}
 use Rattle.lk_progress.specs.Exchanges.{prepare_by}
 use Rattle.lk_progress.specs.LeadingOn.{AreAll, KeepsMembers}
 use Rattle.lk_replica.specs.ReplicaValue.{ReplicaValue}
-use Rattle.lk_sim.specs.Scenes.{Scene}
+use Rattle.lk_sim.specs.WorldStates.{WorldState}
 use Rattle.lk_sim.specs.declared.event.Event.TheVariants as event
 use Rattle.lk_world_progress.specs.Balloting.{HasSentTo}
 use Rattle.lk_world_progress.specs.Delivering.{AreDistinct, HearsEach, HearsInTurn}
@@ -70,7 +70,8 @@ pub record IsNearVoter (node : NodeValue) (b : BallotValue) (e last : ℕ) : Typ
   pub votes : AreLeftovers node b e last
 
 -- the candidate and these others are up, and with it they are a majority of the set
-pub record HasLeftovers (m : Meaning) (IsText : List ℕ → Type 0) (w : Scene ReplicaValue) (candidate : ReplicaValue)
+pub record HasLeftovers (m : Meaning) (IsText : List ℕ → Type 0) (w : WorldState ReplicaValue)
+    (candidate : ReplicaValue)
     (set : List Member) (others : List ReplicaValue) (last : ℕ) : Type 0 where
   pub holds : Holds m IsText w
   pub up : IsUpAs w (number_of candidate) candidate
@@ -95,10 +96,10 @@ promise_in candidate r = record {
 -- The candidate takes a tick. Each node takes the candidate's Prepare, and the candidate takes their promises. Nothing
 -- else happens meanwhile, but any of these nodes may have a rebase due.
 pub record Collects (m : Meaning) (IsText : List ℕ → Type 0) (candidate : ReplicaValue) (others : List ReplicaValue)
-    (first last : Scene ReplicaValue) : Type 0 where
-  pub ticked : Scene ReplicaValue
+    (first last : WorldState ReplicaValue) : Type 0 where
+  pub ticked : WorldState ReplicaValue
   pub ticks : GoesWell m IsText first (event.Tick (number_of candidate)) ticked
-  pub asked : Scene ReplicaValue
+  pub asked : WorldState ReplicaValue
   pub asks : HearsEach m IsText (content.Node (number_of candidate) (prepare_by candidate.node))
       (map number_of (candidate ∷ others)) ticked asked
   pub leads : HearsInTurn m IsText (number_of candidate)
@@ -107,7 +108,7 @@ pub record Collects (m : Meaning) (IsText : List ℕ → Type 0) (candidate : Re
 -- The Prepare was sent to each member, and each promise to the candidate, before they are delivered. In the end the
 -- candidate leads in the ballot that it has begun, has executed what it had, and fills up.
 pub record HasCollected (m : Meaning) (IsText : List ℕ → Type 0) (candidate : ReplicaValue) (set : List Member)
-    (others : List ReplicaValue) (highest : ℕ) (first last : Scene ReplicaValue)
+    (others : List ReplicaValue) (highest : ℕ) (first last : WorldState ReplicaValue)
     (k : Collects m IsText candidate others first last) : Type 0 where
   pub asks : (n : ℕ) → Contains (nodes_of set) n → 1 ≤ n
       → HasSentTo k.ticked (number_of candidate) n (prepare_by candidate.node)
@@ -121,6 +122,6 @@ pub record HasCollected (m : Meaning) (IsText : List ℕ → Type 0) (candidate 
 
 abbrev pub CandidateFillsIn : Meaning → (List ℕ → Type 0) → Type 0
 CandidateFillsIn m IsText = (candidate : ReplicaValue) (set : List Member) (others : List ReplicaValue)
-    (highest : ℕ) (first last : Scene ReplicaValue) → HasLeftovers m IsText first candidate set others highest
+    (highest : ℕ) (first last : WorldState ReplicaValue) → HasLeftovers m IsText first candidate set others highest
     → (k : Collects m IsText candidate others first last)
     → HasCollected m IsText candidate set others highest first last k

@@ -13,7 +13,7 @@ use Rattle.lk_leader.specs.Terms.{TermValue}
 use Rattle.lk_leader.specs.Values.{has_vote_from}
 use Rattle.lk_learner.specs.Learners.{alpha, executed}
 use Rattle.lk_replica.specs.ReplicaValue.{ReplicaValue}
-use Rattle.lk_sim.specs.Scenes.{Scene}
+use Rattle.lk_sim.specs.WorldStates.{WorldState}
 use Rattle.lk_world_progress.specs.Balloting.{HasSentTo}
 use Rattle.lk_world_progress.specs.Delivering.{AreDistinct, Hears}
 use Rattle.lk_world_progress.specs.Exchanging.{number_of}
@@ -25,22 +25,22 @@ use Rattle.lk_world_leftovers.specs.Filling.{Fills, IsFilling, IsNextVote, decid
 -- ---- one position after another
 
 -- the vote is for what the leader of this number has proposed at its next position
-abbrev pub IsNextIn : Scene ReplicaValue → ℕ → Vote → Type 0
+abbrev pub IsNextIn : WorldState ReplicaValue → ℕ → Vote → Type 0
 IsNextIn w x v =
     (r : ReplicaValue) × (t : TermValue) × IsUpAs w x r × (r.node.leader.term ≡ Some t) × IsNextVote r.node t v
 
 -- each of these votes is for the next position when its turn comes, and the nodes fill that position
-abbrev pub FillsInTurn : Meaning → (List ℕ → Type 0) → ℕ → List ℕ → List Vote → Scene ReplicaValue
-    → Scene ReplicaValue → Type 0
+abbrev pub FillsInTurn : Meaning → (List ℕ → Type 0) → ℕ → List ℕ → List Vote → WorldState ReplicaValue
+    → WorldState ReplicaValue → Type 0
 FillsInTurn m IsText x nodes [] old new = new ≡ old
 FillsInTurn m IsText x nodes (v ∷ vs) old new =
-    (mid : Scene ReplicaValue) × IsNextIn old x v × Fills m IsText x nodes v old mid
+    (mid : WorldState ReplicaValue) × IsNextIn old x v × Fills m IsText x nodes v old mid
     × FillsInTurn m IsText x nodes vs mid new
 
 -- Before each position is filled the Accept of its vote has been sent to each member, and then each reply. After that
 -- each other member has been told what is decided there.
 abbrev pub AreOffered : (m : Meaning) (IsText : List ℕ → Type 0) (x : ℕ) (set : List Member) (nodes : List ℕ)
-    (vs : List Vote) (old new : Scene ReplicaValue) → FillsInTurn m IsText x nodes vs old new → Type 0
+    (vs : List Vote) (old new : WorldState ReplicaValue) → FillsInTurn m IsText x nodes vs old new → Type 0
 AreOffered m IsText x set nodes [] old new k = Unit {0}
 AreOffered m IsText x set nodes (v ∷ vs) old new k =
     ((n : ℕ) → Contains (nodes_of set) n → HasSentTo old x n (kinds.Accept v))
@@ -51,7 +51,7 @@ AreOffered m IsText x set nodes (v ∷ vs) old new k =
 -- the leader still leads in the ballot, and each position filled has brought it on. So at most as many are filled as
 -- are left up to the last
 pub record HaveFilled (m : Meaning) (IsText : List ℕ → Type 0) (x : ℕ) (leader : ReplicaValue) (t : TermValue)
-    (set : List Member) (others : List ℕ) (last : ℕ) (vs : List Vote) (old new : Scene ReplicaValue)
+    (set : List Member) (others : List ℕ) (last : ℕ) (vs : List Vote) (old new : WorldState ReplicaValue)
     (k : FillsInTurn m IsText x (x ∷ others) vs old new) : Type 0 where
   pub offered : AreOffered m IsText x set (x ∷ others) vs old new k
   pub after : ReplicaValue
@@ -63,7 +63,7 @@ pub record HaveFilled (m : Meaning) (IsText : List ℕ → Type 0) (x : ℕ) (le
 
 abbrev pub LeftoversAreFilled : Meaning → (List ℕ → Type 0) → Type 0
 LeftoversAreFilled m IsText = (x : ℕ) (leader : ReplicaValue) (t : TermValue) (set : List Member) (others : List ℕ)
-    (last : ℕ) (vs : List Vote) (old new : Scene ReplicaValue) → IsFilling m IsText old x leader t set others last
+    (last : ℕ) (vs : List Vote) (old new : WorldState ReplicaValue) → IsFilling m IsText old x leader t set others last
     → (k : FillsInTurn m IsText x (x ∷ others) vs old new)
     → HaveFilled m IsText x leader t set others last vs old new k
 
@@ -71,7 +71,8 @@ LeftoversAreFilled m IsText = (x : ℕ) (leader : ReplicaValue) (t : TermValue) 
 
 -- The next 2 alpha positions of a voter end where the leader has executed, or before that. It takes decided commands,
 -- among them that of its next position. The leader has executed all of them.
-pub record CatchesUp (m : Meaning) (IsText : List ℕ → Type 0) (x n : ℕ) (old new : Scene ReplicaValue) : Type 0 where
+pub record CatchesUp (m : Meaning) (IsText : List ℕ → Type 0) (x n : ℕ) (old new : WorldState ReplicaValue)
+    : Type 0 where
   pub leader : ReplicaValue
   pub up : IsUpAs old x leader
   pub voter : ReplicaValue
@@ -85,26 +86,27 @@ pub record CatchesUp (m : Meaning) (IsText : List ℕ → Type 0) (x n : ℕ) (o
   pub takes : Hears m IsText n (content.Node from (kinds.Decided told)) old new
 
 -- each of these voters does, one after another
-abbrev pub CatchUpInTurn : Meaning → (List ℕ → Type 0) → ℕ → List ℕ → Scene ReplicaValue → Scene ReplicaValue → Type 0
+abbrev pub CatchUpInTurn : Meaning → (List ℕ → Type 0) → ℕ → List ℕ → WorldState ReplicaValue
+    → WorldState ReplicaValue → Type 0
 CatchUpInTurn m IsText x [] old new = new ≡ old
 CatchUpInTurn m IsText x (n ∷ ns) old new =
-    (mid : Scene ReplicaValue) × CatchesUp m IsText x n old mid × CatchUpInTurn m IsText x ns mid new
+    (mid : WorldState ReplicaValue) × CatchesUp m IsText x n old mid × CatchUpInTurn m IsText x ns mid new
 
 -- each voter does so once at most, and the leader fills up as before
 pub record HaveCaughtUp (m : Meaning) (IsText : List ℕ → Type 0) (x : ℕ) (leader : ReplicaValue) (t : TermValue)
-    (set : List Member) (others : List ℕ) (last : ℕ) (ns : List ℕ) (new : Scene ReplicaValue) : Type 0 where
+    (set : List Member) (others : List ℕ) (last : ℕ) (ns : List ℕ) (new : WorldState ReplicaValue) : Type 0 where
   pub once : AreDistinct ns
   pub few : length ns ≤ length others
   pub fills : IsFilling m IsText new x leader t set others last
 
 abbrev pub VotersCatchUp : Meaning → (List ℕ → Type 0) → Type 0
 VotersCatchUp m IsText = (x : ℕ) (leader : ReplicaValue) (t : TermValue) (set : List Member) (others : List ℕ)
-    (last : ℕ) (ns : List ℕ) (old new : Scene ReplicaValue) → IsFilling m IsText old x leader t set others last
+    (last : ℕ) (ns : List ℕ) (old new : WorldState ReplicaValue) → IsFilling m IsText old x leader t set others last
     → ((n : ℕ) → Contains ns n → Contains others n) → CatchUpInTurn m IsText x ns old new
     → HaveCaughtUp m IsText x leader t set others last ns new
 
 -- the leader's next position is one of the voter's next 2 alpha
-abbrev pub ReachesNext : Scene ReplicaValue → ReplicaValue → ℕ → Type 0
+abbrev pub ReachesNext : WorldState ReplicaValue → ReplicaValue → ℕ → Type 0
 ReachesNext w leader n = (q : ReplicaValue) → IsUpAs w n q
     → executed leader.node.learner < executed q.node.learner + 2 * alpha q.node.learner
 
@@ -115,15 +117,15 @@ ReachesNext w leader n = (q : ReplicaValue) → IsUpAs w n q
 -- position is one of the next 2 alpha of each of them, and they serve a client's request. Nothing else happens
 -- meanwhile, but any of these nodes may have a rebase due.
 pub record Exchanges (m : Meaning) (IsText : List ℕ → Type 0) (candidate : ReplicaValue) (r : RequestValue)
-    (others : List ReplicaValue) (first last : Scene ReplicaValue) : Type 0 where
-  pub promised : Scene ReplicaValue
+    (others : List ReplicaValue) (first last : WorldState ReplicaValue) : Type 0 where
+  pub promised : WorldState ReplicaValue
   pub collects : Collects m IsText candidate others first promised
   pub votes : List Vote
-  pub filled : Scene ReplicaValue
+  pub filled : WorldState ReplicaValue
   pub fills : FillsInTurn m IsText (number_of candidate) (map number_of (candidate ∷ others)) votes promised filled
   pub caught : List ℕ
   pub among : (n : ℕ) → Contains caught n → Contains (map number_of others) n
-  pub ready : Scene ReplicaValue
+  pub ready : WorldState ReplicaValue
   pub catch_up : CatchUpInTurn m IsText (number_of candidate) caught filled ready
   pub leader : ReplicaValue
   pub is : IsUpAs ready (number_of candidate) leader
@@ -137,7 +139,7 @@ pub record Exchanges (m : Meaning) (IsText : List ℕ → Type 0) (candidate : R
 -- candidate has executed and the last vote, each voter catches up once at most, and in the end the request is answered,
 -- and that is noted.
 pub record LeftoversAnswer (m : Meaning) (IsText : List ℕ → Type 0) (candidate : ReplicaValue) (set : List Member)
-    (r : RequestValue) (others : List ReplicaValue) (highest : ℕ) (first last : Scene ReplicaValue)
+    (r : RequestValue) (others : List ReplicaValue) (highest : ℕ) (first last : WorldState ReplicaValue)
     (k : Exchanges m IsText candidate r others first last) : Type 0 where
   pub collected : HasCollected m IsText candidate set others highest first k.promised k.collects
   pub offered : AreOffered m IsText (number_of candidate) set (map number_of (candidate ∷ others)) k.votes k.promised
@@ -149,7 +151,7 @@ pub record LeftoversAnswer (m : Meaning) (IsText : List ℕ → Type 0) (candida
 
 abbrev pub WorldWithLeftoversAnswers : Meaning → (List ℕ → Type 0) → Type 0
 WorldWithLeftoversAnswers m IsText = (candidate : ReplicaValue) (set : List Member) (r : RequestValue)
-    (others : List ReplicaValue) (highest : ℕ) (first last : Scene ReplicaValue)
+    (others : List ReplicaValue) (highest : ℕ) (first last : WorldState ReplicaValue)
     → HasLeftovers m IsText first candidate set others highest
     → (k : Exchanges m IsText candidate r others first last)
     → is_new (session_of r.client k.leader.node.learner.whole.sessions) r.number ≡ true

@@ -19,7 +19,7 @@ use Rattle.lk_progress.specs.Deciding.{acceptances, vote_for_next}
 use Rattle.lk_leftovers.specs.Accepting.{IsVoterAt, IsVoterFrom}
 use Rattle.lk_leftovers.specs.Filling.{FillsUp}
 use Rattle.lk_replica.specs.ReplicaValue.{ReplicaValue}
-use Rattle.lk_sim.specs.Scenes.{Scene}
+use Rattle.lk_sim.specs.WorldStates.{WorldState}
 use Rattle.lk_world_progress.specs.Balloting.{HasSentTo}
 use Rattle.lk_world_progress.specs.Delivering.{AreDistinct, HearsEach, HearsInTurn}
 use Rattle.lk_world_progress.specs.Stepping.{Holds, IsUpAs}
@@ -32,7 +32,7 @@ PairsUpTo node last = (p : Pair) → Contains node.learner.pairs p → p.0 ≤ l
 
 -- The node is up, and a voter of the ballot from the position on. It knows no pair above the last position, and each
 -- position up to that is one of its next 2 alpha.
-pub record VotesIn (w : Scene ReplicaValue) (b : BallotValue) (i last : ℕ) (n : ℕ) : Type 0 where
+pub record VotesIn (w : WorldState ReplicaValue) (b : BallotValue) (i last : ℕ) (n : ℕ) : Type 0 where
   pub replica : ReplicaValue
   pub up : IsUpAs w n replica
   pub votes : IsVoterFrom replica.node b i
@@ -46,7 +46,7 @@ vote_of t p = record { position = p.position; ballot = t.ballot; command = p.com
 -- The leader is up and fills up in this term, and so do these others vote, which with it are a majority of the set. No
 -- vote that is reported to it, and no pair that it knows, is above the last position, and it has sent each member an
 -- Accept of all that it has proposed.
-pub record IsFilling (m : Meaning) (IsText : List ℕ → Type 0) (w : Scene ReplicaValue) (x : ℕ)
+pub record IsFilling (m : Meaning) (IsText : List ℕ → Type 0) (w : WorldState ReplicaValue) (x : ℕ)
     (leader : ReplicaValue) (t : TermValue) (set : List Member) (others : List ℕ) (last : ℕ) : Type 0 where
   pub holds : Holds m IsText w
   pub up : IsUpAs w x leader
@@ -72,22 +72,22 @@ pub record IsNextVote (node : NodeValue) (t : TermValue) (v : Vote) : Type 0 whe
 
 -- A leader to which a vote is reported at its next position or above it has proposed a command there, and has sent each
 -- member an Accept of it.
-pub record OffersNext (w : Scene ReplicaValue) (x : ℕ) (leader : ReplicaValue) (t : TermValue)
+pub record OffersNext (w : WorldState ReplicaValue) (x : ℕ) (leader : ReplicaValue) (t : TermValue)
     (set : List Member) : Type 0 where
   pub vote : Vote
   pub is : IsNextVote leader.node t vote
   pub sent : (n : ℕ) → Contains (nodes_of set) n → HasSentTo w x n (kinds.Accept vote)
 
 abbrev pub FillingLeaderOffers : Meaning → (List ℕ → Type 0) → Type 0
-FillingLeaderOffers m IsText = (w : Scene ReplicaValue) (x : ℕ) (leader : ReplicaValue) (t : TermValue)
+FillingLeaderOffers m IsText = (w : WorldState ReplicaValue) (x : ℕ) (leader : ReplicaValue) (t : TermValue)
     (set : List Member) (others : List ℕ) (last : ℕ) → IsFilling m IsText w x leader t set others last
     → has_vote_from t.received (executed leader.node.learner + 1) ≡ true → OffersNext w x leader t set
 
 -- each of these nodes takes the leader's Accept of the vote, and the leader takes their replies. Nothing else happens
 -- meanwhile, but any of these nodes may have a rebase due
 pub record Fills (m : Meaning) (IsText : List ℕ → Type 0) (x : ℕ) (nodes : List ℕ) (v : Vote)
-    (old new : Scene ReplicaValue) : Type 0 where
-  pub accepted : Scene ReplicaValue
+    (old new : WorldState ReplicaValue) : Type 0 where
+  pub accepted : WorldState ReplicaValue
   pub accepts : HearsEach m IsText (content.Node x (kinds.Accept v)) nodes old accepted
   pub replies : HearsInTurn m IsText x (acceptances nodes v) accepted new
 
@@ -98,7 +98,7 @@ decided_by v = record { first = v.position; commands = v.command ∷ [] }
 -- Each reply was sent before it is delivered. The leader has told each other member what is decided at the position,
 -- has executed more, and fills on in the same ballot with the same promises.
 pub record FillsOnIn (m : Meaning) (IsText : List ℕ → Type 0) (x : ℕ) (leader : ReplicaValue) (t : TermValue)
-    (set : List Member) (others : List ℕ) (last : ℕ) (v : Vote) (old new : Scene ReplicaValue)
+    (set : List Member) (others : List ℕ) (last : ℕ) (v : Vote) (old new : WorldState ReplicaValue)
     (k : Fills m IsText x (x ∷ others) v old new) : Type 0 where
   pub accepts : (n : ℕ) → Contains (x ∷ others) n
       → HasSentTo k.accepted n x (kinds.Accepted v)
@@ -112,7 +112,7 @@ pub record FillsOnIn (m : Meaning) (IsText : List ℕ → Type 0) (x : ℕ) (lea
   pub fills : IsFilling m IsText new x after term set others last
 
 abbrev pub PositionIsFilled : Meaning → (List ℕ → Type 0) → Type 0
-PositionIsFilled m IsText = (old new : Scene ReplicaValue) (x : ℕ) (leader : ReplicaValue) (t : TermValue)
+PositionIsFilled m IsText = (old new : WorldState ReplicaValue) (x : ℕ) (leader : ReplicaValue) (t : TermValue)
     (set : List Member) (others : List ℕ) (last : ℕ) (v : Vote) → IsFilling m IsText old x leader t set others last
     → IsNextVote leader.node t v
     → (k : Fills m IsText x (x ∷ others) v old new)

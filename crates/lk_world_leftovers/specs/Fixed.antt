@@ -20,7 +20,7 @@ use Rattle.lk_node.specs.NodeValue.{NodeValue}
 use Rattle.lk_progress.specs.Electing.{IsDue}
 use Rattle.lk_progress.specs.LeadingOn.{AreAll, KeepsMembers}
 use Rattle.lk_replica.specs.ReplicaValue.{ReplicaValue}
-use Rattle.lk_sim.specs.Scenes.{Scene}
+use Rattle.lk_sim.specs.WorldStates.{WorldState}
 use Rattle.lk_sim.specs.Traces.{asked_in}
 use Rattle.lk_world_progress.specs.Delivering.{AreDistinct}
 use Rattle.lk_world_progress.specs.Exchanging.{number_of}
@@ -31,7 +31,7 @@ use Rattle.lk_world_leftovers.specs.Filling.{PairsUpTo}
 -- ---- members
 
 -- nobody has asked to change the members
-abbrev pub NobodyChanges : Scene ReplicaValue → Type 0
+abbrev pub NobodyChanges : WorldState ReplicaValue → Type 0
 NobodyChanges w = (r : RequestValue) → Contains (asked_in w.trace) r → IsChange r.op → ⊥
 
 -- each position of the node's window has the members of the genesis, no change is to take effect, and neither a pair
@@ -44,18 +44,19 @@ pub record KnowsMembers (genesis : Genesis) (node : NodeValue) : Type 0 where
   pub votes : (v : Vote) → Contains node.acceptor.state.votes v → KeepsMembers v.command
 
 abbrev pub NodesKnowMembers : Meaning → (List ℕ → Type 0) → Type 0
-NodesKnowMembers m IsText = (w : Scene ReplicaValue) (n : ℕ) (r : ReplicaValue) → Holds m IsText w → NobodyChanges w
+NodesKnowMembers m IsText = (w : WorldState ReplicaValue) (n : ℕ) (r : ReplicaValue) → Holds m IsText w
+    → NobodyChanges w
     → IsUpAs w n r → KnowsMembers w.genesis r.node
 
 -- ---- requests
 
 -- the client has asked nothing with this number or a greater one
-abbrev pub IsFresh : Scene ReplicaValue → RequestValue → Type 0
+abbrev pub IsFresh : WorldState ReplicaValue → RequestValue → Type 0
 IsFresh w r = (q : RequestValue) → Contains (asked_in w.trace) q → q.client ≡ r.client → q.number < r.number
 
 -- so its number is above that of its client's last request at each node
 abbrev pub FreshRequestsAreNew : Meaning → (List ℕ → Type 0) → Type 0
-FreshRequestsAreNew m IsText = (w : Scene ReplicaValue) (n : ℕ) (node : ReplicaValue) (r : RequestValue)
+FreshRequestsAreNew m IsText = (w : WorldState ReplicaValue) (n : ℕ) (node : ReplicaValue) (r : RequestValue)
     → Holds m IsText w → IsUpAs w n node → IsFresh w r
     → is_new (session_of r.client node.node.learner.whole.sessions) r.number ≡ true
 
@@ -63,7 +64,7 @@ FreshRequestsAreNew m IsText = (w : Scene ReplicaValue) (n : ℕ) (node : Replic
 
 -- if a node has promised no ballot above the next one of a node that is up, its votes are of smaller ballots than that
 abbrev pub VotesAreOlder : Meaning → (List ℕ → Type 0) → Type 0
-VotesAreOlder m IsText = (w : Scene ReplicaValue) (n x : ℕ) (r c : ReplicaValue) (v : Vote) → Holds m IsText w
+VotesAreOlder m IsText = (w : WorldState ReplicaValue) (n x : ℕ) (r c : ReplicaValue) (v : Vote) → Holds m IsText w
     → IsUpAs w n r → IsUpAs w x c → IsAtMost r.node.acceptor.state.promised (next_ballot c.node)
     → Contains r.node.acceptor.state.votes v → IsBelow v.ballot (next_ballot c.node)
 
@@ -73,7 +74,8 @@ VotesAreOlder m IsText = (w : Scene ReplicaValue) (n x : ℕ) (r c : ReplicaValu
 -- left to execute. The others are up, and with it they are a majority of these members. None of them has promised a
 -- ballot above its next one, or has executed more. No vote that they all keep, and no pair that they know, is above the
 -- last position, and each position up to that is one of the next 2 alpha of each of the others.
-pub record NobodyIsAhead (m : Meaning) (IsText : List ℕ → Type 0) (w : Scene ReplicaValue) (candidate : ReplicaValue)
+pub record NobodyIsAhead (m : Meaning) (IsText : List ℕ → Type 0) (w : WorldState ReplicaValue)
+    (candidate : ReplicaValue)
     (others : List ReplicaValue) (last : ℕ) : Type 0 where
   pub holds : Holds m IsText w
   pub changes : NobodyChanges w
@@ -99,6 +101,6 @@ pub record NobodyIsAhead (m : Meaning) (IsText : List ℕ → Type 0) (w : Scene
 
 -- so the promises of the majority bring it on, and the votes that they report are filled in
 abbrev pub FixedWorldHasLeftovers : Meaning → (List ℕ → Type 0) → Type 0
-FixedWorldHasLeftovers m IsText = (w : Scene ReplicaValue) (candidate : ReplicaValue) (others : List ReplicaValue)
+FixedWorldHasLeftovers m IsText = (w : WorldState ReplicaValue) (candidate : ReplicaValue) (others : List ReplicaValue)
     (last : ℕ) → NobodyIsAhead m IsText w candidate others last
     → HasLeftovers m IsText w candidate w.genesis.members others last

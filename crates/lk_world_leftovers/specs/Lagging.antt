@@ -12,7 +12,7 @@ use Rattle.lk_node.specs.Nearness.{AreNear}
 use Rattle.lk_node.specs.NodeValue.{NodeValue}
 use Rattle.lk_node_interface.specs.declared.nudge_reason.NudgeReason.{NudgeReason}
 use Rattle.lk_replica.specs.ReplicaValue.{ReplicaValue}
-use Rattle.lk_sim.specs.Scenes.{Scene}
+use Rattle.lk_sim.specs.WorldStates.{WorldState}
 use Rattle.lk_sim.specs.declared.event.Event.TheVariants as event
 use Rattle.lk_world_progress.specs.Balloting.{HasSentTo}
 use Rattle.lk_world_progress.specs.Delivering.{AreDistinct, Delivers, Hears}
@@ -23,7 +23,7 @@ use Rattle.lk_world_leftovers.specs.Persisting.{Contends, VotesUpTo}
 -- ---- who takes part
 
 -- the node is up, has executed no position above the last one, and keeps no vote, and knows no pair, above that
-pub record MayLag (w : Scene ReplicaValue) (last : ℕ) (n : ℕ) : Type 0 where
+pub record MayLag (w : WorldState ReplicaValue) (last : ℕ) (n : ℕ) : Type 0 where
   pub replica : ReplicaValue
   pub up : IsUpAs w n replica
   pub near : AreNear replica.node.acceptor replica.node.learner
@@ -33,7 +33,7 @@ pub record MayLag (w : Scene ReplicaValue) (last : ℕ) (n : ℕ) : Type 0 where
 
 -- The candidate is as one that contends and has executed e positions. Each of the others may lag behind it, or be ahead
 -- of it, however far.
-pub record MayContend (m : Meaning) (IsText : List ℕ → Type 0) (w : Scene ReplicaValue) (x e : ℕ) (others : List ℕ)
+pub record MayContend (m : Meaning) (IsText : List ℕ → Type 0) (w : WorldState ReplicaValue) (x e : ℕ) (others : List ℕ)
     (last : ℕ) : Type 0 where
   pub candidate : Contends m IsText w x e e [] last
   pub within : e ≤ last
@@ -52,7 +52,7 @@ pub record Lasts (old new : NodeValue) : Type 0 where
 -- Whatever has happened, the candidate and the others are up, and have lasted. The candidate has no term, and nothing
 -- waits at it.
 pub record AllLast (m : Meaning) (IsText : List ℕ → Type 0) (x : ℕ) (others : List ℕ)
-    (old new : Scene ReplicaValue) : Type 0 where
+    (old new : WorldState ReplicaValue) : Type 0 where
   pub holds : Holds m IsText new
   pub candidate_lasts : (r : ReplicaValue) → IsUpAs old x r → (q : ReplicaValue) × IsUpAs new x q
       × Lasts r.node q.node × (q.node.leader.term ≡ None) × (q.node.leader.waiting ≡ [])
@@ -62,7 +62,7 @@ pub record AllLast (m : Meaning) (IsText : List ℕ → Type 0) (x : ℕ) (other
 -- so it is after a nudge of one of the others, by which this one may tell the rest what it has executed
 abbrev pub NudgedVoterLasts : Meaning → (List ℕ → Type 0) → Type 0
 NudgedVoterLasts m IsText = (x e n : ℕ) (others : List ℕ) (last : ℕ) (reason : NudgeReason)
-    (old new : Scene ReplicaValue)
+    (old new : WorldState ReplicaValue)
     → MayContend m IsText old x e others last → Contains others n
     → GoesWell m IsText old (event.Nudge n reason) new → AllLast m IsText x others old new
 
@@ -70,7 +70,7 @@ NudgedVoterLasts m IsText = (x e n : ℕ) (others : List ℕ) (last : ℕ) (reas
 
 -- The candidate takes a rejection of this node, which tells what it has executed, and the node takes the commands that
 -- the candidate sends for that. The candidate has executed more, keeps the commands after that, and has no rebase due.
-pub record Feeds (m : Meaning) (IsText : List ℕ → Type 0) (x n : ℕ) (old new : Scene ReplicaValue) : Type 0 where
+pub record Feeds (m : Meaning) (IsText : List ℕ → Type 0) (x n : ℕ) (old new : WorldState ReplicaValue) : Type 0 where
   pub candidate : ReplicaValue
   pub up : IsUpAs old x candidate
   pub voter : ReplicaValue
@@ -79,7 +79,7 @@ pub record Feeds (m : Meaning) (IsText : List ℕ → Type 0) (x n : ℕ) (old n
   pub less : executed voter.node.learner < executed candidate.node.learner
   pub nack : Nack
   pub tells : nack.executed ≡ executed voter.node.learner
-  pub told : Scene ReplicaValue
+  pub told : WorldState ReplicaValue
   pub hears : Delivers m IsText x (content.Node n (kinds.Nack nack)) old told
   pub takes : Hears m IsText n
       (content.Node x (kinds.Decided (decided_from (nack.executed + 1) candidate.node.learner))) told new
@@ -93,7 +93,7 @@ Gains feeder old new = (executed old.node.learner < executed new.node.learner)
 -- The commands were sent before they are delivered. The node has gained by them, and all of them may contend as before.
 -- Nobody else has changed what it has executed.
 pub record IsFedIn (m : Meaning) (IsText : List ℕ → Type 0) (x e n : ℕ) (others : List ℕ) (last : ℕ)
-    (old new : Scene ReplicaValue) (k : Feeds m IsText x n old new) : Type 0 where
+    (old new : WorldState ReplicaValue) (k : Feeds m IsText x n old new) : Type 0 where
   pub sends : HasSentTo k.told x n
       (kinds.Decided (decided_from (k.nack.executed + 1) k.candidate.node.learner))
   pub may : MayContend m IsText new x e others last
@@ -103,7 +103,7 @@ pub record IsFedIn (m : Meaning) (IsText : List ℕ → Type 0) (x e n : ℕ) (o
   pub rest : (j : ℕ) (r : ReplicaValue) → (j ≡ x → ⊥) → (j ≡ n → ⊥) → IsUpAs old j r → IsUpAs new j r
 
 abbrev pub LaggingVoterIsFed : Meaning → (List ℕ → Type 0) → Type 0
-LaggingVoterIsFed m IsText = (x e n : ℕ) (others : List ℕ) (last : ℕ) (old new : Scene ReplicaValue)
+LaggingVoterIsFed m IsText = (x e n : ℕ) (others : List ℕ) (last : ℕ) (old new : WorldState ReplicaValue)
     → MayContend m IsText old x e others last → Contains others n → (k : Feeds m IsText x n old new)
     → IsFedIn m IsText x e n others last old new k
 
@@ -112,7 +112,7 @@ LaggingVoterIsFed m IsText = (x e n : ℕ) (others : List ℕ) (last : ℕ) (old
 -- The candidate takes a rejection of this node, which tells that it has executed more, and asks for the rest. The node
 -- takes that, and the candidate takes the commands that the node then sends. The node keeps the commands after those
 -- that the candidate has executed, and has no rebase due.
-pub record IsFedBy (m : Meaning) (IsText : List ℕ → Type 0) (x n : ℕ) (old new : Scene ReplicaValue) : Type 0 where
+pub record IsFedBy (m : Meaning) (IsText : List ℕ → Type 0) (x n : ℕ) (old new : WorldState ReplicaValue) : Type 0 where
   pub candidate : ReplicaValue
   pub up : IsUpAs old x candidate
   pub voter : ReplicaValue
@@ -121,11 +121,11 @@ pub record IsFedBy (m : Meaning) (IsText : List ℕ → Type 0) (x n : ℕ) (old
   pub less : executed candidate.node.learner < executed voter.node.learner
   pub nack : Nack
   pub tells : executed candidate.node.learner < nack.executed
-  pub told : Scene ReplicaValue
+  pub told : WorldState ReplicaValue
   pub hears : Hears m IsText x (content.Node n (kinds.Nack nack)) old told
   pub asking : ReplicaValue
   pub asks : IsUpAs told x asking
-  pub served : Scene ReplicaValue
+  pub served : WorldState ReplicaValue
   pub serves : Delivers m IsText n (content.Node x (kinds.Want (wanted asking.node.learner))) told served
   pub takes : Hears m IsText x
       (content.Node n (kinds.Decided (decided_from (executed candidate.node.learner + 1) voter.node.learner)))
@@ -134,7 +134,7 @@ pub record IsFedBy (m : Meaning) (IsText : List ℕ → Type 0) (x n : ℕ) (old
 -- What it asks and the commands were sent before they are delivered. The candidate has gained by them, and all of them
 -- may contend as before. Nobody else has changed what it has executed.
 pub record IsFedByIn (m : Meaning) (IsText : List ℕ → Type 0) (x n : ℕ) (others : List ℕ) (last : ℕ)
-    (old new : Scene ReplicaValue) (k : IsFedBy m IsText x n old new) : Type 0 where
+    (old new : WorldState ReplicaValue) (k : IsFedBy m IsText x n old new) : Type 0 where
   pub asks : HasSentTo k.told x n (kinds.Want (wanted k.asking.node.learner))
   pub sends : HasSentTo k.served n x
       (kinds.Decided (decided_from (executed k.candidate.node.learner + 1) k.voter.node.learner))
@@ -146,6 +146,6 @@ pub record IsFedByIn (m : Meaning) (IsText : List ℕ → Type 0) (x n : ℕ) (o
       → (q : ReplicaValue) × IsUpAs new j q × Lasts r.node q.node
 
 abbrev pub LaggingCandidateIsFed : Meaning → (List ℕ → Type 0) → Type 0
-LaggingCandidateIsFed m IsText = (x e n : ℕ) (others : List ℕ) (last : ℕ) (old new : Scene ReplicaValue)
+LaggingCandidateIsFed m IsText = (x e n : ℕ) (others : List ℕ) (last : ℕ) (old new : WorldState ReplicaValue)
     → MayContend m IsText old x e others last → Contains others n → (k : IsFedBy m IsText x n old new)
     → IsFedByIn m IsText x n others last old new k

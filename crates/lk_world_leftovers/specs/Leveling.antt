@@ -5,7 +5,7 @@ use Rattle.lk_types.specs.Limits.{max_commands}
 use Rattle.lk_state.specs.Meanings.{Meaning}
 use Rattle.lk_learner.specs.Learners.{alpha, executed}
 use Rattle.lk_replica.specs.ReplicaValue.{ReplicaValue}
-use Rattle.lk_sim.specs.Scenes.{Scene}
+use Rattle.lk_sim.specs.WorldStates.{WorldState}
 use Rattle.lk_world_progress.specs.Beginning.{IsNewWorld}
 use Rattle.lk_world_progress.specs.Exchanging.{number_of}
 use Rattle.lk_world_progress.specs.Stepping.{IsUpAs}
@@ -31,18 +31,19 @@ partner (is_fed_by n) = n
 partner (sends_parts n) = n
 partner (is_sent_parts_by n) = n
 
-abbrev pub Happens : Meaning → (List ℕ → Type 0) → ℕ → Feeding → Scene ReplicaValue → Scene ReplicaValue → Type 0
+abbrev pub Happens : Meaning → (List ℕ → Type 0) → ℕ → Feeding → WorldState ReplicaValue
+    → WorldState ReplicaValue → Type 0
 Happens m IsText x (feeds n) old new = Feeds m IsText x n old new
 Happens m IsText x (is_fed_by n) old new = IsFedBy m IsText x n old new
 Happens m IsText x (sends_parts n) old new = TakesParts m IsText n x old new
 Happens m IsText x (is_sent_parts_by n) old new = TakesParts m IsText x n old new
 
 -- These follow one another. Before each of them anything may happen, if the candidate and the others last.
-abbrev pub FeedInTurn : Meaning → (List ℕ → Type 0) → ℕ → List ℕ → List Feeding → Scene ReplicaValue
-    → Scene ReplicaValue → Type 0
+abbrev pub FeedInTurn : Meaning → (List ℕ → Type 0) → ℕ → List ℕ → List Feeding → WorldState ReplicaValue
+    → WorldState ReplicaValue → Type 0
 FeedInTurn m IsText x others [] old new = new ≡ old
 FeedInTurn m IsText x others (f ∷ fs) old new =
-    (ready : Scene ReplicaValue) × (mid : Scene ReplicaValue) × AllLast m IsText x others old ready
+    (ready : WorldState ReplicaValue) × (mid : WorldState ReplicaValue) × AllLast m IsText x others old ready
     × Contains others (partner f) × Happens m IsText x f ready mid × FeedInTurn m IsText x others fs mid new
 
 -- how often the candidate feeds this node commands, and how often it is fed commands by it
@@ -82,7 +83,7 @@ times_fed (is_sent_parts_by k ∷ fs) = times_fed fs
 -- one is not ahead of it any more. If a node was fed once for each 16 commands that the candidate had executed and it
 -- had not, it has executed as much as that.
 pub record HaveFed (m : Meaning) (IsText : List ℕ → Type 0) (x e : ℕ) (others : List ℕ) (last : ℕ)
-    (fs : List Feeding) (old new : Scene ReplicaValue) : Type 0 where
+    (fs : List Feeding) (old new : WorldState ReplicaValue) : Type 0 where
   pub f : ℕ
   pub may : MayContend m IsText new x f others last
   pub grows : e ≤ f
@@ -97,7 +98,8 @@ pub record HaveFed (m : Meaning) (IsText : List ℕ → Type 0) (x e : ℕ) (oth
       → e ≤ executed r.node.learner + times_to n fs * max_commands → e ≤ executed q.node.learner
 
 abbrev pub ExchangesFeedAll : Meaning → (List ℕ → Type 0) → Type 0
-ExchangesFeedAll m IsText = (x e : ℕ) (others : List ℕ) (last : ℕ) (fs : List Feeding) (old new : Scene ReplicaValue)
+ExchangesFeedAll m IsText =
+    (x e : ℕ) (others : List ℕ) (last : ℕ) (fs : List Feeding) (old new : WorldState ReplicaValue)
     → MayContend m IsText old x e others last → FeedInTurn m IsText x others fs old new
     → HaveFed m IsText x e others last fs old new
 
@@ -105,7 +107,7 @@ ExchangesFeedAll m IsText = (x e : ℕ) (others : List ℕ) (last : ℕ) (fs : L
 
 -- nobody of the others has executed more than the candidate, and each position up to the last one is one of the next 2
 -- alpha of each of them
-pub record AreLevel (w : Scene ReplicaValue) (x : ℕ) (others : List ℕ) (last : ℕ) : Type 0 where
+pub record AreLevel (w : WorldState ReplicaValue) (x : ℕ) (others : List ℕ) (last : ℕ) : Type 0 where
   pub behind : (n : ℕ) → Contains others n → (c r : ReplicaValue) → IsUpAs w x c → IsUpAs w n r
       → executed r.node.learner ≤ executed c.node.learner
   pub reaches : (n : ℕ) → Contains others n → (r : ReplicaValue) → IsUpAs w n r
@@ -113,32 +115,32 @@ pub record AreLevel (w : Scene ReplicaValue) (x : ℕ) (others : List ℕ) (last
 
 -- then they contend
 abbrev pub LevelNodesContend : Meaning → (List ℕ → Type 0) → Type 0
-LevelNodesContend m IsText = (x e : ℕ) (others : List ℕ) (last : ℕ) (w : Scene ReplicaValue)
+LevelNodesContend m IsText = (x e : ℕ) (others : List ℕ) (last : ℕ) (w : WorldState ReplicaValue)
     → MayContend m IsText w x e others last → AreLevel w x others last → Contends m IsText w x e e others last
 
 -- ---- while they are not
 
 -- the first node has executed less than the other one, and can be fed by it: by commands, or by its snapshot
-pub record CanGain (m : Meaning) (IsText : List ℕ → Type 0) (w : Scene ReplicaValue) (n other : ℕ) : Type 0 where
+pub record CanGain (m : Meaning) (IsText : List ℕ → Type 0) (w : WorldState ReplicaValue) (n other : ℕ) : Type 0 where
   pub behind : ReplicaValue
   pub ahead : ReplicaValue
   pub less : executed behind.node.learner < executed ahead.node.learner
   pub way : CanBeFed m IsText w n other behind ahead ⊎ NeedsSnapshot m IsText w n other behind ahead
 
 -- what each of these nodes has gathered, if anything, is of the other one's snapshot
-abbrev pub AreOpen : Scene ReplicaValue → List ℕ → Type 0
+abbrev pub AreOpen : WorldState ReplicaValue → List ℕ → Type 0
 AreOpen w nodes = (j k : ℕ) → Contains nodes j → Contains nodes k → (r q : ReplicaValue) → IsUpAs w j r
     → IsUpAs w k q → IsOpenAt r (position_of q)
 
 -- one of these nodes has executed so much
-abbrev pub HasExecuted : Scene ReplicaValue → List ℕ → ℕ → Type 0
+abbrev pub HasExecuted : WorldState ReplicaValue → List ℕ → ℕ → Type 0
 HasExecuted w nodes most = (n : ℕ) × Contains nodes n
     × ((r : ReplicaValue) × IsUpAs w n r × (most ≤ executed r.node.learner))
 
 -- If the last position is 2 alpha above what one of them has executed, they are level, or the candidate can be fed by
 -- another one, or another one by the candidate.
 abbrev pub UnlevelNodesCanBeFed : Meaning → (List ℕ → Type 0) → Type 0
-UnlevelNodesCanBeFed m IsText = (x e : ℕ) (others : List ℕ) (most : ℕ) (w : Scene ReplicaValue)
+UnlevelNodesCanBeFed m IsText = (x e : ℕ) (others : List ℕ) (most : ℕ) (w : WorldState ReplicaValue)
     → MayContend m IsText w x e others (most + 2 * w.genesis.alpha) → HasExecuted w (x ∷ others) most
     → AreOpen w (x ∷ others) → AreLevel w x others (most + 2 * w.genesis.alpha)
     ⊎ ((n : ℕ) × Contains others n × (CanGain m IsText w x n ⊎ CanGain m IsText w n x))
@@ -147,7 +149,8 @@ UnlevelNodesCanBeFed m IsText = (x e : ℕ) (others : List ℕ) (most : ℕ) (w 
 
 -- its nodes are level, since nothing is executed
 abbrev pub NewWorldsAreLevel : Meaning → (List ℕ → Type 0) → Type 0
-NewWorldsAreLevel m IsText = (w : Scene ReplicaValue) (candidate : ReplicaValue) (index ticks : ℕ) (others : List ℕ)
+NewWorldsAreLevel m IsText =
+    (w : WorldState ReplicaValue) (candidate : ReplicaValue) (index ticks : ℕ) (others : List ℕ)
     → IsNewWorld m IsText w candidate index ticks others
     → MayContend m IsText w (number_of candidate) 0 others (2 * w.genesis.alpha)
     × AreLevel w (number_of candidate) others (2 * w.genesis.alpha)

@@ -17,7 +17,7 @@ use Rattle.lk_node.specs.Nearness.{AreNear}
 use Rattle.lk_node.specs.NodeValue.{NodeValue}
 use Rattle.lk_progress.specs.Electing.{IsDue}
 use Rattle.lk_replica.specs.ReplicaValue.{ReplicaValue}
-use Rattle.lk_sim.specs.Scenes.{Scene}
+use Rattle.lk_sim.specs.WorldStates.{WorldState}
 use Rattle.lk_sim.specs.declared.event.Event.TheVariants as event
 use Rattle.lk_world_progress.specs.Beginning.{IsNewWorld}
 use Rattle.lk_world_progress.specs.Delivering.{AreDistinct, Hears}
@@ -36,7 +36,7 @@ VotesUpTo node last = (v : Vote) → Contains node.acceptor.state.votes v → v.
 
 -- the node is up, has executed at most d positions, and keeps no vote, and knows no pair, above the last one. Each
 -- position up to that is one of its next 2 alpha
-pub record MayVote (w : Scene ReplicaValue) (d last : ℕ) (n : ℕ) : Type 0 where
+pub record MayVote (w : WorldState ReplicaValue) (d last : ℕ) (n : ℕ) : Type 0 where
   pub replica : ReplicaValue
   pub up : IsUpAs w n replica
   pub near : AreNear replica.node.acceptor replica.node.learner
@@ -48,7 +48,7 @@ pub record MayVote (w : Scene ReplicaValue) (d last : ℕ) (n : ℕ) : Type 0 wh
 -- The candidate is up, and has executed e positions. It has no term, nothing waits, and nothing is left to execute. It
 -- keeps no vote, and knows no pair, above the last position. The others may vote, and have executed at most d
 -- positions.
-pub record Contends (m : Meaning) (IsText : List ℕ → Type 0) (w : Scene ReplicaValue) (x e d : ℕ) (others : List ℕ)
+pub record Contends (m : Meaning) (IsText : List ℕ → Type 0) (w : WorldState ReplicaValue) (x e d : ℕ) (others : List ℕ)
     (last : ℕ) : Type 0 where
   pub holds : Holds m IsText w
   pub candidate : ReplicaValue
@@ -65,7 +65,7 @@ pub record Contends (m : Meaning) (IsText : List ℕ → Type 0) (w : Scene Repl
 
 -- The nodes of a new cluster, which have executed nothing, contend for answering.
 abbrev pub NewWorldsContend : Meaning → (List ℕ → Type 0) → Type 0
-NewWorldsContend m IsText = (w : Scene ReplicaValue) (candidate : ReplicaValue) (index ticks : ℕ) (others : List ℕ)
+NewWorldsContend m IsText = (w : WorldState ReplicaValue) (candidate : ReplicaValue) (index ticks : ℕ) (others : List ℕ)
     → IsNewWorld m IsText w candidate index ticks others
     → Contends m IsText w (number_of candidate) 0 0 others 0
 
@@ -75,7 +75,7 @@ NewWorldsContend m IsText = (w : Scene ReplicaValue) (candidate : ReplicaValue) 
 -- less, and nothing above the last one. How much more it has executed is in the laws of feeding.
 abbrev pub FedCandidateContends : Meaning → (List ℕ → Type 0) → Type 0
 FedCandidateContends m IsText = (x e d : ℕ) (others : List ℕ) (last from : ℕ) (told : DecidedValue)
-    (old new : Scene ReplicaValue) → Contends m IsText old x e d others last
+    (old new : WorldState ReplicaValue) → Contends m IsText old x e d others last
     → e ≤ last → told.first + length told.commands ≤ last + 1
     → Hears m IsText x (content.Node from (kinds.Decided told)) old new
     → (f : ℕ) × (e ≤ f) × (f ≤ last) × Contends m IsText new x f d others last
@@ -83,41 +83,41 @@ FedCandidateContends m IsText = (x e d : ℕ) (others : List ℕ) (last from : �
 -- ---- rejections
 
 -- the node has no term
-abbrev pub IsIdleIn : Scene ReplicaValue → ℕ → Type 0
+abbrev pub IsIdleIn : WorldState ReplicaValue → ℕ → Type 0
 IsIdleIn w x = (r : ReplicaValue) → IsUpAs w x r → r.node.leader.term ≡ None
 
 -- it takes this many ticks, none of which begins a ballot, and nothing else happens meanwhile
-abbrev pub WaitsIn : Meaning → (List ℕ → Type 0) → ℕ → ℕ → Scene ReplicaValue → Scene ReplicaValue → Type 0
+abbrev pub WaitsIn : Meaning → (List ℕ → Type 0) → ℕ → ℕ → WorldState ReplicaValue → WorldState ReplicaValue → Type 0
 WaitsIn m IsText x zero old new = new ≡ old
 WaitsIn m IsText x (suc k) old new =
-    (mid : Scene ReplicaValue) × GoesWell m IsText old (event.Tick x) mid × IsIdleIn mid x
+    (mid : WorldState ReplicaValue) × GoesWell m IsText old (event.Tick x) mid × IsIdleIn mid x
     × WaitsIn m IsText x k mid new
 
 -- it waits until it is due, begins a ballot, and is rejected by this rival
 pub record Retries (m : Meaning) (IsText : List ℕ → Type 0) (x : ℕ) (others : List ℕ) (rival : ℕ)
-    (old new : Scene ReplicaValue) : Type 0 where
+    (old new : WorldState ReplicaValue) : Type 0 where
   pub ticks : ℕ
-  pub due : Scene ReplicaValue
+  pub due : WorldState ReplicaValue
   pub waits : WaitsIn m IsText x ticks old due
   pub candidate : ReplicaValue
   pub number : number_of candidate ≡ x
   pub rejected : IsRejected m IsText candidate others rival due new
 
 -- one rival after another rejects it
-abbrev pub RetriesInTurn : Meaning → (List ℕ → Type 0) → ℕ → List ℕ → List ℕ → Scene ReplicaValue
-    → Scene ReplicaValue → Type 0
+abbrev pub RetriesInTurn : Meaning → (List ℕ → Type 0) → ℕ → List ℕ → List ℕ → WorldState ReplicaValue
+    → WorldState ReplicaValue → Type 0
 RetriesInTurn m IsText x others [] old new = new ≡ old
 RetriesInTurn m IsText x others (n ∷ ns) old new =
-    (mid : Scene ReplicaValue) × Retries m IsText x others n old mid × RetriesInTurn m IsText x others ns mid new
+    (mid : WorldState ReplicaValue) × Retries m IsText x others n old mid × RetriesInTurn m IsText x others ns mid new
 
 -- whatever replica the candidate is, the node is no rival of its next ballot
-abbrev pub IsNoRival : Scene ReplicaValue → ℕ → ℕ → Type 0
+abbrev pub IsNoRival : WorldState ReplicaValue → ℕ → ℕ → Type 0
 IsNoRival w x n = (c : ReplicaValue) → IsUpAs w x c → IsRival w (next_ballot c.node) n → ⊥
 
 -- The rivals that have rejected it are different, and each is one of the others, so they are not more than these. None
 -- of them is a rival any more, and the candidate and the others are as before.
 pub record HasPersisted (m : Meaning) (IsText : List ℕ → Type 0) (x e d : ℕ) (others : List ℕ) (last : ℕ)
-    (rivals : List ℕ) (new : Scene ReplicaValue) : Type 0 where
+    (rivals : List ℕ) (new : WorldState ReplicaValue) : Type 0 where
   pub contends : Contends m IsText new x e d others last
   pub distinct : AreDistinct rivals
   pub among : (n : ℕ) → Contains rivals n → Contains others n
@@ -126,7 +126,7 @@ pub record HasPersisted (m : Meaning) (IsText : List ℕ → Type 0) (x e d : �
 
 abbrev pub RejectionsAreFew : Meaning → (List ℕ → Type 0) → Type 0
 RejectionsAreFew m IsText = (x e d : ℕ) (others : List ℕ) (last : ℕ) (rivals : List ℕ)
-    (old new : Scene ReplicaValue) → Contends m IsText old x e d others last
+    (old new : WorldState ReplicaValue) → Contends m IsText old x e d others last
     → RetriesInTurn m IsText x others rivals old new → HasPersisted m IsText x e d others last rivals new
 
 -- ---- until a request is answered
@@ -134,12 +134,12 @@ RejectionsAreFew m IsText = (x e d : ℕ) (others : List ℕ) (last : ℕ) (riva
 -- Rivals reject the candidate, one after another, until none of the others is a rival. Then, once it is due again, a
 -- whole exchange takes place.
 pub record Persists (m : Meaning) (IsText : List ℕ → Type 0) (x : ℕ) (others : List ℕ) (r : RequestValue)
-    (first last : Scene ReplicaValue) : Type 0 where
+    (first last : WorldState ReplicaValue) : Type 0 where
   pub rivals : List ℕ
-  pub retried : Scene ReplicaValue
+  pub retried : WorldState ReplicaValue
   pub retries : RetriesInTurn m IsText x others rivals first retried
   pub ticks : ℕ
-  pub ready : Scene ReplicaValue
+  pub ready : WorldState ReplicaValue
   pub waits : WaitsIn m IsText x ticks retried ready
   pub candidate : ReplicaValue
   pub up : IsUpAs ready x candidate
@@ -152,20 +152,21 @@ pub record Persists (m : Meaning) (IsText : List ℕ → Type 0) (x : ℕ) (othe
 
 -- nobody had asked to change the members by the time of the exchange, and the candidate and the others are a majority
 -- of them
-pub record AreFixed (w : Scene ReplicaValue) (x : ℕ) (others : List ℕ) : Type 0 where
+pub record AreFixed (w : WorldState ReplicaValue) (x : ℕ) (others : List ℕ) : Type 0 where
   pub changes : NobodyChanges w
   pub named : is_member x w.genesis.members ≡ true
   pub majority : IsMajority (x ∷ others) w.genesis.members
 
 -- At most as many rejections have been heard as there are others, and the exchange has answered the request.
 pub record HasAnsweredInTime (m : Meaning) (IsText : List ℕ → Type 0) (x e : ℕ) (others : List ℕ) (highest : ℕ)
-    (r : RequestValue) (first last : Scene ReplicaValue) (k : Persists m IsText x others r first last) : Type 0 where
+    (r : RequestValue) (first last : WorldState ReplicaValue) (k : Persists m IsText x others r first last)
+    : Type 0 where
   pub few : length k.rivals ≤ length others
   pub answer : LeftoversAnswer m IsText k.candidate k.ready.genesis.members r k.voters highest k.ready last k.exchanges
   pub reach : executed k.candidate.node.learner ≡ e
 
 abbrev pub PersistingCandidateAnswers : Meaning → (List ℕ → Type 0) → Type 0
 PersistingCandidateAnswers m IsText = (x e d : ℕ) (others : List ℕ) (highest : ℕ) (r : RequestValue)
-    (first last : Scene ReplicaValue) → Contends m IsText first x e d others highest → d ≤ e → e ≤ highest
+    (first last : WorldState ReplicaValue) → Contends m IsText first x e d others highest → d ≤ e → e ≤ highest
     → highest < max_count → (k : Persists m IsText x others r first last) → AreFixed k.ready x others
     → IsFresh k.exchanges.ready r → HasAnsweredInTime m IsText x e others highest r first last k

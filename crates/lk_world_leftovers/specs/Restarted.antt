@@ -7,7 +7,7 @@ use Rattle.lk_state.specs.Meanings.{Meaning}
 use Rattle.lk_learner.specs.Learners.{executed}
 use Rattle.lk_node.specs.NodeValue.{NodeValue}
 use Rattle.lk_replica.specs.ReplicaValue.{ReplicaValue}
-use Rattle.lk_sim.specs.Scenes.{Scene}
+use Rattle.lk_sim.specs.WorldStates.{WorldState}
 use Rattle.lk_world_progress.specs.Delivering.{AreDistinct}
 use Rattle.lk_world_progress.specs.Restarting.{HaveRestarted, RestartInTurn}
 use Rattle.lk_world_progress.specs.Stepping.{Holds, IsUpAs}
@@ -26,26 +26,27 @@ pub record EndsBy (node : NodeValue) (last : ℕ) : Type 0 where
   pub votes : VotesUpTo node last
 
 -- each of these nodes
-abbrev pub AllEndBy : Scene ReplicaValue → List ℕ → ℕ → Type 0
+abbrev pub AllEndBy : WorldState ReplicaValue → List ℕ → ℕ → Type 0
 AllEndBy w nodes last = (n : ℕ) → Contains nodes n → (r : ReplicaValue) → IsUpAs w n r → EndsBy r.node last
 
 -- So it is after a restart if the last position is 2 alpha above what each of them has executed.
 abbrev pub RestartedNodesEnd : Meaning → (List ℕ → Type 0) → Type 0
-RestartedNodesEnd m IsText = (nodes : List ℕ) (most : ℕ) (old new : Scene ReplicaValue) → HaveRestarted nodes old new
+RestartedNodesEnd m IsText =
+    (nodes : List ℕ) (most : ℕ) (old new : WorldState ReplicaValue) → HaveRestarted nodes old new
     → Holds m IsText new
     → ((n : ℕ) → Contains nodes n → (r : ReplicaValue) → IsUpAs new n r → executed r.node.learner ≤ most)
     → AllEndBy new nodes (most + 2 * new.genesis.alpha)
 
 -- they have gathered nothing
 abbrev pub RestartedNodesAreOpen : Meaning → (List ℕ → Type 0) → Type 0
-RestartedNodesAreOpen m IsText = (nodes : List ℕ) (old new : Scene ReplicaValue) → HaveRestarted nodes old new
+RestartedNodesAreOpen m IsText = (nodes : List ℕ) (old new : WorldState ReplicaValue) → HaveRestarted nodes old new
     → Holds m IsText new → AreOpen new nodes
 
 -- ---- an answer
 
 -- nodes that have restarted may contend for answering, whatever they did before
 abbrev pub RestartedNodesMayContend : Meaning → (List ℕ → Type 0) → Type 0
-RestartedNodesMayContend m IsText = (x : ℕ) (others : List ℕ) (last : ℕ) (old new : Scene ReplicaValue)
+RestartedNodesMayContend m IsText = (x : ℕ) (others : List ℕ) (last : ℕ) (old new : WorldState ReplicaValue)
     → HaveRestarted (x ∷ others) old new → Holds m IsText new → AreDistinct (x ∷ others)
     → AllEndBy new (x ∷ others) last → (e : ℕ) × MayContend m IsText new x e others last
 
@@ -54,7 +55,7 @@ RestartedNodesMayContend m IsText = (x : ℕ) (others : List ℕ) (last : ℕ) (
 -- answered.
 abbrev pub RestartedMajorityAnswers : Meaning → (List ℕ → Type 0) → Type 0
 RestartedMajorityAnswers m IsText = (x : ℕ) (others : List ℕ) (highest : ℕ) (fs : List Feeding) (r : RequestValue)
-    (old restarted first last : Scene ReplicaValue) → AreDistinct (x ∷ others)
+    (old restarted first last : WorldState ReplicaValue) → AreDistinct (x ∷ others)
     → RestartInTurn m IsText (x ∷ others) old restarted → Holds m IsText restarted
     → AllEndBy restarted (x ∷ others) highest → FeedInTurn m IsText x others fs restarted first
     → AreLevel first x others highest → highest < max_count

@@ -27,7 +27,7 @@ use Rattle.lk_progress.specs.Exchanges.{prepare_by}
 use Rattle.lk_progress.specs.Rejecting.{AcceptIsAcceptedOrRejected, PrepareIsPromisedOrRejected}
 use Rattle.lk_progress.specs.Rejecting.{Accepts, AgreesWithKept, Promises, RejectsAccept, RejectsPrepare}
 use Rattle.lk_replica.specs.ReplicaValue.{ReplicaValue}
-use Rattle.lk_sim.specs.Scenes.{Scene}
+use Rattle.lk_sim.specs.WorldStates.{WorldState}
 use Rattle.lk_sim.specs.declared.event.Event.TheVariants as event
 use Rattle.lk_world_progress.proofs.Delivering.{TakesFrom, among, heard_from}
 use Rattle.lk_world_progress.proofs.Rebasing.{begun_rests}
@@ -76,7 +76,7 @@ module _ (r : ReplicaValue) (node : NodeValue) (found : IsFound r node) where
 module _ (m : Meaning) (IsText : List ℕ → Type 0) where
   -- ---- a tick
 
-  module _ (law : DueNodeAsks) (old new : Scene ReplicaValue) (n : ℕ) (r : ReplicaValue) (up : IsUpAs old n r)
+  module _ (law : DueNodeAsks) (old new : WorldState ReplicaValue) (n : ℕ) (r : ReplicaValue) (up : IsUpAs old n r)
       (due : IsDue r.node)
       (goes : GoesWell m IsText old (event.Tick n) new) where
     module _ (s : TakesStep m IsText old n Tick new) where
@@ -133,7 +133,7 @@ module _ (m : Meaning) (IsText : List ℕ → Type 0) where
 
   -- ---- a Prepare
 
-  module _ (law : PrepareIsPromisedOrRejected m IsText) (old new : Scene ReplicaValue) (n : ℕ) (r : ReplicaValue)
+  module _ (law : PrepareIsPromisedOrRejected m IsText) (old new : WorldState ReplicaValue) (n : ℕ) (r : ReplicaValue)
       (from : ℕ) (up : IsUpAs old n r) (near : AreNear r.node.acceptor r.node.learner) where
     module _ (b : BallotValue) (first : ℕ)
         (hears : Hears m IsText n (content.Node from (kinds.Prepare b first)) old new)
@@ -175,7 +175,7 @@ module _ (m : Meaning) (IsText : List ℕ → Type 0) where
 
   -- ---- an Accept
 
-  module _ (law : AcceptIsAcceptedOrRejected m IsText) (old new : Scene ReplicaValue) (n : ℕ) (r : ReplicaValue)
+  module _ (law : AcceptIsAcceptedOrRejected m IsText) (old new : WorldState ReplicaValue) (n : ℕ) (r : ReplicaValue)
       (from : ℕ) (x : Vote) (up : IsUpAs old n r) (near : AreNear r.node.acceptor r.node.learner)
       (agrees : AgreesWithKept r.node x)
       (hears : Hears m IsText n (content.Node from (kinds.Accept x)) old new)

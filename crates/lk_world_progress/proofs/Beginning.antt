@@ -7,12 +7,12 @@ use Rattle.lk_node.specs.NodeValue.{NodeValue}
 use Rattle.lk_progress.specs.Beginnings.{NewClustersAreQuiet, StartsQuietly, new_node}
 use Rattle.lk_progress.specs.Exchanges.{IsQuietCandidate, IsQuietVoter}
 use Rattle.lk_replica.specs.ReplicaValue.{ReplicaValue}
-use Rattle.lk_sim.specs.Scenes.{Scene}
+use Rattle.lk_sim.specs.WorldStates.{WorldState}
 use Rattle.lk_world_progress.proofs.Starting.{none_executed}
 use Rattle.lk_world_progress.specs.Beginning.{IsNewWorld, NewWorldsAreQuiet}
 use Rattle.lk_world_progress.specs.Exchanging.{IsQuietWorld, IsVoterIn, number_of}
 
-module _ (m : Meaning) (IsText : List ℕ → Type 0) (w : Scene ReplicaValue) (candidate : ReplicaValue)
+module _ (m : Meaning) (IsText : List ℕ → Type 0) (w : WorldState ReplicaValue) (candidate : ReplicaValue)
     (index ticks : ℕ) (others : List ℕ) (new : IsNewWorld m IsText w candidate index ticks others)
     (quiet : StartsQuietly m w.genesis (number_of candidate) ticks) where
   abbrev first : NodeValue

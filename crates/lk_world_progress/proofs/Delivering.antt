@@ -15,10 +15,10 @@ use Rattle.lk_node.proofs.Nodes.{map_has}
 use Rattle.lk_node.specs.NodeValue.{NodeValue}
 use Rattle.lk_progress.specs.Hearing.{Takes}
 use Rattle.lk_replica.specs.ReplicaValue.{ReplicaValue}
-use Rattle.lk_sim.specs.Scenes.{Scene}
+use Rattle.lk_sim.specs.WorldStates.{WorldState}
 use Rattle.lk_sim.specs.declared.event.Event.TheVariants as event
-use Rattle.lk_sim_nodes.specs.declared.seat.Life.{Life}
-use Rattle.lk_sim_nodes.specs.declared.seat.Life.TheVariants.{Up}
+use Rattle.lk_sim_nodes.specs.declared.sim_node.RunState.{RunState}
+use Rattle.lk_sim_nodes.specs.declared.sim_node.RunState.TheVariants.{Up}
 use Rattle.lk_world_progress.proofs.Rebasing.{taken_rests}
 use Rattle.lk_world_progress.proofs.Stepping.{event_steps, found_header, has_header, one_replica}
 use Rattle.lk_world_progress.specs.Delivering.{AreDistinct, DeliveriesAreTaken, Delivers, DeliversInTurn, Hears}
@@ -30,13 +30,13 @@ batch-append n [] ys = refl
 batch-append n (x ∷ xs) ys = ap (λ (l : List Datagram). datagram_of n x ∷ l) (batch-append n xs ys)
 
 -- what joined the datagrams is among them
-pub among : (n : ℕ) (envelopes : List EnvelopeValue) (old new : Scene ReplicaValue)
+pub among : (n : ℕ) (envelopes : List EnvelopeValue) (old new : WorldState ReplicaValue)
     → new.sent ≡ old.sent ++ batch_of n envelopes → (l : EnvelopeValue) → Contains envelopes l
     → Contains new.sent (datagram_of n l)
 among n envelopes old new e l c = subst (λ (ds : List Datagram). Contains ds (datagram_of n l)) (sym e)
     (Contains-append_right old.sent (batch_of n envelopes) (datagram_of n l) (map_has (datagram_of n) envelopes l c))
 
-pub still : (old new : Scene ReplicaValue) (more : List Datagram) → new.sent ≡ old.sent ++ more → (d : Datagram)
+pub still : (old new : WorldState ReplicaValue) (more : List Datagram) → new.sent ≡ old.sent ++ more → (d : Datagram)
     → Contains old.sent d → Contains new.sent d
 still old new more e d c =
     subst (λ (ds : List Datagram). Contains ds d) (sym e) (Contains-append_left old.sent more d c)
@@ -45,7 +45,7 @@ module _ (m : Meaning) (IsText : List ℕ → Type 0) where
   -- ---- one delivery
 
   -- the node took the content, as its step found it
-  pub record TakesFrom (n : ℕ) (x : Content) (old new : Scene ReplicaValue) : Type 0 where
+  pub record TakesFrom (n : ℕ) (x : Content) (old new : WorldState ReplicaValue) : Type 0 where
     pub before : ReplicaValue
     pub was : IsUpAs old n before
     pub start : NodeValue
@@ -57,10 +57,11 @@ module _ (m : Meaning) (IsText : List ℕ → Type 0) where
     pub left : IsLeft out last after
     pub is : IsUpAs new n after
     pub sent : new.sent ≡ old.sent ++ batch_of n out.envelopes
-    pub others : (k : ℕ) (life : Life ReplicaValue) → (k ≡ n → ⊥) → Lives old k life → Lives new k life
+    pub others : (k : ℕ) (run_state : RunState ReplicaValue) → (k ≡ n → ⊥) → Lives old k run_state
+        → Lives new k run_state
     pub genesis : new.genesis ≡ old.genesis
 
-  module _ (n : ℕ) (x : Content) (old new : Scene ReplicaValue) (k : Hears m IsText n x old new) where
+  module _ (n : ℕ) (x : Content) (old new : WorldState ReplicaValue) (k : Hears m IsText n x old new) where
     abbrev bytes : List ℕ
     bytes = k.datagram.bytes
 
@@ -95,7 +96,7 @@ module _ (m : Meaning) (IsText : List ℕ → Type 0) where
         (k.datagram, k.stands, k.bound, refl))
 
   -- the same where no rebase is due
-  pub record TakesContent (n : ℕ) (x : Content) (old new : Scene ReplicaValue) : Type 0 where
+  pub record TakesContent (n : ℕ) (x : Content) (old new : WorldState ReplicaValue) : Type 0 where
     pub before : ReplicaValue
     pub was : IsUpAs old n before
     pub after : ReplicaValue
@@ -103,10 +104,11 @@ module _ (m : Meaning) (IsText : List ℕ → Type 0) where
     pub out : OutboxValue
     pub takes : Takes m IsText before.node x after.node out
     pub sent : new.sent ≡ old.sent ++ batch_of n out.envelopes
-    pub others : (k : ℕ) (life : Life ReplicaValue) → (k ≡ n → ⊥) → Lives old k life → Lives new k life
+    pub others : (k : ℕ) (run_state : RunState ReplicaValue) → (k ≡ n → ⊥) → Lives old k run_state
+        → Lives new k run_state
     pub genesis : new.genesis ≡ old.genesis
 
-  module _ (n : ℕ) (x : Content) (old new : Scene ReplicaValue) (nothing : InstallsNothing x)
+  module _ (n : ℕ) (x : Content) (old new : WorldState ReplicaValue) (nothing : InstallsNothing x)
       (k : Delivers m IsText n x old new) where
     rested : TakesFrom n x old new → TakesContent n x old new
     rested s = record {
@@ -129,7 +131,7 @@ module _ (m : Meaning) (IsText : List ℕ → Type 0) where
 
   -- ---- deliveries to one node
 
-  module _ (n : ℕ) (x : Content) (xs : List Content) (old mid new : Scene ReplicaValue) (before : ReplicaValue)
+  module _ (n : ℕ) (x : Content) (xs : List Content) (old mid new : WorldState ReplicaValue) (before : ReplicaValue)
       (holds : Holds m IsText old) (up : IsUpAs old n before) (one : TakesContent n x old mid)
       (rest : TakesContents m IsText n xs one.after mid new) where
     took_both : TakesContents m IsText n (x ∷ xs) before old new
@@ -149,21 +151,21 @@ module _ (m : Meaning) (IsText : List ℕ → Type 0) where
       sent = rest.sent ∙ ap (λ (l : List Datagram). l ++ batch_of n rest.envelopes) one.sent
           ∙ append_assoc old.sent (batch_of n one.out.envelopes) (batch_of n rest.envelopes)
           ∙ ap (λ (l : List Datagram). old.sent ++ l) (sym (batch-append n one.out.envelopes rest.envelopes));
-      others = λ k life ne c. rest.others k life ne (one.others k life ne c);
+      others = λ k run_state ne c. rest.others k run_state ne (one.others k run_state ne c);
       genesis = rest.genesis ∙ one.genesis;
     }
 
-  pub in_turn : (n : ℕ) (xs : List Content) (old new : Scene ReplicaValue) (before : ReplicaValue)
+  pub in_turn : (n : ℕ) (xs : List Content) (old new : WorldState ReplicaValue) (before : ReplicaValue)
       → Holds m IsText old → IsUpAs old n before → ((x : Content) → Contains xs x → InstallsNothing x)
       → DeliversInTurn m IsText n xs old new → TakesContents m IsText n xs before old new
   in_turn n [] old new before holds up each same = record {
     after = before;
-    is = subst (λ (w : Scene ReplicaValue). IsUpAs w n before) (sym same) up;
+    is = subst (λ (w : WorldState ReplicaValue). IsUpAs w n before) (sym same) up;
     envelopes = [];
     takes = (refl, refl);
-    sent = ap (λ (w : Scene ReplicaValue). w.sent) same ∙ sym (append-nil old.sent);
-    others = λ k life ne c. subst (λ (w : Scene ReplicaValue). Lives w k life) (sym same) c;
-    genesis = ap (λ (w : Scene ReplicaValue). w.genesis) same;
+    sent = ap (λ (w : WorldState ReplicaValue). w.sent) same ∙ sym (append-nil old.sent);
+    others = λ k run_state ne c. subst (λ (w : WorldState ReplicaValue). Lives w k run_state) (sym same) c;
+    genesis = ap (λ (w : WorldState ReplicaValue). w.genesis) same;
   }
   in_turn n (x ∷ xs) old new before holds up each d =
       let one : TakesContent n x old d.0 = delivered n x old d.0 (each x (0, omega arith, refl)) d.1 in
@@ -176,7 +178,7 @@ module _ (m : Meaning) (IsText : List ℕ → Type 0) where
   -- ---- one datagram, whether or not a rebase is due
 
   -- the node took the content, as its step found it, and is as the step left it
-  pub record HeardIt (n : ℕ) (x : Content) (before : ReplicaValue) (new : Scene ReplicaValue) : Type 0 where
+  pub record HeardIt (n : ℕ) (x : Content) (before : ReplicaValue) (new : WorldState ReplicaValue) : Type 0 where
     pub start : NodeValue
     pub found : IsFound before start
     pub after : ReplicaValue
@@ -185,17 +187,17 @@ module _ (m : Meaning) (IsText : List ℕ → Type 0) where
     pub takes : Takes m IsText start x after.node out
     pub sent : (l : EnvelopeValue) → Contains out.envelopes l → Contains new.sent (datagram_of n l)
 
-  pub left_as : (n : ℕ) (x : Content) (old new : Scene ReplicaValue) → InstallsNothing x
+  pub left_as : (n : ℕ) (x : Content) (old new : WorldState ReplicaValue) → InstallsNothing x
       → (s : TakesFrom n x old new) → Takes m IsText s.start x s.after.node s.out
   left_as n x old new nothing s = subst (λ (node : NodeValue). Takes m IsText s.start x node s.out)
       (sym (s.left.rests (taken_rests m IsText s.start s.last x s.out nothing s.takes))) s.takes
 
-  pub found_as : (n : ℕ) (x : Content) (old new : Scene ReplicaValue) (r : ReplicaValue) → Holds m IsText old
+  pub found_as : (n : ℕ) (x : Content) (old new : WorldState ReplicaValue) (r : ReplicaValue) → Holds m IsText old
       → IsUpAs old n r → (s : TakesFrom n x old new) → IsFound r s.start
   found_as n x old new r holds up s =
       subst (λ (q : ReplicaValue). IsFound q s.start) (one_replica m IsText old holds n s.before r s.was up) s.found
 
-  pub heard_it : (n : ℕ) (x : Content) (old new : Scene ReplicaValue) (r : ReplicaValue) → InstallsNothing x
+  pub heard_it : (n : ℕ) (x : Content) (old new : WorldState ReplicaValue) (r : ReplicaValue) → InstallsNothing x
       → IsUpAs old n r → Hears m IsText n x old new → HeardIt n x r new
   heard_it n x old new r nothing up h =
       let s : TakesFrom n x old new = heard_from n x old new h in
@@ -211,14 +213,15 @@ module _ (m : Meaning) (IsText : List ℕ → Type 0) where
 
   -- ---- the same datagram to several nodes
 
-  pub record EachHeard (x : Content) (ns : List ℕ) (old new : Scene ReplicaValue) : Type 0 where
+  pub record EachHeard (x : Content) (ns : List ℕ) (old new : WorldState ReplicaValue) : Type 0 where
     pub holds : Holds m IsText new
     pub heard : (n : ℕ) (r : ReplicaValue) → Contains ns n → IsUpAs old n r → HeardIt n x r new
     pub grows : (d : Datagram) → Contains old.sent d → Contains new.sent d
-    pub others : (k : ℕ) (life : Life ReplicaValue) → (Contains ns k → ⊥) → Lives old k life → Lives new k life
+    pub others : (k : ℕ) (run_state : RunState ReplicaValue) → (Contains ns k → ⊥) → Lives old k run_state
+        → Lives new k run_state
     pub genesis : new.genesis ≡ old.genesis
 
-  module _ (n : ℕ) (x : Content) (ns : List ℕ) (old mid new : Scene ReplicaValue) (holds : Holds m IsText old)
+  module _ (n : ℕ) (x : Content) (ns : List ℕ) (old mid new : WorldState ReplicaValue) (holds : Holds m IsText old)
       (nothing : InstallsNothing x) (distinct : AreDistinct (n ∷ ns)) (one : TakesFrom n x old mid)
       (rest : EachHeard x ns mid new) where
     here : (r : ReplicaValue) → IsUpAs old n r → HeardIt n x r new
@@ -242,19 +245,20 @@ module _ (m : Meaning) (IsText : List ℕ → Type 0) where
             (one.others k (Up r) (λ e. distinct.0 (subst (λ (j : ℕ). Contains ns j) e later)) up)
       ];
       grows = λ e c. rest.grows e (still old mid (batch_of n one.out.envelopes) one.sent e c);
-      others = λ k life no c. rest.others k life (λ later. no (contains_more n ns k later))
-          (one.others k life (λ e. no (0, omega arith, sym e)) c);
+      others = λ k run_state no c. rest.others k run_state (λ later. no (contains_more n ns k later))
+          (one.others k run_state (λ e. no (0, omega arith, sym e)) c);
       genesis = rest.genesis ∙ one.genesis;
     }
 
-  pub each_heard : (x : Content) (ns : List ℕ) (old new : Scene ReplicaValue) → Holds m IsText old → InstallsNothing x
+  pub each_heard : (x : Content) (ns : List ℕ) (old new : WorldState ReplicaValue) → Holds m IsText old
+      → InstallsNothing x
       → AreDistinct ns → HearsEach m IsText x ns old new → EachHeard x ns old new
   each_heard x [] old new holds nothing distinct same = record {
-    holds = subst (λ (w : Scene ReplicaValue). Holds m IsText w) (sym same) holds;
+    holds = subst (λ (w : WorldState ReplicaValue). Holds m IsText w) (sym same) holds;
     heard = λ n r c up. absurd (omega (arith, c.1));
-    grows = λ d c. subst (λ (w : Scene ReplicaValue). Contains w.sent d) (sym same) c;
-    others = λ k life no c. subst (λ (w : Scene ReplicaValue). Lives w k life) (sym same) c;
-    genesis = ap (λ (w : Scene ReplicaValue). w.genesis) same;
+    grows = λ d c. subst (λ (w : WorldState ReplicaValue). Contains w.sent d) (sym same) c;
+    others = λ k run_state no c. subst (λ (w : WorldState ReplicaValue). Lives w k run_state) (sym same) c;
+    genesis = ap (λ (w : WorldState ReplicaValue). w.genesis) same;
   }
   each_heard x (n ∷ ns) old new holds nothing distinct d =
       all_heard n x ns old d.0 new holds nothing distinct (heard_from n x old d.0 d.1)

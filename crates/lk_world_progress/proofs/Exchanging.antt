@@ -42,12 +42,12 @@ use Rattle.lk_rebases.proofs.Rebases.{idle_begins, taken_learner}
 use Rattle.lk_rebases.specs.Pasts.{IsPlain, IsStatic}
 use Rattle.lk_replica.specs.ReplicaValue.{ReplicaValue}
 use Rattle.lk_sim.specs.Events.{IsAsked}
-use Rattle.lk_sim.specs.Scenes.{Scene}
+use Rattle.lk_sim.specs.WorldStates.{WorldState}
 use Rattle.lk_sim.specs.Traces.{told_in}
 use Rattle.lk_sim.specs.declared.event.Event.TheVariants as event
-use Rattle.lk_sim_nodes.specs.declared.seat.Life.{Life}
-use Rattle.lk_sim_nodes.specs.declared.seat.Life.TheVariants.{Up}
-use Rattle.lk_sim_nodes.specs.declared.seat.Seat.{Seat}
+use Rattle.lk_sim_nodes.specs.declared.sim_node.RunState.{RunState}
+use Rattle.lk_sim_nodes.specs.declared.sim_node.RunState.TheVariants.{Up}
+use Rattle.lk_sim_nodes.specs.declared.sim_node.SimNode.{SimNode}
 use Rattle.lk_world_progress.proofs.Delivering.{EachHeard, HeardIt, TakesFrom, among, each_heard, heard_from}
 use Rattle.lk_world_progress.proofs.Noting.{answer_fits, from_trace, genesis_fits, header_fits, noted}
 use Rattle.lk_world_progress.proofs.Rebasing.{begun_rests}
@@ -77,7 +77,7 @@ module _ (P : Content → Type 0) where
 
 module _ (m : Meaning) (IsText : List ℕ → Type 0) (keeps : KeepsTexts IsText m) (law : QuietMajorityAnswers m IsText)
     (c : ReplicaValue) (set : List Member) (r : RequestValue)
-    (others : List ℕ) (first last : Scene ReplicaValue) (quiet : IsQuietWorld m IsText first c set others)
+    (others : List ℕ) (first last : WorldState ReplicaValue) (quiet : IsQuietWorld m IsText first c set others)
     (fresh : is_new (session_of r.client c.node.learner.whole.sessions) r.number ≡ true)
     (k : Exchanges m IsText c r others first last) where
   abbrev x : ℕ
@@ -106,7 +106,8 @@ module _ (m : Meaning) (IsText : List ℕ → Type 0) (keeps : KeepsTexts IsText
     ticks : Ticks c.node shadow out
     learner : shadow.learner ≡ c.node.learner
     sent : (l : EnvelopeValue) → Contains out.envelopes l → Contains k.ticked.sent (datagram_of x l)
-    stay : (j : ℕ) (life : Life ReplicaValue) → (j ≡ x → ⊥) → Lives first j life → Lives k.ticked j life
+    stay : (j : ℕ) (run_state : RunState ReplicaValue) → (j ≡ x → ⊥) → Lives first j run_state
+        → Lives k.ticked j run_state
     genesis : k.ticked.genesis ≡ first.genesis
 
   module _ (s : TakesStep m IsText first x Tick k.ticked) where
@@ -174,10 +175,15 @@ module _ (m : Meaning) (IsText : List ℕ → Type 0) (keeps : KeepsTexts IsText
   asking : IsAsked k.promised k.requested x r
   asking = k.requests.done.1
 
-  requested_lives : (n : ℕ) (life : Life ReplicaValue) → Lives k.promised n life → Lives k.requested n life
-  requested_lives n life l =
-      subst (λ (seats : List (Seat ReplicaValue)). Contains seats (record { number = n; life = life }))
-      (sym asking.seats) l
+  requested_lives : (n : ℕ) (run_state : RunState ReplicaValue) → Lives k.promised n run_state
+      → Lives k.requested n run_state
+  requested_lives n run_state l =
+      subst (λ (sim_nodes : List (SimNode ReplicaValue)). Contains sim_nodes (record {
+        number = n;
+        run_state =
+            run_state;
+      }))
+      (sym asking.sim_nodes) l
 
   third_up : IsUpAs k.requested x third.after
   third_up = requested_lives x (Up third.after) third.is
@@ -293,7 +299,7 @@ module _ (m : Meaning) (IsText : List ℕ → Type 0) (keeps : KeepsTexts IsText
       ∙ prepared.genesis ∙ began.genesis
 
   -- what a shadow sends, the node sends
-  said : (old new : Scene ReplicaValue) (n : ℕ) (q : ReplicaValue) (shadow : NodeValue) (y : NodeMessage)
+  said : (old new : WorldState ReplicaValue) (n : ℕ) (q : ReplicaValue) (shadow : NodeValue) (y : NodeMessage)
       → Holds m IsText old → IsUpAs old n q → Shadows shadow q.node → new.genesis ≡ old.genesis
       → Contains new.sent (datagram_of n (envelope_to shadow y x)) → HasSentTo new n x y
   said old new n q shadow y holds up s genesis d = sent_as old new n x shadow y

@@ -33,9 +33,9 @@ use Rattle.lk_progress.specs.Electing.{DueNodeAsks, GoesAbove, RejectedNodeGoesA
 use Rattle.lk_progress.specs.Exchanges.{prepare_by}
 use Rattle.lk_rebases.proofs.Rebases.{HasSame, Handled, handled, proposed_envelopes, proposed_same}
 use Rattle.lk_replica.specs.ReplicaValue.{ReplicaValue}
-use Rattle.lk_sim.specs.Scenes.{Scene}
+use Rattle.lk_sim.specs.WorldStates.{WorldState}
 use Rattle.lk_sim.specs.declared.event.Event.TheVariants as event
-use Rattle.lk_sim_nodes.specs.declared.seat.Life.TheVariants.{Up}
+use Rattle.lk_sim_nodes.specs.declared.sim_node.RunState.TheVariants.{Up}
 use Rattle.lk_world_progress.proofs.Balloting.{found_tells, tick_begins}
 use Rattle.lk_world_progress.proofs.Delivering.{EachHeard, HeardIt, each_heard, heard_from, heard_it}
 use Rattle.lk_world_progress.proofs.Sending.{sent_as}
@@ -223,7 +223,7 @@ module _ (m : Meaning) (IsText : List ℕ → Type 0) where
   -- ---- a rejected candidate
 
   module _ (law : RejectedNodeGoesAbove m IsText) (due_asks : DueNodeAsks) (c : ReplicaValue) (others : List ℕ)
-      (rival : ℕ) (first last : Scene ReplicaValue) (k : IsRejected m IsText c others rival first last) where
+      (rival : ℕ) (first last : WorldState ReplicaValue) (k : IsRejected m IsText c others rival first last) where
     abbrev x : ℕ
     x = number_of c
 

@@ -28,10 +28,10 @@ use Rattle.lk_recovery.specs.Revivals.{RestartsAs, Restores, all_ran, reached, r
 use Rattle.lk_replica.specs.ReplicaValue.{ReplicaValue}
 use Rattle.lk_replica.specs.Revived.{Revives}
 use Rattle.lk_sim.specs.Events.{ComesUp, GoesDown, IsBack, IsRevived}
-use Rattle.lk_sim.specs.Scenes.{Scene}
+use Rattle.lk_sim.specs.WorldStates.{WorldState}
 use Rattle.lk_sim.specs.declared.event.Event.TheVariants as event
-use Rattle.lk_sim_nodes.specs.declared.seat.Life.{Life}
-use Rattle.lk_sim_nodes.specs.declared.seat.Life.TheVariants.{Up, Down}
+use Rattle.lk_sim_nodes.specs.declared.sim_node.RunState.{RunState}
+use Rattle.lk_sim_nodes.specs.declared.sim_node.RunState.TheVariants.{Up, Down}
 use Rattle.lk_world_progress.proofs.Balloting.{near_snapshot}
 use Rattle.lk_world_progress.proofs.Stepping.{is_there, shown, stay_there, was_there}
 use Rattle.lk_world_progress.specs.Restarting.{IsRestarted, NodeRestarts, NodesRestart}
@@ -166,7 +166,7 @@ two_formats (Base b ∷ es) h has all = one_of b.format all.0.0.3.0 all.0.0.3.1
 module _ (m : Meaning) (IsText : List ℕ → Type 0) where
   -- ---- one restart
 
-  module _ (old new : Scene ReplicaValue) (n : ℕ) (goes : GoesWell m IsText old (event.Restart n) new)
+  module _ (old new : WorldState ReplicaValue) (n : ℕ) (goes : GoesWell m IsText old (event.Restart n) new)
       (k : IsBack (behaviour m IsText) old new n) (r : IsRevived (behaviour m IsText) old new k.next k.device)
       (v : Revives m IsText (disk_of k.device) (header_of old.genesis k.next.number) r.replica r.notes) where
     abbrev whose : HeaderValue
@@ -181,7 +181,7 @@ module _ (m : Meaning) (IsText : List ℕ → Type 0) where
         number v.restarts
 
     up : IsUpAs new n r.replica
-    up = is_there old new n k.seat k.next k.number k.replaces (Up r.replica) r.up
+    up = is_there old new n k.sim_node k.next k.number k.replaces (Up r.replica) r.up
 
     same : ((v.store.format ≡ 2) × (r.replica.node ≡ v.node))
         ⊎ ((v.store.format ≡ 1) × (r.replica.node ≡ with_snapshot v.node))
@@ -224,7 +224,7 @@ module _ (m : Meaning) (IsText : List ℕ → Type 0) where
     one_restarts : RestartsIn m IsText n old new
     one_restarts = record {
       device = k.device;
-      was = was_there old new n k.seat k.next k.number k.replaces (Down k.device) k.down;
+      was = was_there old new n k.sim_node k.next k.number k.replaces (Down k.device) k.down;
       after = r.replica;
       is = up;
       node = v.node;
@@ -237,7 +237,7 @@ module _ (m : Meaning) (IsText : List ℕ → Type 0) where
         | inr e ↦ subst IsRestarted (sym e.1) (snapshot_restarted (restored restores.restores))
       ];
       sent = r.adds.sent ∙ append-nil old.sent;
-      others = stay_there old new n k.seat k.next k.number k.replaces;
+      others = stay_there old new n k.sim_node k.next k.number k.replaces;
       genesis = r.adds.genesis;
     }
 
@@ -254,15 +254,15 @@ module _ (m : Meaning) (IsText : List ℕ → Type 0) where
   -- ---- several
 
   -- what a restart leaves, after a stop or without one
-  record Restarted (n : ℕ) (old new : Scene ReplicaValue) : Type 0 where
+  record Restarted (n : ℕ) (old new : WorldState ReplicaValue) : Type 0 where
     after : ReplicaValue
     is : IsUpAs new n after
     restarted : IsRestarted after.node
     sent : new.sent ≡ old.sent
-    others : (k : ℕ) (life : Life ReplicaValue) → (k ≡ n → ⊥) → Lives old k life → Lives new k life
+    others : (k : ℕ) (run_state : RunState ReplicaValue) → (k ≡ n → ⊥) → Lives old k run_state → Lives new k run_state
     genesis : new.genesis ≡ old.genesis
 
-  one : (old new : Scene ReplicaValue) (n : ℕ) → StopsAndRestarts m IsText n old new → Restarted n old new
+  one : (old new : WorldState ReplicaValue) (n : ℕ) → StopsAndRestarts m IsText n old new → Restarted n old new
   one old new n (inl goes) =
       let k = restarts old new n goes in
       record {
@@ -282,17 +282,17 @@ module _ (m : Meaning) (IsText : List ℕ → Type 0) where
         is = k.is;
         restarted = k.restarted;
         sent = k.sent ∙ down.adds.sent ∙ append-nil old.sent;
-        others = λ j life ne c. k.others j life ne
-            (stay_there old off n down.seat down.next down.number down.replaces j life ne c);
+        others = λ j run_state ne c. k.others j run_state ne
+            (stay_there old off n down.sim_node down.next down.number down.replaces j run_state ne c);
         genesis = k.genesis ∙ down.adds.genesis;
       }
 
   pub all_restart : NodesRestart m IsText
   all_restart old new [] distinct same = record {
     each = λ n c. absurd (omega (arith, c.1));
-    sent = ap (λ (w : Scene ReplicaValue). w.sent) same;
-    others = λ k life no c. subst (λ (w : Scene ReplicaValue). Lives w k life) (sym same) c;
-    genesis = ap (λ (w : Scene ReplicaValue). w.genesis) same;
+    sent = ap (λ (w : WorldState ReplicaValue). w.sent) same;
+    others = λ k run_state no c. subst (λ (w : WorldState ReplicaValue). Lives w k run_state) (sym same) c;
+    genesis = ap (λ (w : WorldState ReplicaValue). w.genesis) same;
   }
   all_restart old new (n ∷ ns) distinct d =
       let first = one old d.0 n d.1 in
@@ -308,7 +308,7 @@ module _ (m : Meaning) (IsText : List ℕ → Type 0) where
           | inr later ↦ rest.each k later
         ];
         sent = rest.sent ∙ first.sent;
-        others = λ k life no c. rest.others k life (λ later. no (contains_more n ns k later))
-            (first.others k life (λ e. no (0, omega arith, sym e)) c);
+        others = λ k run_state no c. rest.others k run_state (λ later. no (contains_more n ns k later))
+            (first.others k run_state (λ e. no (0, omega arith, sym e)) c);
         genesis = rest.genesis ∙ first.genesis;
       }

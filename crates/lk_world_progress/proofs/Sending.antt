@@ -13,12 +13,12 @@ use Rattle.lk_node.specs.Leavings.{header_of}
 use Rattle.lk_node.specs.NodeValue.{NodeValue}
 use Rattle.lk_node.specs.Telling.{envelope_to}
 use Rattle.lk_replica.specs.ReplicaValue.{ReplicaValue}
-use Rattle.lk_sim.specs.Scenes.{Scene}
+use Rattle.lk_sim.specs.WorldStates.{WorldState}
 use Rattle.lk_world_progress.proofs.Stepping.{has_header}
 use Rattle.lk_world_progress.specs.Balloting.{HasSentTo}
 use Rattle.lk_world_progress.specs.Stepping.{Holds, IsUpAs}
 
-pub sent_as : (old new : Scene ReplicaValue) (n k : ℕ) (node : NodeValue) (y : NodeMessage)
+pub sent_as : (old new : WorldState ReplicaValue) (n k : ℕ) (node : NodeValue) (y : NodeMessage)
     → node.header ≡ header_of old.genesis n → new.genesis ≡ old.genesis
     → Contains new.sent (datagram_of n (envelope_to node y k)) → HasSentTo new n k y
 sent_as old new n k node y header genesis c =
@@ -30,7 +30,7 @@ sent_as old new n k node y header genesis c =
       bytes = spelling (record { cluster = h.cluster; content = content.Node h.node y });
     })) header c)
 
-pub has_sent : (m : Meaning) (IsText : List ℕ → Type 0) (old new : Scene ReplicaValue) (n k : ℕ) (q : ReplicaValue)
+pub has_sent : (m : Meaning) (IsText : List ℕ → Type 0) (old new : WorldState ReplicaValue) (n k : ℕ) (q : ReplicaValue)
     (y : NodeMessage) → Holds m IsText old → IsUpAs old n q → new.genesis ≡ old.genesis
     → Contains new.sent (datagram_of n (envelope_to q.node y k)) → HasSentTo new n k y
 has_sent m IsText old new n k q y holds up genesis c =

@@ -17,8 +17,8 @@ use Rattle.lk_rebases.proofs.Rebases.{begun_learner, fits_itself, fits_snapshot,
 use Rattle.lk_rebases.proofs.Rebases.{ticked_other}
 use Rattle.lk_rebases.specs.Pasts.{Fits, IsPlain, IsStatic, Past, past_of, with_past}
 use Rattle.lk_replica.specs.ReplicaValue.{ReplicaValue}
-use Rattle.lk_sim.specs.Scenes.{Scene}
-use Rattle.lk_sim_nodes.specs.declared.seat.Life.{Life}
+use Rattle.lk_sim.specs.WorldStates.{WorldState}
+use Rattle.lk_sim_nodes.specs.declared.sim_node.RunState.{RunState}
 use Rattle.lk_world_progress.proofs.Delivering.{HeardIt, TakesFrom, batch-append, found_as, heard_from, left_as}
 use Rattle.lk_world_progress.proofs.Stepping.{found_is}
 use Rattle.lk_world_progress.specs.Delivering.{HearsInTurn, InstallsNothing}
@@ -91,13 +91,13 @@ module _ (m : Meaning) (IsText : List ℕ → Type 0) where
             taken_by.2;
       }
 
-  pub shadow_hears : (shadow : NodeValue) (n : ℕ) (x : Content) (r : ReplicaValue) (new : Scene ReplicaValue)
+  pub shadow_hears : (shadow : NodeValue) (n : ℕ) (x : Content) (r : ReplicaValue) (new : WorldState ReplicaValue)
       (h : HeardIt m IsText n x r new) → Shadows shadow r.node → IsPlain (executed shadow.learner) x
       → ShadowTakes shadow x h.after.node h.out
   shadow_hears shadow n x r new h s plain =
       shadow_takes shadow h.start h.after.node x h.out (shadows_found shadow r h.start h.found s) plain h.takes
 
-  pub shadow_from : (shadow : NodeValue) (n : ℕ) (x : Content) (old new : Scene ReplicaValue) (r : ReplicaValue)
+  pub shadow_from : (shadow : NodeValue) (n : ℕ) (x : Content) (old new : WorldState ReplicaValue) (r : ReplicaValue)
       → Holds m IsText old → IsUpAs old n r → InstallsNothing x → (s : TakesFrom m IsText n x old new)
       → Shadows shadow r.node → IsPlain (executed shadow.learner) x → ShadowTakes shadow x s.after.node s.out
   shadow_from shadow n x old new r holds up nothing s behind plain =
@@ -116,7 +116,7 @@ module _ (m : Meaning) (IsText : List ℕ → Type 0) where
       each_learner xs takes.0 new takes.2 (λ y c. static y (contains_more x xs y c)) takes.4
       ∙ taken_learner m IsText x old takes.0 takes.1 (static x (0, omega arith, refl)) takes.3
 
-  pub record ShadowTakesAll (n : ℕ) (xs : List Content) (shadow : NodeValue) (old new : Scene ReplicaValue)
+  pub record ShadowTakesAll (n : ℕ) (xs : List Content) (shadow : NodeValue) (old new : WorldState ReplicaValue)
       : Type 0 where
     pub after : ReplicaValue
     pub is : IsUpAs new n after
@@ -126,10 +126,11 @@ module _ (m : Meaning) (IsText : List ℕ → Type 0) where
     pub takes : TakesEach m IsText xs shadow shadow_after envelopes
     pub sent : new.sent ≡ old.sent ++ batch_of n envelopes
     pub holds : Holds m IsText new
-    pub others : (k : ℕ) (life : Life ReplicaValue) → (k ≡ n → ⊥) → Lives old k life → Lives new k life
+    pub others : (k : ℕ) (run_state : RunState ReplicaValue) → (k ≡ n → ⊥) → Lives old k run_state
+        → Lives new k run_state
     pub genesis : new.genesis ≡ old.genesis
 
-  module _ (n : ℕ) (x : Content) (xs : List Content) (shadow : NodeValue) (old mid new : Scene ReplicaValue)
+  module _ (n : ℕ) (x : Content) (xs : List Content) (shadow : NodeValue) (old mid new : WorldState ReplicaValue)
       (one : TakesFrom m IsText n x old mid)
       (first : ShadowTakes shadow x one.after.node one.out)
       (rest : ShadowTakesAll n xs first.shadow_after mid new) where
@@ -145,25 +146,25 @@ module _ (m : Meaning) (IsText : List ℕ → Type 0) where
           ∙ append_assoc old.sent (batch_of n one.out.envelopes) (batch_of n rest.envelopes)
           ∙ ap (λ (l : List Datagram). old.sent ++ l) (sym (batch-append n one.out.envelopes rest.envelopes));
       holds = rest.holds;
-      others = λ k life ne c. rest.others k life ne (one.others k life ne c);
+      others = λ k run_state ne c. rest.others k run_state ne (one.others k run_state ne c);
       genesis = rest.genesis ∙ one.genesis;
     }
 
-  pub shadow_in_turn : (n : ℕ) (xs : List Content) (shadow : NodeValue) (old new : Scene ReplicaValue)
+  pub shadow_in_turn : (n : ℕ) (xs : List Content) (shadow : NodeValue) (old new : WorldState ReplicaValue)
       (before : ReplicaValue) → Holds m IsText old → IsUpAs old n before → Shadows shadow before.node
       → ((x : Content) → Contains xs x → InstallsNothing x) → ((x : Content) → Contains xs x → (e : ℕ) → IsPlain e x)
       → HearsInTurn m IsText n xs old new → ShadowTakesAll n xs shadow old new
   shadow_in_turn n [] shadow old new before holds up s each plain same = record {
     after = before;
-    is = subst (λ (w : Scene ReplicaValue). IsUpAs w n before) (sym same) up;
+    is = subst (λ (w : WorldState ReplicaValue). IsUpAs w n before) (sym same) up;
     shadow_after = shadow;
     shadows = s;
     envelopes = [];
     takes = (refl, refl);
-    sent = ap (λ (w : Scene ReplicaValue). w.sent) same ∙ sym (append-nil old.sent);
-    holds = subst (λ (w : Scene ReplicaValue). Holds m IsText w) (sym same) holds;
-    others = λ k life ne c. subst (λ (w : Scene ReplicaValue). Lives w k life) (sym same) c;
-    genesis = ap (λ (w : Scene ReplicaValue). w.genesis) same;
+    sent = ap (λ (w : WorldState ReplicaValue). w.sent) same ∙ sym (append-nil old.sent);
+    holds = subst (λ (w : WorldState ReplicaValue). Holds m IsText w) (sym same) holds;
+    others = λ k run_state ne c. subst (λ (w : WorldState ReplicaValue). Lives w k run_state) (sym same) c;
+    genesis = ap (λ (w : WorldState ReplicaValue). w.genesis) same;
   }
   shadow_in_turn n (x ∷ xs) shadow old new before holds up s each plain d =
       let here : Contains (x ∷ xs) x = (0, omega arith, refl) in

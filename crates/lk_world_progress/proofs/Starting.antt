@@ -35,12 +35,12 @@ use Rattle.lk_recovery.specs.Revivals.{RestartsAs, revived}
 use Rattle.lk_replica.specs.ReplicaValue.{ReplicaValue}
 use Rattle.lk_replica.specs.Revived.{Revives}
 use Rattle.lk_sim.specs.Events.{ComesUp, IsAdded, IsRevived}
-use Rattle.lk_sim.specs.Scenes.{Scene}
+use Rattle.lk_sim.specs.WorldStates.{WorldState}
 use Rattle.lk_sim.specs.declared.event.Event.TheVariants as event
-use Rattle.lk_sim_nodes.specs.declared.seat.Life.TheVariants.{Up}
-use Rattle.lk_sim_nodes.specs.declared.seat.Seat.{Seat}
+use Rattle.lk_sim_nodes.specs.declared.sim_node.RunState.TheVariants.{Up}
+use Rattle.lk_sim_nodes.specs.declared.sim_node.SimNode.{SimNode}
 use Rattle.lk_world_progress.proofs.Rebasing.{begun_rests}
-use Rattle.lk_world_progress.proofs.Stepping.{event_steps, found_is, one_replica, same_seat, shown}
+use Rattle.lk_world_progress.proofs.Stepping.{event_steps, found_is, one_replica, same_sim_node, shown}
 use Rattle.lk_world_progress.specs.Beginning.{IsNewIn, StartsAreNew, TicksLeaveNew}
 use Rattle.lk_world_progress.specs.Stepping.{GoesWell, IsFound, IsUpAs, TakesStep, behaviour}
 
@@ -79,17 +79,21 @@ none_executed m genesis = state_executed m genesis []
 module _ (m : Meaning) (IsText : List ℕ → Type 0) where
   -- ---- a start
 
-  module _ (old new : Scene ReplicaValue) (n : ℕ) (goes : GoesWell m IsText old (event.Start n) new)
-      (k : IsAdded (behaviour m IsText) old new n) (r : IsRevived (behaviour m IsText) old new k.seat empty)
-      (v : Revives m IsText (disk_of empty) (header_of old.genesis k.seat.number) r.replica r.notes) where
+  module _ (old new : WorldState ReplicaValue) (n : ℕ) (goes : GoesWell m IsText old (event.Start n) new)
+      (k : IsAdded (behaviour m IsText) old new n) (r : IsRevived (behaviour m IsText) old new k.sim_node empty)
+      (v : Revives m IsText (disk_of empty) (header_of old.genesis k.sim_node.number) r.replica r.notes) where
     abbrev whose : HeaderValue
-    whose = header_of old.genesis k.seat.number
+    whose = header_of old.genesis k.sim_node.number
 
     up : IsUpAs new n r.replica
-    up = subst (λ (l : List (Seat ReplicaValue)). Contains l (record { number = n; life = Up r.replica })) (sym k.seats)
-        (subst (λ (s : Seat ReplicaValue). Contains (old.seats ++ k.seat ∷ []) s)
-        (same_seat k.seat n (Up r.replica) k.number r.up)
-        (Contains-append_right old.seats (k.seat ∷ []) k.seat (0, omega arith, refl)))
+    up = subst (λ (l : List (SimNode ReplicaValue)). Contains l (record {
+      number = n;
+      run_state =
+          Up r.replica;
+    })) (sym k.sim_nodes)
+        (subst (λ (s : SimNode ReplicaValue). Contains (old.sim_nodes ++ k.sim_node ∷ []) s)
+        (same_sim_node k.sim_node n (Up r.replica) k.number r.up)
+        (Contains-append_right old.sim_nodes (k.sim_node ∷ []) k.sim_node (0, omega arith, refl)))
 
     module _ (s : RestartsAs m IsText (disk_of empty) whose v.node v.store r.notes) where
       abbrev zero : List ℕ
@@ -147,7 +151,7 @@ module _ (m : Meaning) (IsText : List ℕ → Type 0) where
       k : IsAdded (behaviour m IsText) old new n
       k = goes.done.1
 
-      by_result : ComesUp (behaviour m IsText) old new k.seat empty → (r : ReplicaValue) × IsNewIn m new n 0 r
+      by_result : ComesUp (behaviour m IsText) old new k.sim_node empty → (r : ReplicaValue) × IsNewIn m new n 0 r
       by_result (inl r) = (r.replica, is_new old new n goes k r r.revives.0 r.revives.0.restarts)
       by_result (inr fault) = absurd (cc (sym goes.alive ∙ fault.ended))
 
@@ -164,7 +168,7 @@ module _ (m : Meaning) (IsText : List ℕ → Type 0) where
         };
       }
 
-  module _ (old new : Scene ReplicaValue) (n ticks : ℕ) (r : ReplicaValue) (is_new_node : IsNewIn m old n ticks r)
+  module _ (old new : WorldState ReplicaValue) (n ticks : ℕ) (r : ReplicaValue) (is_new_node : IsNewIn m old n ticks r)
       (early : is_enough (min (ticks + 1) max_ticks) (index_of r.node) ≡ false)
       (goes : GoesWell m IsText old (event.Tick n) new) (s : TakesStep m IsText old n Tick new) where
     abbrev was : NodeValue

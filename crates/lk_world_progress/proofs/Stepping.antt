@@ -28,14 +28,14 @@ use Rattle.lk_replica.specs.Behaviours.{Behaviour, disks_by}
 use Rattle.lk_replica.specs.ReplicaValue.{ReplicaValue}
 use Rattle.lk_replica.specs.Taking.{IsTaken, IsTakenAs}
 use Rattle.lk_sim.specs.Events.{GoesOn, IsDelivered, IsGiven, IsInjected, ReplacesSeat}
-use Rattle.lk_sim.specs.Scenes.{Scene}
+use Rattle.lk_sim.specs.WorldStates.{WorldState}
 use Rattle.lk_sim.specs.Traces.{asked_note, happened}
 use Rattle.lk_sim.specs.declared.event.Event.TheVariants as event
-use Rattle.lk_sim_nodes.specs.Seats.{At, UpFits}
+use Rattle.lk_sim_nodes.specs.SimNodes.{At, UpFits}
 use Rattle.lk_sim_nodes.specs.Sends.{after_sends, counting}
-use Rattle.lk_sim_nodes.specs.declared.seat.Life.{Life}
-use Rattle.lk_sim_nodes.specs.declared.seat.Life.TheVariants.{Up}
-use Rattle.lk_sim_nodes.specs.declared.seat.Seat.{Seat}
+use Rattle.lk_sim_nodes.specs.declared.sim_node.RunState.{RunState}
+use Rattle.lk_sim_nodes.specs.declared.sim_node.RunState.TheVariants.{Up}
+use Rattle.lk_sim_nodes.specs.declared.sim_node.SimNode.{SimNode}
 use Rattle.lk_world_progress.specs.Stepping.{behaviour, EventIsStep, Gives, Holds, IsFound, IsUpAs, Lives}
 use Rattle.lk_world_progress.specs.Stepping.{Shows, TakesStep}
 
@@ -59,11 +59,12 @@ at_one xs i x y a b = same_some x y
 at_of : {X : Type 0} (xs : List X) (x : X) (c : Contains xs x) → At xs c.0 x
 at_of xs x c = (c.1, c.2)
 
-pub same_seat : (s : Seat ReplicaValue) (n : ℕ) (life : Life ReplicaValue) → s.number ≡ n → s.life ≡ life
-    → s ≡ record { number = n; life = life }
-same_seat s n life number is =
-    let made : ℕ → Life ReplicaValue → Seat ReplicaValue = λ k l. record { number = k; life = l } in
-    ap (λ (k : ℕ). made k s.life) number ∙ ap (made n) is
+pub same_sim_node : (s : SimNode ReplicaValue) (n : ℕ) (run_state : RunState ReplicaValue) → s.number ≡ n
+    → s.run_state ≡ run_state
+    → s ≡ record { number = n; run_state = run_state }
+same_sim_node s n run_state number is =
+    let made : ℕ → RunState ReplicaValue → SimNode ReplicaValue = λ k l. record { number = k; run_state = l } in
+    ap (λ (k : ℕ). made k s.run_state) number ∙ ap (made n) is
 
 same_replica : (r q : ReplicaValue) → Up r ≡ Up q → r ≡ q
 same_replica r q e = cc e
@@ -72,51 +73,58 @@ same_node : (n k : ℕ) → party.Node n ≡ party.Node k → n ≡ k
 same_node n k e = cc e
 
 -- what replacing one node leaves
-module _ (old new : Scene ReplicaValue) (n : ℕ) (s t : Seat ReplicaValue) (number : s.number ≡ n)
-    (k : ReplacesSeat old.seats new.seats s t) where
-  pub was_there : (life : Life ReplicaValue) → s.life ≡ life → Lives old n life
-  was_there life is = subst (λ (x : Seat ReplicaValue). Contains old.seats x) (same_seat s n life number is)
+module _ (old new : WorldState ReplicaValue) (n : ℕ) (s t : SimNode ReplicaValue) (number : s.number ≡ n)
+    (k : ReplacesSeat old.sim_nodes new.sim_nodes s t) where
+  pub was_there : (run_state : RunState ReplicaValue) → s.run_state ≡ run_state → Lives old n run_state
+  was_there run_state is =
+      subst (λ (x : SimNode ReplicaValue). Contains old.sim_nodes x) (same_sim_node s n run_state number is)
       (k.index, k.at.0, k.at.1)
 
-  pub is_there : (life : Life ReplicaValue) → t.life ≡ life → Lives new n life
-  is_there life is =
-      let here = at_here old.seats k.index t k.at.0 in
-      subst (λ (l : List (Seat ReplicaValue)). Contains l (record { number = n; life = life })) (sym k.seats)
-      (subst (λ (x : Seat ReplicaValue). Contains (set old.seats k.index t) x)
-      (same_seat t n life (k.number ∙ number) is)
+  pub is_there : (run_state : RunState ReplicaValue) → t.run_state ≡ run_state → Lives new n run_state
+  is_there run_state is =
+      let here = at_here old.sim_nodes k.index t k.at.0 in
+      subst (λ (l : List (SimNode ReplicaValue)). Contains l (record {
+        number = n;
+        run_state =
+            run_state;
+      })) (sym k.sim_nodes)
+      (subst (λ (x : SimNode ReplicaValue). Contains (set old.sim_nodes k.index t) x)
+      (same_sim_node t n run_state (k.number ∙ number) is)
       (k.index, here.0, here.1))
 
-  pub stay_there : (j : ℕ) (life : Life ReplicaValue) → (j ≡ n → ⊥) → Lives old j life → Lives new j life
-  stay_there j life ne c =
-      let x : Seat ReplicaValue = record { number = j; life = life } in
+  pub stay_there : (j : ℕ) (run_state : RunState ReplicaValue) → (j ≡ n → ⊥) → Lives old j run_state
+      → Lives new j run_state
+  stay_there j run_state ne c =
+      let x : SimNode ReplicaValue = record { number = j; run_state = run_state } in
       let elsewhere : c.0 ≡ k.index → ⊥ = λ e. ne
-      (ap (λ (y : Seat ReplicaValue). y.number)
-      (at_one old.seats k.index x s (subst (λ (p : ℕ). At old.seats p x) e (at_of old.seats x c)) k.at)
+      (ap (λ (y : SimNode ReplicaValue). y.number)
+      (at_one old.sim_nodes k.index x s (subst (λ (p : ℕ). At old.sim_nodes p x) e (at_of old.sim_nodes x c)) k.at)
       ∙ number) in
-      let at : At (set old.seats k.index t) c.0 x =
-      at_other old.seats k.index t c.0 x elsewhere (at_of old.seats x c) in
-      subst (λ (l : List (Seat ReplicaValue)). Contains l x) (sym k.seats) (c.0, at.0, at.1)
+      let at : At (set old.sim_nodes k.index t) c.0 x =
+      at_other old.sim_nodes k.index t c.0 x elsewhere (at_of old.sim_nodes x c) in
+      subst (λ (l : List (SimNode ReplicaValue)). Contains l x) (sym k.sim_nodes) (c.0, at.0, at.1)
 
 -- ---- what holds of a world
 
-module _ (m : Meaning) (IsText : List ℕ → Type 0) (w : Scene ReplicaValue) (holds : Holds m IsText w) where
+module _ (m : Meaning) (IsText : List ℕ → Type 0) (w : WorldState ReplicaValue) (holds : Holds m IsText w) where
   -- a number is that of one node
-  pub one_life : (n : ℕ) (a b : Life ReplicaValue) → Lives w n a → Lives w n b → a ≡ b
-  one_life n a b c d =
-      let s : Seat ReplicaValue = record { number = n; life = a } in
-      let t : Seat ReplicaValue = record { number = n; life = b } in
-      let index : c.0 ≡ d.0 = holds.apart c.0 d.0 s t (at_of w.seats s c) (at_of w.seats t d) refl in
-      ap (λ (x : Seat ReplicaValue). x.life)
-      (at_one w.seats d.0 s t (subst (λ (i : ℕ). At w.seats i s) index (at_of w.seats s c)) (at_of w.seats t d))
+  pub one_run_state : (n : ℕ) (a b : RunState ReplicaValue) → Lives w n a → Lives w n b → a ≡ b
+  one_run_state n a b c d =
+      let s : SimNode ReplicaValue = record { number = n; run_state = a } in
+      let t : SimNode ReplicaValue = record { number = n; run_state = b } in
+      let index : c.0 ≡ d.0 = holds.apart c.0 d.0 s t (at_of w.sim_nodes s c) (at_of w.sim_nodes t d) refl in
+      ap (λ (x : SimNode ReplicaValue). x.run_state)
+      (at_one w.sim_nodes d.0 s t (subst (λ (i : ℕ). At w.sim_nodes i s) index (at_of w.sim_nodes s c))
+      (at_of w.sim_nodes t d))
 
   pub one_replica : (n : ℕ) (r q : ReplicaValue) → IsUpAs w n r → IsUpAs w n q → r ≡ q
-  one_replica n r q c d = same_replica r q (one_life n (Up r) (Up q) c d)
+  one_replica n r q c d = same_replica r q (one_run_state n (Up r) (Up q) c d)
 
   pub up_fits : (n : ℕ) (r : ReplicaValue) → IsUpAs w n r
       → UpFits (Shows m) (disks_by (behaviour m IsText)) m (happened w.genesis w.sent w.trace) (holds.states n) n r
   up_fits n r c =
-      let s : Seat ReplicaValue = record { number = n; life = Up r } in
-      (holds.seated c.0 s (at_of w.seats s c)).up r refl
+      let s : SimNode ReplicaValue = record { number = n; run_state = Up r } in
+      (holds.as_sim_nodes c.0 s (at_of w.sim_nodes s c)).up r refl
 
   -- a node that is up holds what its contract shows
   pub shown : (n : ℕ) (r : ReplicaValue) → IsUpAs w n r
@@ -168,10 +176,10 @@ module _ (m : Meaning) (IsText : List ℕ → Type 0) where
   counted (Fail count) sends r = refl
   counted (Arm count bytes) sends r = refl
 
-  module _ (old new : Scene ReplicaValue) (n : ℕ) (i : Input) (asked : List Note) (holds : Holds m IsText old)
+  module _ (old new : WorldState ReplicaValue) (n : ℕ) (i : Input) (asked : List Note) (holds : Holds m IsText old)
       (k : IsGiven b old new n i asked) where
     was : IsUpAs old n k.replica
-    was = was_there old new n k.seat k.next k.number k.replaces (Up k.replica) k.up
+    was = was_there old new n k.sim_node k.next k.number k.replaces (Up k.replica) k.up
 
     number : k.replica.node.header.node ≡ n
     number = ap (λ (h : HeaderValue). h.node) (has_header m IsText old holds n k.replica was)
@@ -191,10 +199,10 @@ module _ (m : Meaning) (IsText : List ℕ → Type 0) where
         rebases = λ e. same ∙ (taken.writes.rebases e).becomes;
         rests = λ e. same ∙ (taken.writes.puts e).0;
       };
-      is = is_there old new n k.seat k.next k.number k.replaces (Up after) g.up;
+      is = is_there old new n k.sim_node k.next k.number k.replaces (Up after) g.up;
       sent = g.adds.sent ∙ ap (λ (l : List Datagram). old.sent ++ l)
           (is_taken.batch ∙ (λ j. batch_of (number j) (sym taken.sent j)));
-      others = stay_there old new n k.seat k.next k.number k.replaces;
+      others = stay_there old new n k.sim_node k.next k.number k.replaces;
       genesis = g.adds.genesis;
     }
       where
@@ -217,7 +225,7 @@ module _ (m : Meaning) (IsText : List ℕ → Type 0) where
       | inr (inr g) ↦ absurd (cc (sym alive ∙ g.ended))
     ]
 
-  delivered : (old new : Scene ReplicaValue) (place n : ℕ) (i : Input) → IsDelivered b old new place
+  delivered : (old new : WorldState ReplicaValue) (place n : ℕ) (i : Input) → IsDelivered b old new place
       → Gives old (event.Deliver place) n i → IsGiven b old new n i []
   delivered old new place n i k gives =
       let same : k.datagram ≡ gives.0 = same_some k.datagram gives.0 (sym k.stands ∙ gives.1) in

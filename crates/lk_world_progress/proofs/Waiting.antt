@@ -17,7 +17,7 @@ use Rattle.lk_node.specs.Waiting.{BeginsWhereDue, ticked}
 use Rattle.lk_progress.specs.Ticking.{HasTerm, TakesTicks, TicksBeginABallot, no_tick, one_more}
 use Rattle.lk_rebases.proofs.Rebases.{fits_snapshot, idle_begins}
 use Rattle.lk_replica.specs.ReplicaValue.{ReplicaValue}
-use Rattle.lk_sim.specs.Scenes.{Scene}
+use Rattle.lk_sim.specs.WorldStates.{WorldState}
 use Rattle.lk_sim.specs.declared.event.Event.TheVariants as event
 use Rattle.lk_world_progress.proofs.Balloting.{found_has}
 use Rattle.lk_world_progress.proofs.Shadowing.{ShadowTicks, Shadows, shadow_ticks, shadows_found, shadows_itself}
@@ -68,13 +68,13 @@ module _ (m : Meaning) (IsText : List ℕ → Type 0) where
   HasWaited first k node = HasTerm node
       ⊎ ((shadow : NodeValue) × Shadows shadow node × TakesTicks first k shadow × (node.leader.term ≡ None))
 
-  record Waited (n : ℕ) (first : NodeValue) (k : ℕ) (w : Scene ReplicaValue) : Type 0 where
+  record Waited (n : ℕ) (first : NodeValue) (k : ℕ) (w : WorldState ReplicaValue) : Type 0 where
     holds : Holds m IsText w
     after : ReplicaValue
     is : IsUpAs w n after
     waited : HasWaited first k after.node
 
-  module _ (n : ℕ) (first : NodeValue) (k : ℕ) (old new : Scene ReplicaValue) (w : Waited n first k old)
+  module _ (n : ℕ) (first : NodeValue) (k : ℕ) (old new : WorldState ReplicaValue) (w : Waited n first k old)
       (goes : GoesWell m IsText old (event.Tick n) new) where
     s : TakesStep m IsText old n Tick new
     s = event_steps m IsText old new (event.Tick n) n Tick goes (refl, refl)
@@ -112,10 +112,11 @@ module _ (m : Meaning) (IsText : List ℕ → Type 0) where
     one_tick : Waited n first (k + 1) new
     one_tick = record { holds = goes.after; after = s.after; is = s.is; waited = waits_on w.waited }
 
-  all_ticks : (n : ℕ) (k : ℕ) (old new : Scene ReplicaValue) (r : ReplicaValue) → Holds m IsText old → IsUpAs old n r
+  all_ticks : (n : ℕ) (k : ℕ) (old new : WorldState ReplicaValue) (r : ReplicaValue) → Holds m IsText old
+      → IsUpAs old n r
       → Waited n r.node 0 old → TicksInTurn m IsText n k old new → Waited n r.node k new
   all_ticks n zero old new r holds up w same =
-      subst (λ (x : Scene ReplicaValue). Waited n r.node 0 x) (sym same) w
+      subst (λ (x : WorldState ReplicaValue). Waited n r.node 0 x) (sym same) w
   all_ticks n (suc k) old new r holds up w d =
       subst (λ (j : ℕ). Waited n r.node j new) (omega arith)
       (one_tick n r.node k d.0 new (all_ticks n k old d.0 r holds up w d.1) d.2)

@@ -13,13 +13,13 @@ use Rattle.lk_progress.specs.Hearing.{TakesEach}
 use Rattle.lk_recovery.specs.Compacting.{IsDue}
 use Rattle.lk_replica.specs.ReplicaValue.{ReplicaValue}
 use Rattle.lk_sim.specs.Refusals.{datagram_at}
-use Rattle.lk_sim.specs.Scenes.{Scene}
+use Rattle.lk_sim.specs.WorldStates.{WorldState}
 use Rattle.lk_sim.specs.declared.event.Event.TheVariants as event
-use Rattle.lk_sim_nodes.specs.declared.seat.Life.{Life}
+use Rattle.lk_sim_nodes.specs.declared.sim_node.RunState.{RunState}
 use Rattle.lk_world_progress.specs.Stepping.{GoesWell, Holds, IsUpAs, Lives}
 
 -- no rebase of the node is due
-abbrev pub IsRested : Scene ReplicaValue → ℕ → Type 0
+abbrev pub IsRested : WorldState ReplicaValue → ℕ → Type 0
 IsRested w n = (r : ReplicaValue) → IsUpAs w n r → IsDue r.node r.store → ⊥
 
 -- a message other than a part of a snapshot
@@ -33,7 +33,7 @@ InstallsNothing (content.Request r) = Unit {0}
 InstallsNothing (content.Node from x) = IsOtherThanPart x
 
 -- a datagram of the cluster with this content is delivered to the node
-pub record Hears (m : Meaning) (IsText : List ℕ → Type 0) (n : ℕ) (x : Content) (old new : Scene ReplicaValue)
+pub record Hears (m : Meaning) (IsText : List ℕ → Type 0) (n : ℕ) (x : Content) (old new : WorldState ReplicaValue)
     : Type 0 where
   pub place : ℕ
   pub datagram : Datagram
@@ -43,7 +43,7 @@ pub record Hears (m : Meaning) (IsText : List ℕ → Type 0) (n : ℕ) (x : Con
   pub goes : GoesWell m IsText old (event.Deliver place) new
 
 -- the same to a node that has no rebase due
-pub record Delivers (m : Meaning) (IsText : List ℕ → Type 0) (n : ℕ) (x : Content) (old new : Scene ReplicaValue)
+pub record Delivers (m : Meaning) (IsText : List ℕ → Type 0) (n : ℕ) (x : Content) (old new : WorldState ReplicaValue)
     : Type 0 where
   pub hears : Hears m IsText n x old new
   pub rested : IsRested old n
@@ -54,39 +54,42 @@ AreDistinct [] = Unit {0}
 AreDistinct (n ∷ ns) = (Contains ns n → ⊥) × AreDistinct ns
 
 -- these contents are delivered to the node, one after another, and nothing else happens meanwhile
-abbrev pub DeliversInTurn : Meaning → (List ℕ → Type 0) → ℕ → List Content → Scene ReplicaValue → Scene ReplicaValue
+abbrev pub DeliversInTurn : Meaning → (List ℕ → Type 0) → ℕ → List Content → WorldState ReplicaValue
+    → WorldState ReplicaValue
     → Type 0
 DeliversInTurn m IsText n [] old new = new ≡ old
 DeliversInTurn m IsText n (x ∷ xs) old new =
-    (mid : Scene ReplicaValue) × Delivers m IsText n x old mid × DeliversInTurn m IsText n xs mid new
+    (mid : WorldState ReplicaValue) × Delivers m IsText n x old mid × DeliversInTurn m IsText n xs mid new
 
 -- the same, whether or not a rebase of the node is due
-abbrev pub HearsInTurn : Meaning → (List ℕ → Type 0) → ℕ → List Content → Scene ReplicaValue → Scene ReplicaValue
+abbrev pub HearsInTurn : Meaning → (List ℕ → Type 0) → ℕ → List Content → WorldState ReplicaValue
+    → WorldState ReplicaValue
     → Type 0
 HearsInTurn m IsText n [] old new = new ≡ old
 HearsInTurn m IsText n (x ∷ xs) old new =
-    (mid : Scene ReplicaValue) × Hears m IsText n x old mid × HearsInTurn m IsText n xs mid new
+    (mid : WorldState ReplicaValue) × Hears m IsText n x old mid × HearsInTurn m IsText n xs mid new
 
 -- the content is delivered to each of these nodes, one after another, and nothing else happens meanwhile
-abbrev pub HearsEach : Meaning → (List ℕ → Type 0) → Content → List ℕ → Scene ReplicaValue → Scene ReplicaValue
+abbrev pub HearsEach : Meaning → (List ℕ → Type 0) → Content → List ℕ → WorldState ReplicaValue
+    → WorldState ReplicaValue
     → Type 0
 HearsEach m IsText x [] old new = new ≡ old
 HearsEach m IsText x (n ∷ ns) old new =
-    (mid : Scene ReplicaValue) × Hears m IsText n x old mid × HearsEach m IsText x ns mid new
+    (mid : WorldState ReplicaValue) × Hears m IsText n x old mid × HearsEach m IsText x ns mid new
 
 -- the node took these contents, one after another, and what it sent joined the datagrams; every other node is unchanged
 pub record TakesContents (m : Meaning) (IsText : List ℕ → Type 0) (n : ℕ) (xs : List Content) (before : ReplicaValue)
-    (old new : Scene ReplicaValue) : Type 0 where
+    (old new : WorldState ReplicaValue) : Type 0 where
   pub after : ReplicaValue
   pub is : IsUpAs new n after
   pub envelopes : List EnvelopeValue
   pub takes : TakesEach m IsText xs before.node after.node envelopes
   pub sent : new.sent ≡ old.sent ++ batch_of n envelopes
-  pub others : (k : ℕ) (life : Life ReplicaValue) → (k ≡ n → ⊥) → Lives old k life → Lives new k life
+  pub others : (k : ℕ) (run_state : RunState ReplicaValue) → (k ≡ n → ⊥) → Lives old k run_state → Lives new k run_state
   pub genesis : new.genesis ≡ old.genesis
 
 -- a node takes what is delivered to it, in order
 abbrev pub DeliveriesAreTaken : Meaning → (List ℕ → Type 0) → Type 0
-DeliveriesAreTaken m IsText = (old new : Scene ReplicaValue) (n : ℕ) (xs : List Content) (before : ReplicaValue)
+DeliveriesAreTaken m IsText = (old new : WorldState ReplicaValue) (n : ℕ) (xs : List Content) (before : ReplicaValue)
     → Holds m IsText old → IsUpAs old n before → ((x : Content) → Contains xs x → InstallsNothing x)
     → DeliversInTurn m IsText n xs old new → TakesContents m IsText n xs before old new

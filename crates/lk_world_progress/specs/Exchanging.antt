@@ -21,7 +21,7 @@ use Rattle.lk_progress.specs.Deciding.{acceptances}
 use Rattle.lk_progress.specs.Electing.{promises}
 use Rattle.lk_progress.specs.Exchanges.{IsQuietCandidate, IsQuietVoter, prepare_by, promise_to, vote_by}
 use Rattle.lk_replica.specs.ReplicaValue.{ReplicaValue}
-use Rattle.lk_sim.specs.Scenes.{Scene}
+use Rattle.lk_sim.specs.WorldStates.{WorldState}
 use Rattle.lk_sim.specs.declared.event.Event.TheVariants as event
 use Rattle.lk_world_progress.specs.Balloting.{HasSentTo}
 use Rattle.lk_world_progress.specs.Delivering.{AreDistinct, Hears, HearsEach, HearsInTurn}
@@ -34,12 +34,13 @@ abbrev pub number_of : ReplicaValue → ℕ
 number_of r = r.node.header.node
 
 -- a voter is up, and quiet for the candidate's next ballot
-abbrev pub IsVoterIn : Scene ReplicaValue → NodeValue → ℕ → Type 0
+abbrev pub IsVoterIn : WorldState ReplicaValue → NodeValue → ℕ → Type 0
 IsVoterIn w candidate n =
     (r : ReplicaValue) × IsUpAs w n r × IsQuietVoter r.node (next_ballot candidate) (executed candidate.learner)
 
 -- the candidate is up and quiet, and so are these others, which with it are a majority of the set of its next position
-pub record IsQuietWorld (m : Meaning) (IsText : List ℕ → Type 0) (w : Scene ReplicaValue) (candidate : ReplicaValue)
+pub record IsQuietWorld (m : Meaning) (IsText : List ℕ → Type 0) (w : WorldState ReplicaValue)
+    (candidate : ReplicaValue)
     (set : List Member) (others : List ℕ) : Type 0 where
   pub holds : Holds m IsText w
   pub up : IsUpAs w (number_of candidate) candidate
@@ -54,20 +55,20 @@ pub record IsQuietWorld (m : Meaning) (IsText : List ℕ → Type 0) (w : Scene 
 -- sends a request, and the candidate takes it. Each node takes the candidate's Accept, and the candidate takes their
 -- replies. Nothing else happens meanwhile, but any of these nodes may have a rebase due.
 pub record Exchanges (m : Meaning) (IsText : List ℕ → Type 0) (candidate : ReplicaValue) (r : RequestValue)
-    (others : List ℕ) (first last : Scene ReplicaValue) : Type 0 where
-  pub ticked : Scene ReplicaValue
+    (others : List ℕ) (first last : WorldState ReplicaValue) : Type 0 where
+  pub ticked : WorldState ReplicaValue
   pub ticks : GoesWell m IsText first (event.Tick (number_of candidate)) ticked
-  pub asked : Scene ReplicaValue
+  pub asked : WorldState ReplicaValue
   pub asks : HearsEach m IsText (content.Node (number_of candidate) (prepare_by candidate.node))
       (number_of candidate ∷ others) ticked asked
-  pub promised : Scene ReplicaValue
+  pub promised : WorldState ReplicaValue
   pub leads : HearsInTurn m IsText (number_of candidate)
       (promises (map (λ n. (n, promise_to candidate.node)) (number_of candidate ∷ others))) asked promised
-  pub requested : Scene ReplicaValue
+  pub requested : WorldState ReplicaValue
   pub requests : GoesWell m IsText promised (event.Client (number_of candidate) r) requested
-  pub proposed : Scene ReplicaValue
+  pub proposed : WorldState ReplicaValue
   pub proposes : Hears m IsText (number_of candidate) (content.Request r) requested proposed
-  pub accepted : Scene ReplicaValue
+  pub accepted : WorldState ReplicaValue
   pub accepts : HearsEach m IsText
       (content.Node (number_of candidate) (kinds.Accept (vote_by candidate.node r)))
       (number_of candidate ∷ others) proposed accepted
@@ -77,7 +78,7 @@ pub record Exchanges (m : Meaning) (IsText : List ℕ → Type 0) (candidate : R
 -- ---- the law
 
 -- it has answered the client's request with what its machine returns for it
-abbrev pub HasAnswered : Meaning → Scene ReplicaValue → NodeValue → RequestValue → Type 0
+abbrev pub HasAnswered : Meaning → WorldState ReplicaValue → NodeValue → RequestValue → Type 0
 HasAnswered m w node r = Contains w.sent (record {
   from = party.Node node.header.node;
   to = party.Client r.client;
@@ -89,14 +90,14 @@ HasAnswered m w node r = Contains w.sent (record {
 })
 
 -- it has noted that answer in the trace
-abbrev pub HasNoted : Meaning → Scene ReplicaValue → NodeValue → RequestValue → Type 0
+abbrev pub HasNoted : Meaning → WorldState ReplicaValue → NodeValue → RequestValue → Type 0
 HasNoted m w node r = Contains w.trace
     (note.Answered node.header.node r.client r.number (session_for m node.learner.whole r).answer)
 
 -- The Prepare and the Accept were sent to each member of that position, and each promise and each reply to the
 -- candidate, before they are delivered, and in the end the request is answered, and that is noted.
 pub record IsAnsweredBy (m : Meaning) (IsText : List ℕ → Type 0) (candidate : ReplicaValue) (set : List Member)
-    (r : RequestValue) (others : List ℕ) (first last : Scene ReplicaValue)
+    (r : RequestValue) (others : List ℕ) (first last : WorldState ReplicaValue)
     (k : Exchanges m IsText candidate r others first last) : Type 0 where
   pub asks : (n : ℕ) → Contains (nodes_of set) n → 1 ≤ n
       → HasSentTo k.ticked (number_of candidate) n (prepare_by candidate.node)
@@ -112,7 +113,7 @@ pub record IsAnsweredBy (m : Meaning) (IsText : List ℕ → Type 0) (candidate 
 -- A world with a quiet majority answers a fresh request after one exchange.
 abbrev pub QuietWorldAnswers : Meaning → (List ℕ → Type 0) → Type 0
 QuietWorldAnswers m IsText = (candidate : ReplicaValue) (set : List Member) (r : RequestValue) (others : List ℕ)
-    (first last : Scene ReplicaValue) → IsQuietWorld m IsText first candidate set others
+    (first last : WorldState ReplicaValue) → IsQuietWorld m IsText first candidate set others
     → is_new (session_of r.client candidate.node.learner.whole.sessions) r.number ≡ true
     → (k : Exchanges m IsText candidate r others first last)
     → IsAnsweredBy m IsText candidate set r others first last k

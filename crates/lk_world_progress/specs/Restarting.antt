@@ -13,10 +13,10 @@ use Rattle.lk_node.specs.NewBases.{with_snapshot}
 use Rattle.lk_node.specs.NodeValue.{NodeValue}
 use Rattle.lk_recovery.specs.Revivals.{RestartsAs}
 use Rattle.lk_replica.specs.ReplicaValue.{ReplicaValue}
-use Rattle.lk_sim.specs.Scenes.{Scene}
+use Rattle.lk_sim.specs.WorldStates.{WorldState}
 use Rattle.lk_sim.specs.declared.event.Event.TheVariants as event
-use Rattle.lk_sim_nodes.specs.declared.seat.Life.{Life}
-use Rattle.lk_sim_nodes.specs.declared.seat.Life.TheVariants.{Down}
+use Rattle.lk_sim_nodes.specs.declared.sim_node.RunState.{RunState}
+use Rattle.lk_sim_nodes.specs.declared.sim_node.RunState.TheVariants.{Down}
 use Rattle.lk_world_progress.specs.Delivering.{AreDistinct}
 use Rattle.lk_world_progress.specs.Stepping.{GoesWell, IsUpAs, Lives}
 
@@ -38,7 +38,8 @@ pub record IsRestarted (node : NodeValue) : Type 0 where
 -- The node was down, and is up as a restart from its disks leaves it: what it has promised, the votes that it keeps and
 -- what it has executed are those of its disks. If they were of format 1, a snapshot has replaced the executed commands
 -- and the votes up to there. Nothing is sent, and every other node is unchanged.
-pub record RestartsIn (m : Meaning) (IsText : List ℕ → Type 0) (n : ℕ) (old new : Scene ReplicaValue) : Type 0 where
+pub record RestartsIn (m : Meaning) (IsText : List ℕ → Type 0) (n : ℕ) (old new : WorldState ReplicaValue)
+    : Type 0 where
   pub device : Memory
   pub was : Lives old n (Down device)
   pub after : ReplicaValue
@@ -50,35 +51,38 @@ pub record RestartsIn (m : Meaning) (IsText : List ℕ → Type 0) (n : ℕ) (ol
   pub same : ((store.format ≡ 2) × (after.node ≡ node)) ⊎ ((store.format ≡ 1) × (after.node ≡ with_snapshot node))
   pub restarted : IsRestarted after.node
   pub sent : new.sent ≡ old.sent
-  pub others : (k : ℕ) (life : Life ReplicaValue) → (k ≡ n → ⊥) → Lives old k life → Lives new k life
+  pub others : (k : ℕ) (run_state : RunState ReplicaValue) → (k ≡ n → ⊥) → Lives old k run_state → Lives new k run_state
   pub genesis : new.genesis ≡ old.genesis
 
 abbrev pub NodeRestarts : Meaning → (List ℕ → Type 0) → Type 0
-NodeRestarts m IsText = (old new : Scene ReplicaValue) (n : ℕ) → GoesWell m IsText old (event.Restart n) new
+NodeRestarts m IsText = (old new : WorldState ReplicaValue) (n : ℕ) → GoesWell m IsText old (event.Restart n) new
     → RestartsIn m IsText n old new
 
 -- ---- several
 
 -- the node restarts. If it was up, it is stopped before that, and any part of its unsynced bytes is lost
-abbrev pub StopsAndRestarts : Meaning → (List ℕ → Type 0) → ℕ → Scene ReplicaValue → Scene ReplicaValue → Type 0
+abbrev pub StopsAndRestarts : Meaning → (List ℕ → Type 0) → ℕ → WorldState ReplicaValue
+    → WorldState ReplicaValue → Type 0
 StopsAndRestarts m IsText n old new =
     GoesWell m IsText old (event.Restart n) new
-    ⊎ ((x y : ℕ) × (off : Scene ReplicaValue) × GoesWell m IsText old (event.Stop n x y) off
+    ⊎ ((x y : ℕ) × (off : WorldState ReplicaValue) × GoesWell m IsText old (event.Stop n x y) off
     × GoesWell m IsText off (event.Restart n) new)
 
 -- each of these does, one after another, and nothing else happens meanwhile
-abbrev pub RestartInTurn : Meaning → (List ℕ → Type 0) → List ℕ → Scene ReplicaValue → Scene ReplicaValue → Type 0
+abbrev pub RestartInTurn : Meaning → (List ℕ → Type 0) → List ℕ → WorldState ReplicaValue
+    → WorldState ReplicaValue → Type 0
 RestartInTurn m IsText [] old new = new ≡ old
 RestartInTurn m IsText (n ∷ ns) old new =
-    (mid : Scene ReplicaValue) × StopsAndRestarts m IsText n old mid × RestartInTurn m IsText ns mid new
+    (mid : WorldState ReplicaValue) × StopsAndRestarts m IsText n old mid × RestartInTurn m IsText ns mid new
 
 -- they are up and have restarted, nothing is sent, and every other node is unchanged
-pub record HaveRestarted (ns : List ℕ) (old new : Scene ReplicaValue) : Type 0 where
+pub record HaveRestarted (ns : List ℕ) (old new : WorldState ReplicaValue) : Type 0 where
   pub each : (n : ℕ) → Contains ns n → (r : ReplicaValue) × IsUpAs new n r × IsRestarted r.node
   pub sent : new.sent ≡ old.sent
-  pub others : (k : ℕ) (life : Life ReplicaValue) → (Contains ns k → ⊥) → Lives old k life → Lives new k life
+  pub others : (k : ℕ) (run_state : RunState ReplicaValue) → (Contains ns k → ⊥) → Lives old k run_state
+      → Lives new k run_state
   pub genesis : new.genesis ≡ old.genesis
 
 abbrev pub NodesRestart : Meaning → (List ℕ → Type 0) → Type 0
-NodesRestart m IsText = (old new : Scene ReplicaValue) (ns : List ℕ) → AreDistinct ns
+NodesRestart m IsText = (old new : WorldState ReplicaValue) (ns : List ℕ) → AreDistinct ns
     → RestartInTurn m IsText ns old new → HaveRestarted ns old new

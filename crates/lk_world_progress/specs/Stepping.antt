@@ -24,12 +24,12 @@ use Rattle.lk_replica.specs.Taking.{ComesTo}
 use Rattle.lk_replica.specs.Together.{ComesToAll}
 use Rattle.lk_sim.specs.Events.{IsExecuted}
 use Rattle.lk_sim.specs.Refusals.{datagram_at}
-use Rattle.lk_sim.specs.Scenes.{Scene}
+use Rattle.lk_sim.specs.WorldStates.{WorldState}
 use Rattle.lk_sim.specs.Worlds.{KeepsInvariant}
 use Rattle.lk_sim.specs.declared.event.Event.{Event}
 use Rattle.lk_sim.specs.declared.event.Event.TheVariants as event
-use Rattle.lk_sim_nodes.specs.declared.seat.Life.{Life}
-use Rattle.lk_sim_nodes.specs.declared.seat.Life.TheVariants.{Up}
+use Rattle.lk_sim_nodes.specs.declared.sim_node.RunState.{RunState}
+use Rattle.lk_sim_nodes.specs.declared.sim_node.RunState.TheVariants.{Up}
 
 -- ---- worlds of replicas
 
@@ -49,29 +49,29 @@ abbrev pub Shows : Meaning → ReplicaValue → Genesis → ℕ → Holding → 
 Shows m r genesis n x = ReplicaHolds m r.node r.store genesis n x
 
 -- the invariant of a `World` of such replicas: the clause `keeps` of its `facts`
-abbrev pub Holds : Meaning → (List ℕ → Type 0) → Scene ReplicaValue → Type 0
+abbrev pub Holds : Meaning → (List ℕ → Type 0) → WorldState ReplicaValue → Type 0
 Holds m IsText w = KeepsInvariant (Shows m) (disks_by (behaviour m IsText)) m w
 
 -- the event was done, and ended no node
-pub record GoesWell (m : Meaning) (IsText : List ℕ → Type 0) (old : Scene ReplicaValue) (e : Event)
-    (new : Scene ReplicaValue) : Type 0 where
+pub record GoesWell (m : Meaning) (IsText : List ℕ → Type 0) (old : WorldState ReplicaValue) (e : Event)
+    (new : WorldState ReplicaValue) : Type 0 where
   pub before : Holds m IsText old
   pub done : IsExecuted (behaviour m IsText) old e new
   pub alive : new.ended ≡ None
   pub after : Holds m IsText new
 
--- the node of this number has this life in the world
-abbrev pub Lives : Scene ReplicaValue → ℕ → Life ReplicaValue → Type 0
-Lives w n life = Contains w.seats (record { number = n; life = life })
+-- the node of this number has this run state in the world
+abbrev pub Lives : WorldState ReplicaValue → ℕ → RunState ReplicaValue → Type 0
+Lives w n run_state = Contains w.sim_nodes (record { number = n; run_state = run_state })
 
 -- it is up, and this is its replica
-abbrev pub IsUpAs : Scene ReplicaValue → ℕ → ReplicaValue → Type 0
+abbrev pub IsUpAs : WorldState ReplicaValue → ℕ → ReplicaValue → Type 0
 IsUpAs w n r = Lives w n (Up r)
 
 -- ---- an event as a step
 
 -- the event gives the node this input: a tick, a nudge, a datagram that was sent to it, or bytes that no node has sent
-abbrev pub Gives : Scene ReplicaValue → Event → ℕ → Input → Type 0
+abbrev pub Gives : WorldState ReplicaValue → Event → ℕ → Input → Type 0
 Gives w (event.Tick n) k i = (k ≡ n) × (i ≡ Tick)
 Gives w (event.Nudge n reason) k i = (k ≡ n) × (i ≡ Nudge reason)
 Gives w (event.Deliver place) k i =
@@ -92,8 +92,8 @@ pub record IsLeft (out : OutboxValue) (node : NodeValue) (r : ReplicaValue) : Ty
   pub rests : out.rebase ≡ false → r.node ≡ node
 
 -- the node took one step on this input; its envelopes are the world's next datagrams, and every other node is unchanged
-pub record TakesStep (m : Meaning) (IsText : List ℕ → Type 0) (old : Scene ReplicaValue) (n : ℕ) (i : Input)
-    (new : Scene ReplicaValue) : Type 0 where
+pub record TakesStep (m : Meaning) (IsText : List ℕ → Type 0) (old : WorldState ReplicaValue) (n : ℕ) (i : Input)
+    (new : WorldState ReplicaValue) : Type 0 where
   pub before : ReplicaValue
   pub was : IsUpAs old n before
   pub number : before.node.header.node ≡ n
@@ -106,10 +106,10 @@ pub record TakesStep (m : Meaning) (IsText : List ℕ → Type 0) (old : Scene R
   pub left : IsLeft out last after
   pub is : IsUpAs new n after
   pub sent : new.sent ≡ old.sent ++ batch_of n out.envelopes
-  pub others : (k : ℕ) (life : Life ReplicaValue) → (k ≡ n → ⊥) → Lives old k life → Lives new k life
+  pub others : (k : ℕ) (run_state : RunState ReplicaValue) → (k ≡ n → ⊥) → Lives old k run_state → Lives new k run_state
   pub genesis : new.genesis ≡ old.genesis
 
 -- an event that goes well and gives a node an input is a step of that node
 abbrev pub EventIsStep : Meaning → (List ℕ → Type 0) → Type 0
-EventIsStep m IsText = (old new : Scene ReplicaValue) (e : Event) (n : ℕ) (i : Input) → GoesWell m IsText old e new
+EventIsStep m IsText = (old new : WorldState ReplicaValue) (e : Event) (n : ℕ) (i : Input) → GoesWell m IsText old e new
     → Gives old e n i → TakesStep m IsText old n i new

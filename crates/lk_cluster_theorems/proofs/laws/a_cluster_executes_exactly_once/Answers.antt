@@ -1,7 +1,7 @@
-use Rattle.lk_cluster_theorems.specs.Clusters.{scene_of}
+use Rattle.lk_cluster_theorems.specs.Clusters.{world_state_of}
 use Rattle.lk_cluster_theorems.proofs.laws.a_cluster_executes_exactly_once.Goals as goal
 
 pub returns : goal.returns
 returns g c genesis cluster all =
-    c.operations_take_effect_exactly_once.ensures (scene_of cluster)
+    c.operations_take_effect_exactly_once.ensures (world_state_of cluster)
     (c.a_cluster_meets_the_guarantee.ensures genesis cluster all)

@@ -7,7 +7,7 @@ use Rattle.lk_agreement_laws.specs.Datagrams.{Datagram}
 use Rattle.lk_progress.proofs.Electing.{due_asks}
 use Rattle.lk_progress.proofs.Rejecting.{prepare_has_cause}
 use Rattle.lk_progress.specs.Exchanges.{prepare_by}
-use Rattle.lk_sim_nodes.specs.declared.seat.Life.TheVariants.{Up}
+use Rattle.lk_sim_nodes.specs.declared.sim_node.RunState.TheVariants.{Up}
 use Rattle.lk_healing.proofs.Ballots.{are_there, loses, may_take, prepare_is, prepares_on_their_way}
 use Rattle.lk_healing.proofs.Elected.{begun as has_stood, leads, same_prepare}
 use Rattle.lk_healing.proofs.Leads.{candidate_up, contents, leads_now, promises_there}

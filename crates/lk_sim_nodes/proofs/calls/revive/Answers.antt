@@ -9,7 +9,7 @@ use Rattle.lk_sim_nodes.proofs.calls.revive.Goals as goal
 
 pub returns-in-Ok-clause-goes : goal.returns-in-Ok-clause-goes
 returns-in-Ok-clause-goes g c h w same lawful f q up =
-    let n = c.remove_device-device.new.seat.number in
+    let n = c.remove_device-device.new.sim_node.number in
     let whose : c.new.result ≡ header_of h.genesis n =
     same_header c.new.result h.genesis c.args.genesis.now n _ _ _ c.new.ensures c.copy.ensures.cluster
     c.copy.ensures.alpha c.copy.ensures.members same in
@@ -27,7 +27,7 @@ returns-in-Ok-clause-goes g c h w same lawful f q up =
 
 pub returns-in-Err-clause-falls : goal.returns-in-Err-clause-falls
 returns-in-Err-clause-falls g c h w same lawful f d down =
-    let n = c.remove_device-device.new.seat.number in
+    let n = c.remove_device-device.new.sim_node.number in
     let whose : c.new.result ≡ header_of h.genesis n =
     same_header c.new.result h.genesis c.args.genesis.now n _ _ _ c.new.ensures c.copy.ensures.cluster
     c.copy.ensures.alpha c.copy.ensures.members same in
@@ -40,7 +40,7 @@ returns-in-Err-clause-falls g c h w same lawful f d down =
 
 pub returns-in-Err-clause-told : goal.returns-in-Err-clause-told
 returns-in-Err-clause-told g c h w same lawful f =
-    let n = c.remove_device-device.new.seat.number in
+    let n = c.remove_device-device.new.sim_node.number in
     let whose : c.new.result ≡ header_of h.genesis n =
     same_header c.new.result h.genesis c.args.genesis.now n _ _ _ c.new.ensures c.copy.ensures.cluster
     c.copy.ensures.alpha c.copy.ensures.members same in

@@ -4,7 +4,7 @@ use Rattle.lk_memory_disk.specs.Memory.{Memory, disk_of}
 use Rattle.lk_disk.specs.Meters.{trapped}
 use Rattle.lk_disk.specs.declared.trap.Trap.TheVariants.{Off}
 use Rattle.lk_sim_nodes.specs.Ends.{IsNumberOfEnd}
-use Rattle.lk_sim_nodes.specs.declared.seat.Life.TheVariants.{Down}
+use Rattle.lk_sim_nodes.specs.declared.sim_node.RunState.TheVariants.{Down}
 use Rattle.lk_sim_nodes.proofs.Fitting.{stopped_fit, same_disks, down_fits}
 use Rattle.lk_sim_nodes.proofs.Faults.{told_as, told_by, told_fault}
 use Rattle.lk_sim_nodes.proofs.Shortness.{same_short, kept_short}
@@ -13,7 +13,7 @@ use Rattle.lk_sim_nodes.proofs.outcome.stop_node.Goals as goal
 pub returns-then-is_wanting-clause-fits : goal.returns-then-is_wanting-clause-fits
 returns-then-is_wanting-clause-fits g c h w f short =
     down_fits _ _ _ h w _ c.trap.new.self refl
-    (stopped_fit _ h c.args.seat.now.number (disk_of c.args.device) (disk_of c.trap.new.self)
+    (stopped_fit _ h c.args.sim_node.now.number (disk_of c.args.device) (disk_of c.trap.new.self)
     (elim [
       | A ↦ (0, ap (λ (d : Memory). d.a) c.trap.ensures ∙ ap (λ (d : Memory). d.a) c.stop.ensures.after)
       | B ↦
@@ -29,7 +29,7 @@ returns-then-is_wanting-clause-fits g c h w f short =
 pub returns-clause-fits : goal.returns-clause-fits
 returns-clause-fits g c h w f short =
     down_fits _ _ _ h w _ c.trap-2.new.self refl
-    (same_disks _ h c.args.seat.now.number (disk_of c.args.device) (disk_of c.trap-2.new.self)
+    (same_disks _ h c.args.sim_node.now.number (disk_of c.args.device) (disk_of c.trap-2.new.self)
     (elim [ A ↦ ap (λ (z : Memory). z.a) c.trap-2.ensures | B ↦ ap (λ (z : Memory). z.b) c.trap-2.ensures ]) f)
     (same_short (disk_of c.args.device) (disk_of c.trap-2.new.self)
     (elim [ A ↦ ap (λ (z : Memory). z.a) c.trap-2.ensures | B ↦ ap (λ (z : Memory). z.b) c.trap-2.ensures ]) short)

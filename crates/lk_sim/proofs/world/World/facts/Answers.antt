@@ -8,17 +8,17 @@ returns g c =
     let w = c.self.invariant.0 in
     record {
       guaranteed = rw (← c.self.view_is) (record {
-        explained = (w.list, w.chosen, explains _ _ _ p.genesis p.seats.items p.sent.items p.trace.items w);
-        asked = asked _ _ _ p.genesis p.seats.items p.sent.items p.trace.items w;
-        agree = agree _ _ _ p.genesis p.seats.items p.sent.items p.trace.items w;
+        explained = (w.list, w.chosen, explains _ _ _ p.genesis p.sim_nodes.items p.sent.items p.trace.items w);
+        asked = asked _ _ _ p.genesis p.sim_nodes.items p.sent.items p.trace.items w;
+        agree = agree _ _ _ p.genesis p.sim_nodes.items p.sent.items p.trace.items w;
         told = w.told;
-        states = states _ _ _ p.genesis p.seats.items p.sent.items p.trace.items w _ g.met.R.MemoryReplica.sums_up;
-        covered = covered _ _ _ p.genesis p.seats.items p.sent.items p.trace.items w;
-        kept = λ L i v chosen. kept _ _ _ p.genesis p.seats.items p.sent.items p.trace.items w L chosen i v;
-        order = ordered _ _ _ p.genesis p.seats.items p.sent.items p.trace.items w;
-        told_in_time = told_in_time _ _ _ p.genesis p.seats.items p.sent.items p.trace.items w;
+        states = states _ _ _ p.genesis p.sim_nodes.items p.sent.items p.trace.items w _ g.met.R.MemoryReplica.sums_up;
+        covered = covered _ _ _ p.genesis p.sim_nodes.items p.sent.items p.trace.items w;
+        kept = λ L i v chosen. kept _ _ _ p.genesis p.sim_nodes.items p.sent.items p.trace.items w L chosen i v;
+        order = ordered _ _ _ p.genesis p.sim_nodes.items p.sent.items p.trace.items w;
+        told_in_time = told_in_time _ _ _ p.genesis p.sim_nodes.items p.sent.items p.trace.items w;
         ballots = record { own = w.world.sound.own; once = w.world.sound.one_value };
-        room = room _ _ _ p.genesis p.seats.items p.sent.items p.trace.items w;
+        room = room _ _ _ p.genesis p.sim_nodes.items p.sent.items p.trace.items w;
       });
       keeps = rw (← c.self.view_is) w;
     }
