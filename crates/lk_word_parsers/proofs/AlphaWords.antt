@@ -18,8 +18,8 @@ alpha_has_no sign low alpha word (narrow least most is) =
 alpha_has_no sign low alpha word (wide least most is) =
     let digits : list_any (λ b. b == sign) (decimal alpha) ≡ false =
     number_has_no sign low alpha (omega (arith, most)) in
-    let envelope : (119 == sign) ≡ false = grind (arith, common_steps, low) in
-    rw (is, list_any-append (λ b. b == sign) (decimal alpha) (119 ∷ []), digits, envelope) refl
+    let letter : (119 == sign) ≡ false = grind (arith, common_steps, low) in
+    rw (is, list_any-append (λ b. b == sign) (decimal alpha) (119 ∷ []), digits, letter) refl
 
 -- a word without a `w` is no wide one
 pub is_narrow : (alpha : ℕ) (word : List ℕ) → HasNo 119 word → IsAlphaWord alpha word
