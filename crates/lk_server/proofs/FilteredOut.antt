@@ -1,5 +1,5 @@
 -- When a replica is given nothing of what came.
-use Rattle.std.proofs.Common.{◌≡◌, ℕ, Bool, ◌||◌, ◌&&◌, true, false, List, refl}
+use Rattle.std.proofs.Common.{◌≡◌, ℕ, Bool, ◌||◌, true, false, List, refl}
 use Rattle.std.specs.declared.net.socket_addr.SocketAddr.{SocketAddr}
 use Rattle.lk_auth.specs.Seals.{heard}
 use Rattle.lk_address_book.specs.Addresses.{Filter}

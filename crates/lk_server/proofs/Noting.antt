@@ -5,7 +5,6 @@ use Rattle.lk_address_book.specs.Addresses.{Filter, IsSameFilter}
 use Rattle.lk_address_book.specs.Senders.{IsSentBy}
 use Rattle.lk_probe.specs.declared.state_digest.StateDigest.{StateDigest}
 use Rattle.lk_replica.specs.Groups.{GroupValue}
-use Rattle.lk_server_replica.specs.Silences.{quiet_withheld}
 use Rattle.lk_server_replica.specs.declared.replica_status.ReplicaStatus.{ReplicaStatus}
 use Rattle.lk_server.specs.Gatherings.{WithholdsQuiet}
 use Rattle.lk_server.specs.Servers.{ServerValue, KeepsCounts, MayWithhold, TakesPeriodEnd, IsSameServer, one_more_tick}

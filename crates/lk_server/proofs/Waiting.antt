@@ -1,5 +1,5 @@
 -- What a server receives before a sync, with a pause if one is due.
-use Rattle.std.proofs.Common.{◌≡◌, List, ℕ, Option, Some, None, inl, inr, arith, sym, subst₂}
+use Rattle.std.proofs.Common.{◌≡◌, List, ℕ, Option, None, inl, inr, arith, sym, subst₂}
 use Rattle.std.specs.declared.net.socket_addr.SocketAddr.{SocketAddr}
 use Rattle.lk_transport.specs.Streams.{Stream, ComeWithin, first_of, listed}
 use Rattle.lk_transport.proofs.Streaming.{receives_next, come_one, come_more, come_wider}

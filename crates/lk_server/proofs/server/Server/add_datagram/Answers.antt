@@ -1,4 +1,4 @@
-use Rattle.std.proofs.Common.{rules, ◌≡◌, refl}
+use Rattle.std.proofs.Common.{rules, ◌≡◌}
 use Rattle.lk_address_book.specs.Arrivals.{sender}
 use Rattle.lk_server.specs.StepNotes.{nothing}
 use Rattle.lk_server.proofs.Carrying.{on_err}
@@ -44,7 +44,7 @@ returns-in_err-add_tick-clause-ends g c =
 pub returns-else-ticks_after-clause-notes : goal.returns-else-ticks_after-clause-notes
 returns-else-ticks_after-clause-notes g c =
     let r = g.R.ServerReplica in
-    notes_datagram r.Takes r.KeepsDigest r.HasStatus c.args.datagram (sender c.args.came.now) c.args.group.now
+    notes_datagram r.Takes r.KeepsDigest r.HasStatus c.args.datagram (sender c.args.arrival.now) c.args.group.now
     c.args.group.now c.add_input.new.group c.args.self.now c.args.self.now c.add_input.new.self _ _ c.requires nothing
     (search rules) (search rules) c.in_ok-add_input.ensures.takes c.add_input.ensures.notes
 
@@ -53,7 +53,7 @@ returns-in_ok-add_tick-clause-notes g c =
     let r = g.R.ServerReplica in
     notes_period r.Takes r.KeepsDigest r.HasStatus c.args.group.now c.add_input.new.group c.add_tick.new.group
     c.args.self.now c.add_input.new.self c.add_tick.new.self
-    (notes_datagram r.Takes r.KeepsDigest r.HasStatus c.args.datagram (sender c.args.came.now) c.args.group.now
+    (notes_datagram r.Takes r.KeepsDigest r.HasStatus c.args.datagram (sender c.args.arrival.now) c.args.group.now
     c.args.group.now c.add_input.new.group c.args.self.now c.args.self.now c.add_input.new.self _ _ c.requires nothing
     (search rules) (search rules) c.in_ok-add_input.ensures.takes c.add_input.ensures.notes)
     c.in_ok-add_tick.ensures.takes c.add_tick.ensures.notes

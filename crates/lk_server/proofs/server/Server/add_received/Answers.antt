@@ -26,7 +26,7 @@ returns-clause-adds g c = λ yes.
       apart,
       heard_one g.R.ServerReplica.Gathers (c.in-Some.from, c.in-Some.frame.now)
           (c.in-Some.from, c.of-viewed.result) c.args.group.now c.add_datagram.new.group c.args.self.now
-          c.record_sender-came.new.self c.add_datagram.new.self
+          c.record_sender-arrival.new.self c.add_datagram.new.self
           (search rules) apart (search rules) (search rules) (search rules) (search rules) (search rules)
           (search rules) (search rules) c.in_ok-add_datagram.ensures.adds,
     )
@@ -46,7 +46,7 @@ returns-in_err-add_datagram-clause-ends g c =
       apart,
       ends_heard g.R.ServerReplica.Says g.R.ServerReplica.Gathers (c.in-Some.from, c.in-Some.frame.now)
           (c.in-Some.from, c.of-viewed.result) c.args.group.now c.args.self.now
-          c.record_sender-came.new.self c.add_datagram.new.self
+          c.record_sender-arrival.new.self c.add_datagram.new.self
           (search rules) apart (search rules) (search rules) (search rules) (search rules) (search rules)
           (search rules) (search rules) c.in_err-add_datagram.ensures.ends,
     )
@@ -88,7 +88,7 @@ returns-then-drops-clause-notes g c =
 pub returns-clause-notes : goal.returns-clause-notes
 returns-clause-notes g c =
     let r = g.R.ServerReplica in
-    let s = c.record_sender-came in
+    let s = c.record_sender-arrival in
     notes_as r.Takes r.KeepsDigest r.HasStatus c.args.group.now c.add_datagram.new.group c.args.self.now s.new.self
     c.add_datagram.new.self c.add_datagram.new.self (ap (λ (s : ServerValue _). s.replica) s.ensures.others)
     (noted_heard c.args.self.now s.new.self s.ensures.others s.ensures.network) refl refl

@@ -1,4 +1,4 @@
-use Rattle.std.proofs.Common.{rules, ◌≡◌, ◌∷◌, [], ◌++◌, None, true, ap, inl, inr, refl, subst, sym}
+use Rattle.std.proofs.Common.{rules, ◌≡◌, ◌∷◌, [], ◌++◌, None, true, inl, inr, refl, subst, sym}
 use Rattle.lk_node_interface.specs.declared.input.Input.TheVariants.{Nudge}
 use Rattle.lk_node_interface.specs.declared.nudge_reason.NudgeReason.TheVariants.{Fed}
 use Rattle.lk_server.specs.StepNotes.{NotesInput, noted}
@@ -33,6 +33,15 @@ returns-clause-nudges g c =
         notes = subst (λ (s : ServerValue _). NotesInput r.KeepsDigest r.HasStatus None c.args.self.now.replica
             s.replica (noted c.args.self.now) (noted c.add_input-nudged.new.self)) (sym c.self-2.view_is)
             c.add_input-nudged.ensures.notes;
-        is = ap (λ (s : ServerValue _). noted s) c.self-2.view_is;
+        is = λ i. record {
+          digest = (c.self-2.view_is i).digest;
+          fed = c.none-self-inside.ensures i;
+          quiet = (c.self-2.view_is i).quiet;
+          ticks = (c.self-2.view_is i).ticks;
+          withheld = (c.self-2.view_is i).withheld;
+          cluster = (c.self-2.view_is i).cluster;
+          pace = (c.self-2.view_is i).pace;
+          deaf = (c.self-2.view_is i).addresses.deaf;
+        };
       },
     )) c.add_input-nudged.ensures.takes
