@@ -1,14 +1,16 @@
 #!/usr/bin/env python3
 """Kills nodes while clients ask, and looks whether a fence is given twice or an answer is lost.
 
-Usage: bench/kill.py [--times N] [--seconds S] [--dir FOLDER] [--program PATH]
+Usage: bench/kill.py [--times N] [--seconds S] [--together] [--sums] [--dir FOLDER] [--program PATH]
 
 Three nodes run as processes on loopback. Clients acquire and release the same few names for as long as the run lasts.
 Each node in turn is killed as by `kill -9` and started again on its folder, N times each (10 if not given), S seconds
-apart. In the end it prints how many requests were answered. It fails where a fence of a name was granted twice or out
-of order, where a request stayed without an answer, or where a repeated request had another answer.
+apart. With --together all nodes are killed at once. With --sums they have stores with sums. In the end it prints how
+many requests were answered. It fails where a fence of a name was granted twice or out of order, where a request stayed
+without an answer, or where a repeated request had another answer.
 """
 import argparse
+import contextlib
 import sys
 import tempfile
 import threading
@@ -74,13 +76,15 @@ def works(cluster, number, watch):
             watch.count()
 
 
-def kills(cluster, times, seconds):
-    """Kills each node in turn, and starts it again."""
-    for _ in range(times):
-        for node in cluster.ports:
-            time.sleep(seconds)
+def kills(cluster, times, seconds, together):
+    """Kills each node in turn, or all of them at once, and starts it again."""
+    groups = [[*cluster.ports]] if together else [[node] for node in cluster.ports]
+    for group in groups * times:
+        time.sleep(seconds)
+        for node in group:
             cluster.kill(node)
-            time.sleep(seconds / 2)
+        time.sleep(seconds / 2)
+        for node in group:
             cluster.start(node)
 
 
@@ -89,16 +93,20 @@ def main():
     parser.add_argument("--times", type=int, default=10, help="how often each node is killed, 10 if not given")
     parser.add_argument("--seconds", type=float, default=2.0, help="the seconds between two of that, 2 if not given")
     parser.add_argument("--clients", type=int, default=4, help="the clients, 4 if not given")
+    parser.add_argument("--together", action="store_true", help="all nodes are killed at once")
+    parser.add_argument("--sums", action="store_true", help="the nodes have stores with sums")
     parser.add_argument("--dir", help="where the folders of the nodes are made")
     parser.add_argument("--program", help="the built program; the wrapper builds it if none is given")
     args = parser.parse_args()
-    watch = Watch()
-    with tempfile.TemporaryDirectory(dir=args.dir) as folder, Cluster(built(args.program), folder) as cluster:
+    watch, options = Watch(), ["--sums"] * args.sums
+    with contextlib.ExitStack() as held:
+        folder = held.enter_context(tempfile.TemporaryDirectory(dir=args.dir))
+        cluster = held.enter_context(Cluster(built(args.program), folder, options=options))
         numbers = range(1, args.clients + 1)
         threads = [threading.Thread(target=works, args=(cluster, number, watch)) for number in numbers]
         for it in threads:
             it.start()
-        kills(cluster, args.times, args.seconds)
+        kills(cluster, args.times, args.seconds, args.together)
         watch.ended.set()
         for it in threads:
             it.join()

@@ -8,7 +8,7 @@ import unittest
 
 from harness.by_bytes import Node
 from harness.cluster import Cluster, free_ports
-from harness.summed import MAGIC, frames, one_before, pieces, written
+from harness.summed import MAGIC, entries, frames, one_before, pieces, written
 from locks_client import Client
 
 PROGRAM = os.environ.get("LOCKS_PROGRAM")
@@ -35,6 +35,15 @@ def ran(*words):
     piped = {"stdin": subprocess.DEVNULL, "capture_output": True, "text": True, "timeout": 60}
     run = subprocess.run([PROGRAM, *words], **piped)
     return run.returncode, run.stdout, run.stderr
+
+
+def decided(first, sizes):
+    """A Decided of node 1 from that position on, for commands with bodies of these sizes, and the entries of these."""
+    heads = [(7).to_bytes(2, "big") + number.to_bytes(8, "big") for number in range(first, first + len(sizes))]
+    commands = [b"\1" + head + bytes([0, size]) + bytes(size) for head, size in zip(heads, sizes)]
+    pairs = [b"\4" + at.to_bytes(8, "big") + it for at, it in enumerate(commands, first)]
+    datagram = bytes.fromhex("4c4b0106 0000000000000005 00000001") + first.to_bytes(8, "big") + bytes([len(sizes)])
+    return datagram + b"".join(commands), [len(it).to_bytes(4, "big") + it for it in pairs]
 
 
 def flipped(data, bit):
@@ -345,6 +354,8 @@ class NodesTest(Store):
                         cluster.start(1)
                         client.ask("db")
                         self.assertTrue(ran("dump", "--dir", folder)[1].endswith("format 2\n"))
+                # Its vote takes the decision before it into the file.
+                client.ask("db")
             self.assertEqual(last, sorted(set(last)))
             cluster.kill(1)
             told = ran("inspect", "--dir", folder)[1].splitlines()
@@ -372,9 +383,77 @@ class NodesTest(Store):
                 cluster.start(1)
                 goes_on_to(3)
                 self.assertEqual(ran("scrub", "--dir", folder)[0], 0)
+                client.ask("db")
             self.assertEqual(last, sorted(set(last)))
             cluster.kill(1)
             self.assertTrue(ran("inspect", "--dir", folder)[1].endswith(f"held db 7 {last[-1]}\n"))
+
+    def test_a_decision_shares_the_frame_of_the_next_vote(self):
+        with Cluster(PROGRAM, self.folder, nodes=1, alpha=2, options=("--sums",)) as cluster:
+            with cluster.client(Client, 7, patience=30.0) as client:
+                for _ in range(4):
+                    client.release("db", client.acquire("db"))
+            cluster.kill(1)
+            _, *rest = ([it[4] for it in entries(piece)] for piece in pieces("a", self.get("1/a")))
+            self.assertLessEqual({kinds[-1] for kinds in rest}, {2, 3}, "each ends with a promise or a vote")
+            self.assertGreaterEqual(sum(kinds.count(4) for kinds in rest), 7, "all decisions but the last one")
+
+    def test_a_flush_hands_over_4096_bytes(self):
+        for last, is_handed_over in ((19, False), (20, True)):
+            with Node(PROGRAM, self.folder, alpha=16) as node:
+                node.words = ("--sums",)
+                node.write(b"")
+                node.start()
+                learnt = []
+                for sizes in (16 * [64], 16 * [64], [*13 * [64], last]):
+                    learnt += self.learns(node, len(learnt) + 1, sizes)
+                self.assertEqual(sum(map(len, learnt)), 4076 + last)
+                held = [b"".join(learnt)] * is_handed_over
+                self.assertEqual(pieces("a", node.read("a"))[1:], held)
+                learnt += self.learns(node, 47, [1])
+                self.assertEqual(pieces("a", node.read("a"))[1:], held or [b"".join(learnt)])
+                # A sync takes what waits with it.
+                node.asked(node.bytes_of(PREPARE))
+                waited = b"".join(learnt[46:]) if held else b""
+                kept = [*(held or [b"".join(learnt)]), waited + node.bytes_of(PROMISED)]
+                self.assertEqual(pieces("a", node.read("a"))[1:], kept)
+
+    def learns(self, node, first, sizes):
+        """Has a node execute decided commands, and returns their entries. Then it has flushed its store."""
+        datagram, found = decided(first, sizes)
+        node.send(datagram)
+        executed = f"ran {first + len(sizes) - 1}\n"
+        while not (line := node.process.stderr.readline()).endswith(executed):
+            self.assertNotEqual(line, "")
+        return found
+
+    def test_killed_nodes_know_what_they_answered(self):
+        for nodes in (1, 3):
+            folder, options = self.enterContext(tempfile.TemporaryDirectory()), ("--sums", "--ticks", "clock")
+            with Cluster(PROGRAM, folder, nodes=nodes, alpha=2, options=options) as cluster:
+                self.assertEqual(self.said(cluster, 7, 1, "acquire db"), "granted 1\n")
+                self.assertEqual(self.said(cluster, 7, 2, "release db 1"), "released\n")
+                self.assertEqual(self.said(cluster, 7, 3, "acquire db"), "granted 2\n")
+                for node in cluster.ports:
+                    cluster.kill(node)
+                if nodes == 1:
+                    told = dict(it.split(" ", 1) for it in ran("dump", "--dir", f"{folder}/1")[1].splitlines())
+                    self.assertLess(int(told["decided"]), int(told["votes"]), "a decision waited in memory")
+                for node in cluster.ports:
+                    cluster.start(node)
+                self.assertEqual(self.said(cluster, 8, 1, "ask db"), "held 7 2\n")
+                self.assertEqual(self.said(cluster, 7, 3, "acquire db"), "granted 2\n", "the request is repeated")
+                self.assertEqual(self.said(cluster, 7, 4, "release db 2"), "released\n")
+                self.assertEqual(self.said(cluster, 7, 5, "acquire db"), "granted 3\n")
+
+    def said(self, cluster, client, number, words):
+        """What `locks ask` prints, asked again until it is answered."""
+        place = ("--cluster", "5", "--port", str(cluster.ports[1]), "--client", str(client), "--request", str(number))
+        for _ in range(10):
+            status, out, _ = ran("ask", *place, *words.split())
+            if status == 0:
+                return out
+        return ""
 
     def test_scrub_does_not_disturb_a_node(self):
         with Cluster(PROGRAM, self.folder, nodes=1, alpha=2, options=("--sums",)) as cluster:

@@ -1,4 +1,4 @@
-// A device with sums, over which appended bytes wait in memory: what a flush or a sync hands over is one frame.
+// A device with sums, over which appended bytes wait in memory: what a sync or a flush hands over is one frame.
 ghost use Rattle.std.specs.Prelude.{◌≡◌, IfOk, IfErr, OnOk, OnErr};
 ghost use Rattle.lk_disk.specs.Disk.{appended, one_more, other, HasCause};
 ghost use Rattle.lk_disk.specs.Meters.{fresh as fresh_meter};
@@ -14,8 +14,12 @@ use lk_disk::{DeviceFault, LogDisk, Side};
 use std::alloc::Global;
 use std::marker::Model;
 
-/// A device with sums that keeps appended bytes in memory, until `flush`, `sync`, `read_into` or `cut` hands them over
-/// in one append, which becomes one frame. It is honest if the device below is.
+/// A device with sums that keeps appended bytes in memory, until `sync`, `read_into` or `cut` hands them over in one
+/// append, which becomes one frame. A `flush` does so only if at least 4,096 bytes wait. It is honest if the device
+/// below is.
+///
+/// A kill of the process loses the bytes that wait, and leaves what was synced and a prefix of the rest, as a stop of
+/// the machine does. Of each side fewer than 4,096 bytes wait, and what was appended since the last flush or sync.
 ///
 /// After a failed hand-over or cut each call at that side fails. An append also fails if memory runs out.
 #[derive(Drop)]

@@ -1,10 +1,14 @@
 // Appended bytes of a file that wait in memory, and the calls that hand them over to the device below.
-ghost use Rattle.std.specs.Prelude.{◌≡◌, ◌≤◌, ◌<◌, ◌+◌, [], length, false, slice_range, IfOk, OnOk, OnErr};
+ghost use Rattle.std.specs.Prelude.{◌≡◌, ◌≤◌, ◌<◌, ◌+◌, [], length, false, slice_range, IsOk, IfOk, OnOk};
+ghost use Rattle.std.specs.Prelude.{OnErr};
 ghost use Rattle.lk_disk.specs.Disk.{contents, appended, fully_synced, cut_to, other, CutShort};
 ghost use Rattle.lk_summed_disk.specs.Waits.{gathered, Waits};
 
 use lk_disk::{DeviceFault, LogDisk, Side};
 use std::alloc::Global;
+
+// A flush leaves fewer bytes than these waiting.
+const FLUSH_THRESHOLD: usize = 4096;
 
 /// The bytes of a file that wait.
 #[derive(Drop)]
@@ -125,7 +129,8 @@ pub fn read_at<D: LogDisk>(
     device.read_into(side, offset, buffer)
 }
 
-/// Hands over what waits, and flushes.
+/// If at least 4,096 bytes wait, hands them over and flushes. Fewer go on waiting, and nothing is called. Fails after a
+/// failed call.
 pub fn flush_at<D: LogDisk>(
     device: &mut D,
     side: Side,
@@ -133,10 +138,25 @@ pub fn flush_at<D: LogDisk>(
 ) -> Result<(), DeviceFault>
     ensures same { D.is_honest → Waits waiting.old (D.disk device.old side)
         → gathered waiting.new (D.disk device.new side) ≡ gathered waiting.old (D.disk device.old side) }
+    // Fewer bytes go on waiting: nothing changes, and nothing fails.
+    ensures few { waiting.old.failed ≡ false → length waiting.old.bytes.items < 4096
+        → IsOk result × (waiting.new ≡ waiting.old) × (device.new ≡ device.old) }
+    // If there are more, the file below has them all afterwards.
+    ensures many { D.is_honest → Waits waiting.old (D.disk device.old side)
+        → 4096 ≤ length waiting.old.bytes.items
+        → OnOk result (D.disk device.new side ≡ gathered waiting.old (D.disk device.old side)) }
+    ensures bounded { OnOk result (length waiting.new.bytes.items < 4096) }
+    ensures goes_on { OnOk result (waiting.old.failed ≡ false) }
     ensures waits { D.is_honest → Waits waiting.old (D.disk device.old side)
         → Waits waiting.new (D.disk device.new side) }
     ensures beside { D.is_honest → D.disk device.new (other side) ≡ D.disk device.old (other side) }
 {
+    if waiting.failed {
+        return Err(DeviceFault);
+    }
+    if waiting.bytes.len() < FLUSH_THRESHOLD {
+        return Ok(());
+    }
     hand_over(device, side, waiting)?;
     device.flush(side)
 }
