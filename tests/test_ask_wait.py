@@ -96,6 +96,18 @@ class SentTest(unittest.TestCase):
             self.nodes[node].settimeout(SECONDS)
         return False
 
+    def kept(self, node, seconds):
+        """Keeps a place at that node for so many seconds. The numbers of the watches that come, and the requests."""
+        numbers, requests, end = [], [], time.monotonic() + seconds
+        while time.monotonic() < end:
+            data, client = self.nodes[node].recvfrom(9000)
+            if data[:2] == b"LK":
+                requests.append(data)
+            else:
+                numbers.append(TICKET.unpack(data[16:68])[1])
+                self.notice(node, client, data[16:68], HELD, 1)
+        return numbers, requests
+
     def test_a_grant_is_printed_and_nothing_else_sent(self):
         process = self.asks("acquire", "db")
         self.answer(0, self.request(0, 1), 1, "01 0000000000000003")
@@ -124,7 +136,7 @@ class SentTest(unittest.TestCase):
         self.notice(1, client, ticket, FREE, 1)
         start = time.monotonic()
         self.answer(1, self.request(1, 2), 2, "01 000000000000000a")
-        self.assertLess(time.monotonic() - start, 2.0)  # it asks for a kept place after three seconds
+        self.assertLess(time.monotonic() - start, 1.0)  # without a notice it would ask 1.7 s after the last one
         self.assertEqual(ended(process), (0, "granted 10\n", "last request 2\n"))
         self.assertTrue(self.silent(1, 0.2))
 
@@ -137,21 +149,39 @@ class SentTest(unittest.TestCase):
         self.notice(1, client, ticket, FREE, 2)
         self.request(1, 2)
 
-    def test_a_kept_place_is_watched_each_800_ms_and_asked_for_after_3_s(self):
+    def test_free_for_others_at_two_watches_and_the_same_place_is_asked_for(self):
+        self.asks("acquire", "db")
+        client = self.busy(0, 1, 9)
+        for place in (3, 2):
+            ticket, _ = self.watch(1)
+            self.notice(1, client, ticket, FREE, place)
+            self.assertTrue(self.silent(1, 0.4))
+        ticket, _ = self.watch(1)
+        self.notice(1, client, ticket, FREE, 2)
+        start = time.monotonic()
+        self.request(1, 2)
+        self.assertLess(time.monotonic() - start, 1.0)
+
+    def test_a_kept_place_is_watched_each_800_ms_and_not_asked_for(self):
         process = self.asks("acquire", "db")
-        client, start, numbers = self.busy(0, 1, 9), time.monotonic(), []
-        while True:
-            data, client = self.nodes[0].recvfrom(9000)
-            if data[:2] == b"LK":
-                break
-            numbers.append(TICKET.unpack(data[16:68])[1])
-            self.notice(0, client, data[16:68], HELD, 1)
-        self.assertEqual(int.from_bytes(data[18:26], "big"), 2)
-        self.assertGreater(time.monotonic() - start, 2.3)
-        self.assertIn(len(numbers), range(3, 7))
+        client = self.busy(0, 1, 9)
+        numbers, requests = self.kept(0, 5.0)
+        self.assertEqual(requests, [])
+        self.assertIn(len(numbers), range(5, 10))
         self.assertEqual(numbers, sorted(set(numbers)))
-        self.answer(0, client, 2, "0a")
+        ticket, _ = self.watch(0)
+        self.notice(0, client, ticket, FREE, 1)
+        self.answer(0, self.request(0, 2), 2, "0a")
         self.assertEqual(ended(process), (0, "bad\n", "last request 2\n"))
+
+    def test_a_kept_place_that_no_notice_keeps_is_asked_for_after_two_watches(self):
+        self.asks("acquire", "db")
+        self.busy(0, 1, 9)
+        self.kept(0, 2.0)
+        start = time.monotonic()
+        self.request(0, 2)
+        took = time.monotonic() - start
+        self.assertTrue(1.6 < took < 3.0, took)
 
     def test_other_notices_are_ignored(self):
         self.asks("acquire", "db")

@@ -147,7 +147,7 @@ func (c *Client) isQueued(name string) bool {
 	c.lock.Lock()
 	defer c.lock.Unlock()
 	it := c.waits[name]
-	return it != nil && it.waiter.IsQueued()
+	return it != nil && it.waiter.IsQueued(time.Now())
 }
 
 // wantNoWithdrawal says whether a wait was withdrawn until now.

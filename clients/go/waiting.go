@@ -71,7 +71,7 @@ func (c *Client) hear(came core.Datagram) bool {
 	if it == nil {
 		return true
 	}
-	isTo, leads := it.waiter.Hear(came)
+	isTo, leads := it.waiter.Hear(came, time.Now())
 	if isTo {
 		c.isUnheard = false
 		select {
@@ -107,7 +107,8 @@ func (w *waiting) yield(ctx context.Context) error {
 	return w.sleep(ctx)
 }
 
-// busy goes on with the wait after a request was answered Busy. It returns when to ask again if no notice comes.
+// busy goes on with the wait after a request was answered Busy. It returns after how long it asks again, if nodes go on
+// as they do.
 func (w *waiting) busy(fence uint64) time.Duration {
 	c := w.client
 	c.lock.Lock()
@@ -118,7 +119,7 @@ func (w *waiting) busy(fence uint64) time.Duration {
 	}
 	now := time.Now()
 	c.socket.send(w.waiter.Busy(now, fence))
-	return w.waiter.AsksAt().Sub(now)
+	return w.waiter.Pause(now)
 }
 
 // renew renews the watch until the wait ends, also while a request has no answer.

@@ -117,9 +117,10 @@ func TestANodeWithAFullQueueIsPolled(t *testing.T) {
 	wantOps(t, n, "ask db", "acquire db", "acquire db", "acquire db", "acquire db")
 }
 
-func TestALostNoticeCostsOnePoll(t *testing.T) {
+func TestAClientThatHearsNoMoreOfItsPlaceAsks(t *testing.T) {
 	n := fakeNode(t)
 	_, ended := n.inQueue(clientOf(t, nil, n))
+	n.whenWatched(nil)
 	n.only(granted)
 	select {
 	case err := <-ended:

@@ -2,8 +2,9 @@
 
 It sends a *watch* to every node that it knows. Each node keeps it in a queue, and the one that leads answers with a
 *notice*: the name is held, and this is the client's place; later, that it is free. Then the client asks at once. All
-this is a hint beside the protocol: a lost one, or a node that knows no watches, costs no more than time, since the
-client also asks at intervals. Where its caller wants no notices it sends no watch.
+this is a hint beside the protocol: a lost one, or a node that knows no watches, costs no more than time. Without
+notices that keep its place the client asks at intervals, and with them once a minute. Where its caller wants no notices
+it sends no watch.
 """
 import math
 from typing import TYPE_CHECKING
@@ -26,8 +27,9 @@ class Waiter:
     """The wait of one client for one lock.
 
     renew_at: when the next watch is due; infinity where none is. watch: the last one; empty before the first. kept_by:
-    the node that keeps a place for this client and leads, as it said last; that is believed until kept_until.
-    is_granted: whether the wait has ended so.
+    the node that keeps a place for this client and leads, as it said last; that is believed until kept_until. early:
+    the places with which nodes answered a watch last that the name is free, above 1. is_granted: whether the wait has
+    ended so.
     """
 
     def __init__(self, core: "Core", word: str, name: str) -> None:
@@ -38,6 +40,7 @@ class Waiter:
         self.answered = set[int]()  # the nodes that have answered the last watch
         self.is_granted = False
         self.kept_by, self.kept_until = 0, -math.inf
+        self.early = dict[int, int]()
         self.fence, self.was_told, self.misled = 0, False, 0
 
     def pause(self, fence: int, end: float) -> Plan[None]:
@@ -47,11 +50,11 @@ class Waiter:
             yield Sleep(max(0.0, min(polled, end - start)))
             return
         self.count_misled(fence)
-        longest = waits.scattered(waits.POLLS[-1])
+        with_place = waits.scattered(waits.WITH_PLACE)
         yield from self.send()
         while True:
             is_kept = self.core.clock() < self.kept_until and self.is_heeding()
-            due = min(end, start + (longest if is_kept else polled))
+            due = min(end, start + (with_place if is_kept else polled))
             if self.was_told or self.core.clock() >= due:
                 break
             yield from self.listen(min(due, self.kept_until) if is_kept else due)
@@ -120,11 +123,18 @@ class Waiter:
     def meant_by(self, notice: Notice) -> Notice:
         """What a notice means to this client. To it a name is held that is free for those who came before it: a node
         answers a watch so with a place above 1, and tells it later that its turn has come."""
-        is_answer = notice.node not in self.answered
+        if notice.node in self.answered:
+            return notice
         self.answered.add(notice.node)
-        if notice.news is News.FREE and notice.place > 1 and is_answer:
-            return notice._replace(news=News.HELD)
-        return notice
+        return notice._replace(news=News.HELD) if self.is_early(notice) else notice
+
+    def is_early(self, notice: Notice) -> bool:
+        """Whether the answer of a node to a watch says that the name is free for others. If it says so again at the
+        same place, what the node has told since is lost, and those who came before leave the name free."""
+        place = notice.place if notice.news is News.FREE and notice.place > 1 else 0
+        is_again = place == self.early.get(notice.node)
+        self.early[notice.node] = 0 if is_again else place
+        return place > 0 and not is_again
 
     def note(self, notice: Notice, port: Endpoint) -> None:
         """Remembers who leads, and who keeps a place for this client."""

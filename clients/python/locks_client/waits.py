@@ -6,6 +6,7 @@ from collections.abc import Iterator
 
 WAITS = (0.5, 1.0, 2.0, 4.0)  # seconds between two sends of the same bytes; the last one again and again
 POLLS = (0.05, 0.1, 0.2, 0.4, *[0.8] * 30, 1.6, 3.2)  # seconds between two requests for a lock that one holder keeps
+WITH_PLACE = 60.0  # the same while a node keeps the client's place: it tells when the lock is free
 SCATTER = (0.75, 1.25)  # what a wait is multiplied by, at random
 
 

@@ -50,8 +50,13 @@ class WaiterTest(WaiterCase):
         waiter = self.waits(2, 0.1)
         self.sim.run(20.0)
         self.assertLess(self.sim.free()[0], 3 * ROUND_TRIP)
-        polls = [at for at in self.requests(waiter) if 0.1 < at < 5.0]
-        self.assertLessEqual(len(polls), 3)  # the first, and one each 3.2 seconds
+        self.assertEqual(len([at for at in self.requests(waiter) if at < 5.0]), 1)
+
+    def test_a_client_whose_place_is_kept_asks_once_a_minute(self):
+        self.waits(1, 0.0, hold=200.0)
+        waiter = self.waits(2, 0.1)
+        self.sim.run(300.0)
+        self.assertEqual([round(at, 1) for at in self.requests(waiter)], [0.1, 60.1, 120.1, 180.1, 200.0, 200.1])
 
     def test_those_who_wait_are_served_in_turn(self):
         self.waits(1, 0.0, hold=2.0)
@@ -143,12 +148,30 @@ class WaiterTest(WaiterCase):
         self.sim.run(20.0)
         self.assertLessEqual(self.sim.free()[0], PERIOD + 3 * ROUND_TRIP)
 
-    def test_a_node_that_keeps_a_place_and_tells_nobody_is_asked_after_some_seconds(self):
+    def test_a_client_that_hears_no_more_of_its_place_asks_after_two_watches(self):
         self.waits(1, 0.0, hold=4.0)
         waiter = self.waits(2, 0.1)
         self.sim.is_lost = lambda data, is_request: data[:2] == b"LW" and not is_request and data[68] == 1
         self.sim.run(20.0)
-        self.assertEqual([round(at, 1) for at in self.requests(waiter)[:3]], [0.1, 3.3, 5.0])
+        self.assertEqual([round(at, 1) for at in self.requests(waiter)[:2]], [0.1, 5.0])  # it was last told at 3.3
+
+    def test_a_client_whose_turn_was_told_in_vain_asks_after_two_watches(self):
+        """It shares a lock, and one that waits for it alone comes before. Only answers to its watches arrive."""
+        self.hold_by_another()
+        self.waits(2, 0.1)
+        sharer, answered = self.waits(3, 0.2, word="share"), set()
+
+        def is_lost(data, is_request):
+            is_told = data[:4] == b"LW\x01\x0a" and data[12:68] in answered
+            answered.add(data[12:68])
+            return is_told
+
+        self.sim.is_lost = is_lost
+        self.sim.at(0.5, lambda: self.sim.table.holders.update(db=[9]))
+        self.sim.at(0.5, lambda: self.sim.table.fences.update(db=2))
+        self.sim.at(0.5, self.sim.executed)
+        self.sim.run(5.0)
+        self.assertEqual([round(at, 1) for at in self.requests(sharer)[:2]], [0.2, 1.8])
 
     def test_each_dead_waiter_costs_one_period_at_most(self):
         self.waits(1, 0.0, hold=2.0)
@@ -402,6 +425,26 @@ class NoticeTest(unittest.TestCase):
             self.notice()
             news = [self.taken(self.saying(News.FREE, place), 7001).news for _ in range(2)]
             self.assertEqual(news, [first, News.FREE])
+
+    def test_answers_that_a_lock_is_free_for_others_count_as_free_at_the_same_place(self):
+        free, held = News.FREE, News.HELD
+        for answers, meant in (
+            ([(free, 3), (free, 3), (free, 3), (free, 3)], [held, free, held, free]),
+            ([(free, 3), (free, 2), (free, 2)], [held, held, free]),
+            ([(free, 3), (held, 3), (free, 3), (free, 3)], [held, held, held, free]),
+        ):
+            self.waiter = Waiter(self.core, "acquire", "db")
+            found = []
+            for answer in answers:
+                self.assertTrue(list(self.waiter.send()))
+                found.append(self.taken(self.saying(*answer), 7001).news)
+            self.assertEqual(found, meant)
+
+    def test_each_node_is_believed_by_itself_that_a_lock_is_free_for_others(self):
+        for node in (1, 2, 1):
+            self.assertTrue(list(self.waiter.send()))
+            news = self.taken(self.saying(News.FREE, 3, node), 7001).news
+        self.assertEqual(news, News.FREE)
 
     def test_a_leader_that_was_not_given_is_watched_too(self):
         self.core.leader = 7003

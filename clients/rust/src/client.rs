@@ -251,9 +251,9 @@ impl Client {
     /// none, this resumes it. Any other open request is [`Error::Unanswered`].
     ///
     /// Nodes that know watches say when the lock is free, in the order in which clients came, and it
-    /// asks then. Between two requests it waits up to four seconds while a node has put it in its
-    /// queue. Otherwise it waits 50 ms at first, and then longer, at most a second. It begins anew where
-    /// the fence has changed, and waits up to four seconds where it stays for longer than half a minute.
+    /// asks then. Between two requests it waits about a minute while a node has put it in its queue.
+    /// Otherwise it waits 50 ms at first, and then longer, at most a second. It begins anew where the
+    /// fence has changed, and waits up to four seconds where it stays for longer than half a minute.
     /// [`Client::set_notices`] makes it send no watches.
     ///
     #[doc = asks_a_node!()]

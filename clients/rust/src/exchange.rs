@@ -224,7 +224,7 @@ impl Session {
     /// sent.
     pub fn take(&mut self, datagram: &[u8], from: SocketAddr, now: Instant) {
         if is_notice(datagram) {
-            return self.hear(datagram, from);
+            return self.hear(datagram, from, now);
         }
         let Some(mut exchange) = self.exchange.take() else {
             return;

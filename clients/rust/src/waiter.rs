@@ -1,7 +1,7 @@
 //! A wait for a lock between two requests for it.
 
-use crate::ticket::{News, Ticket};
-use crate::waits::{BusyWaits, long_wait};
+use crate::ticket::{News, Notice, Ticket};
+use crate::waits::{BusyWaits, wait_with_place};
 use std::net::SocketAddr;
 use std::time::{Duration, Instant};
 
@@ -9,6 +9,8 @@ use std::time::{Duration, Instant};
 const PERIODS: u8 = 20;
 /// The interval between two watches.
 const RENEWAL: Duration = Duration::from_millis(800);
+/// How long a node is believed to keep a place for the client: until two watches have no answer.
+const BELIEF: Duration = Duration::from_millis(1700);
 /// How long a node may take to answer a watch.
 const ANSWER_TIME: Duration = Duration::from_millis(400);
 /// After that many watches in a row without an answer a node is gone.
@@ -27,8 +29,10 @@ struct Post {
     is_open: bool,
     // watches that it did not answer, since its last notice
     silent: u32,
-    // whether its last notice said that the client has a place in its queue
-    is_queued: bool,
+    // until when it keeps a place for the client, as its last notice said
+    kept_until: Option<Instant>,
+    // the place with which its last answer to a watch said that the lock is free for others, or 0
+    early: u16,
 }
 
 impl Post {
@@ -38,12 +42,34 @@ impl Post {
             is_asked: false,
             is_open: false,
             silent: 0,
-            is_queued: false,
+            kept_until: None,
+            early: 0,
         }
     }
 
     fn is_gone(&self) -> bool {
         self.silent >= MOST_SILENT
+    }
+
+    /// Takes its notice. Returns whether that says that the lock is free for the client.
+    fn hear(&mut self, notice: &Notice, now: Instant) -> bool {
+        let is_early = self.is_open && self.is_early(notice);
+        (self.silent, self.is_open) = (0, false);
+        let is_kept = notice.news != News::NotHere && notice.place > 0;
+        self.kept_until = is_kept.then(|| now + BELIEF);
+        notice.news == News::Free && !is_early
+    }
+
+    /// Whether its answer to a watch says that the lock is free for those who came before the client.
+    /// To the client the lock is then held: the node says later that its turn has come. If the node
+    /// gives this answer again at the same place, what it has said since is lost, and those who came
+    /// before leave the lock free.
+    fn is_early(&mut self, notice: &Notice) -> bool {
+        let is_free = notice.news == News::Free && notice.place > 1;
+        let place = if is_free { notice.place } else { 0 };
+        let is_again = place == self.early;
+        self.early = if is_again { 0 } else { place };
+        place > 0 && !is_again
     }
 }
 
@@ -52,9 +78,10 @@ pub(crate) type Sends = Vec<(Vec<u8>, SocketAddr)>;
 
 /// A wait for a lock that another client holds. It sends watches to the nodes and says when to ask
 /// again: at once after a notice that the lock is free, otherwise after the wait of [`BusyWaits`], or
-/// after a long one while the client has a place in the queue of a node.
+/// after a minute while the client has a place in the queue of a node.
 ///
-/// A notice can only bring a request forward. So whatever is lost, late or forged costs time alone.
+/// A notice brings a request forward, or puts it off. So whatever is lost, late or forged costs time
+/// alone.
 #[derive(Debug)]
 pub(crate) struct Waiter {
     // of the last watch
@@ -66,7 +93,7 @@ pub(crate) struct Waiter {
     busy_at: Instant,
     // from `busy_at` to the next request, and the same with a place in a queue
     pause: Duration,
-    long_pause: Duration,
+    pause_with_place: Duration,
     // whether a notice to the last watch said so, and no request has followed it
     is_free: bool,
     // whether the last request followed such a notice
@@ -86,7 +113,7 @@ impl Waiter {
             watched_at: now,
             busy_at: now,
             pause: Duration::ZERO,
-            long_pause: Duration::ZERO,
+            pause_with_place: Duration::ZERO,
             is_free: false,
             is_told: false,
             misled: 0,
@@ -126,18 +153,23 @@ impl Waiter {
         self.watch(now)
     }
 
-    /// How long it waits after the last Busy if no notice comes.
-    pub(crate) fn pause(&self) -> Duration {
-        let is_queued = self.posts.iter().any(|post| post.is_queued);
-        match is_queued && !self.is_misled() {
-            true => self.pause.max(self.long_pause),
+    /// How long it waits after a Busy that came now, if nodes go on as they do.
+    pub(crate) fn pause(&self, now: Instant) -> Duration {
+        match self.kept_until().is_some_and(|until| now < until) {
+            true => self.pause_with_place,
             false => self.pause,
         }
     }
 
+    /// Until when a node keeps a place for the client, as far as notices are followed.
+    fn kept_until(&self) -> Option<Instant> {
+        let kept = self.posts.iter().filter_map(|post| post.kept_until).max();
+        kept.filter(|_| !self.is_misled())
+    }
+
     fn wait(&mut self, now: Instant, fence: u64) {
         (self.ticket.fence, self.busy_at) = (fence, now);
-        (self.pause, self.long_pause) = (self.waits.after(fence), long_wait());
+        (self.pause, self.pause_with_place) = (self.waits.after(fence), wait_with_place());
     }
 
     fn is_misled(&self) -> bool {
@@ -155,7 +187,6 @@ impl Waiter {
         let mut sends = Vec::new();
         for post in &mut self.posts {
             post.silent += u32::from(post.is_open && is_late);
-            post.is_queued &= !post.is_gone();
             post.is_open = is_try || !post.is_gone();
             if post.is_open {
                 post.is_asked = true;
@@ -187,6 +218,7 @@ impl Waiter {
         datagram: &[u8],
         from: SocketAddr,
         is_sealed: bool,
+        now: Instant,
     ) -> Option<bool> {
         let is_misled = self.is_misled();
         let post = self.posts.iter_mut().find(|post| post.address == from);
@@ -196,23 +228,24 @@ impl Waiter {
         }
         let notice = self.ticket.notice(datagram)?;
         let leads = notice.news != News::NotHere;
-        // To this client a name is held that is free for those who came before it: a node answers a
-        // watch so with a place above 1, and tells it later that its turn has come.
-        let is_early = notice.place > 1 && post.as_ref().is_some_and(|post| post.is_open);
-        if let Some(post) = post {
-            (post.silent, post.is_open) = (0, false);
-            post.is_queued = leads && notice.place > 0;
-        }
-        let is_free = notice.news == News::Free && !is_early;
+        let is_free = match post {
+            Some(post) => post.hear(&notice, now),
+            None => notice.news == News::Free,
+        };
         self.is_free |= is_free && !self.is_told && !is_misled;
         Some(leads && is_known)
     }
 
-    /// When to ask for the lock again, unless a notice comes before.
+    /// When to ask for the lock again, unless a notice comes before. As long as a node keeps a place,
+    /// each of its notices puts that off, up to the pause with a place.
     pub(crate) fn asks_at(&self) -> Instant {
-        match self.is_free {
-            true => self.busy_at,
-            false => self.busy_at + self.pause(),
+        if self.is_free {
+            return self.busy_at;
+        }
+        let asks = self.busy_at + self.pause;
+        match self.kept_until() {
+            Some(until) => asks.max(until.min(self.busy_at + self.pause_with_place)),
+            None => asks,
         }
     }
 

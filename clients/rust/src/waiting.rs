@@ -230,7 +230,7 @@ impl Session {
                 wait.waiter.set_nodes(self.watched());
                 let sends = wait.waiter.busy(now, *fence);
                 self.send_watches(sends, &wait);
-                self.tell_waiting(&done, wait.waiter.pause());
+                self.tell_waiting(&done, wait.waiter.pause(now));
                 self.waiting.wait = Some(wait);
                 return self.step(now);
             }
@@ -258,10 +258,10 @@ impl Session {
     }
 
     /// Takes what may be a notice. An open request goes to a node that leads, as it says.
-    pub(crate) fn hear(&mut self, datagram: &[u8], from: SocketAddr) {
+    pub(crate) fn hear(&mut self, datagram: &[u8], from: SocketAddr, now: Instant) {
         let is_sealed = self.seals.keys.is_some();
         let heard = match (&mut self.waiting.wait, self.seals.opened(datagram)) {
-            (Some(wait), Some(opened)) => wait.waiter.hear(opened, from, is_sealed),
+            (Some(wait), Some(opened)) => wait.waiter.hear(opened, from, is_sealed, now),
             _ => None,
         };
         let Some(leads) = heard else { return };

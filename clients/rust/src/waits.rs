@@ -22,6 +22,8 @@ const BUSY_STEPS: [Duration; 5] = [
 /// How many steps one holder is waited for like that, about half a minute, and how long after them.
 const LONG_AFTER: usize = 34;
 const LONG: Duration = Duration::from_millis(3200);
+/// How long a client waits that has a place in the queue of a node, which tells it when to ask.
+const WITH_PLACE: Duration = Duration::from_secs(60);
 
 /// Waits between two sends of a request: 0.5, 1, 2, 4, 4, .. seconds, each times a random 0.75 to
 /// 1.25, so that clients do not ask in step.
@@ -71,8 +73,8 @@ pub(crate) fn scattered(wait: Duration) -> Duration {
 }
 
 /// The wait of a client that has a place in the queue of a node.
-pub(crate) fn long_wait() -> Duration {
-    scattered(LONG)
+pub(crate) fn wait_with_place() -> Duration {
+    scattered(WITH_PLACE)
 }
 
 impl Iterator for Waits {

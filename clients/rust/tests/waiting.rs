@@ -150,7 +150,7 @@ fn a_lock_is_asked_for_at_once_after_a_notice() {
 }
 
 #[test]
-fn in_a_queue_watches_are_renewed_and_the_lock_is_seldom_asked_for() {
+fn in_a_queue_watches_are_renewed() {
     let (mut timed, mut last) = Timed::waiting();
     let start = timed.now;
     for turn in 1..=2 {
@@ -166,6 +166,34 @@ fn in_a_queue_watches_are_renewed_and_the_lock_is_seldom_asked_for() {
         assert_eq!(watch(&next).0, watch(&last).0 + 1);
         last = next;
     }
+}
+
+#[test]
+fn in_a_queue_the_lock_is_asked_for_once_a_minute() {
+    let (mut timed, mut last) = Timed::waiting();
+    let (start, mut asked) = (timed.now, Vec::new());
+    while timed.now < start + ms(100_000) {
+        for (port, news) in [(PORTS[0], HELD), (PORTS[1], 3)] {
+            let heard = notice(&last, news, 1);
+            timed.session.take(&heard, at(port), timed.now);
+        }
+        timed.now = timed.until();
+        let (bytes, to) = timed.sent();
+        if is_watch(&bytes) {
+            timed.sent(); // to the other node
+            last = bytes;
+            continue;
+        }
+        asked.push(timed.now - start);
+        timed.session.take(&answer(3, BUSY), to, timed.now);
+        last = timed.watches();
+    }
+    assert!(asked.len() == 1 && asked[0] >= ms(45_000) && asked[0] <= ms(75_000));
+    timed
+        .session
+        .take(&notice(&last, FREE_NOW, 1), at(PORTS[0]), timed.now);
+    timed.answer(answer(4, GRANTED));
+    assert_eq!(timed.done().unwrap(), Answer::Granted(1));
 }
 
 #[test]
@@ -518,7 +546,7 @@ fn a_client_takes_a_lock_at_once_when_a_notice_comes() {
     let start = Instant::now();
     let lock = client.lock("db", Duration::MAX).unwrap();
     let took = start.elapsed();
-    assert!((ms(1_000)..ms(2_300)).contains(&took), "{took:?}"); // a poll comes after 2.4 s
+    assert!((ms(1_000)..ms(2_300)).contains(&took), "{took:?}"); // the notice comes after 1 s
     std::mem::forget(lock);
     assert!(watches.try_iter().all(|watch| watch[68] > 0)); // no withdrawal
 }

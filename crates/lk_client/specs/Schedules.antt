@@ -43,7 +43,7 @@ counted fence s = record s {
   is_told = false;
 }
 
--- and then the client watches at once, and asks again after a while
+-- and then the client watches at once, and asks again after a while, or after a minute if a node keeps a place for it
 pub record FollowsBusy (fence now : ℕ) (old new : Schedule) : Type 0 where
   pub same : new ≡ record (counted fence old) {
     without_place = new.without_place;
@@ -51,7 +51,7 @@ pub record FollowsBusy (fence now : ℕ) (old new : Schedule) : Type 0 where
     watch_at = now;
   }
   pub without_place : IsScattered now (interval (counted fence old).count) new.without_place
-  pub with_place : IsScattered now 3200 new.with_place
+  pub with_place : IsScattered now 60000 new.with_place
 
 -- it is the node that keeps a place
 abbrev pub is_keeper : Option ℕ → ℕ → Bool

@@ -58,6 +58,6 @@ GoesAfter NotHere source old new = new ≡ old
 
 -- a notice from there: what it says to the client changes whom it asks next, and when
 pub record Notes (n : Notice) (source : SocketAddr) (now : ℕ) (old new : Waiter) : Type 0 where
-  pub is_first : Bool
-  pub asked : GoesAfter (news_to is_first n) source old.asked new.asked
-  pub schedule : new.schedule ≡ told n.node (news_to is_first n) n.place now old.schedule
+  pub is_early : Bool
+  pub asked : GoesAfter (news_to is_early n) source old.asked new.asked
+  pub schedule : new.schedule ≡ told n.node (news_to is_early n) n.place now old.schedule

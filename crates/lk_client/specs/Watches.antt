@@ -1,5 +1,6 @@
 -- What a client sends to watch a lock, to whom, and which notices answer it.
-use Rattle.std.specs.Prelude.{◌≡◌, ◌+◌, min, ◌%◌, ◌==◌, ◌||◌, ◌&&◌, ℕ, Bool, nat_lt, List, [], ◌∷◌, ◌++◌, if◌then◌else◌}
+use Rattle.std.specs.Prelude.{◌≡◌, ◌+◌, min, ◌%◌, ◌==◌, ◌||◌, ◌&&◌, ℕ, Bool, false, not, nat_lt, List, [], ◌∷◌}
+use Rattle.std.specs.Prelude.{◌++◌, Option, None, Some, if◌then◌else◌}
 use Rattle.std.specs.declared.net.socket_addr.SocketAddr.{SocketAddr}
 use Rattle.lk_auth.specs.Seals.{key_list, framed_by, replied}
 use Rattle.lk_auth.specs.Seals as seals
@@ -11,6 +12,7 @@ use Rattle.lk_watch.specs.declared.notice.News.{News}
 use Rattle.lk_watch.specs.declared.notice.News.TheVariants.{Free, Held, NotHere}
 use Rattle.lk_client.specs.Questions.{Endpoint, SendsEach}
 use Rattle.lk_client.specs.declared.notices.WatchedPlace.{WatchedPlace}
+use Rattle.lk_client.specs.declared.watcher.EarlyAnswer.{EarlyAnswer}
 
 -- the bytes to send for a watch: its spelling, in a frame of its client if there is a key
 abbrev pub IsWatched : AskerSeals → Watch → List ℕ → Type 0
@@ -55,11 +57,37 @@ abbrev pub IsNoticeTo : AskerSeals → Watch → List ℕ → Notice → Type 0
 IsNoticeTo s w bytes n =
     SpellsNotice n (replied (key_list s.keys) s.cluster w.ticket.client bytes) × IsAnswerTo w n
 
--- what a notice says to the client: a name that is free with a place above 1 is held, if its node says that first
+-- ---- what a notice says to the client
+
+-- it says that the name is free for those who came before
+abbrev pub says_early : News → ℕ → Bool
+says_early Free place = nat_lt 1 place
+says_early Held place = false
+says_early NotHere place = false
+
+-- it repeats the last early answer of its node
+abbrev pub is_again : Notice → Option EarlyAnswer → Bool
+is_again n None = false
+is_again n (Some early) = early.node == n.node && early.place == n.place
+
+-- an answer to a watch is early if it says so, and is not such a repetition
+abbrev pub is_early : Notice → Option EarlyAnswer → Bool
+is_early n early = says_early n.news n.place && not (is_again n early)
+
+-- the last early answer, unless it is one of that node
+abbrev pub forgotten : ℕ → Option EarlyAnswer → Option EarlyAnswer
+forgotten node None = None
+forgotten node (Some early) = if early.node == node then None else Some early
+
+-- the last early answer after this answer
+abbrev pub noted : Notice → Option EarlyAnswer → Option EarlyAnswer
+noted n early = if is_early n early then Some (record { node = n.node; place = n.place }) else forgotten n.node early
+
+-- a name that is free with a place above 1 is held, if an early answer says so
 abbrev pub news_at : Bool → ℕ → News → News
-news_at is_first place Free = if is_first && nat_lt 1 place then Held else Free
-news_at is_first place Held = Held
-news_at is_first place NotHere = NotHere
+news_at is_early place Free = if is_early && nat_lt 1 place then Held else Free
+news_at is_early place Held = Held
+news_at is_early place NotHere = NotHere
 
 abbrev pub news_to : Bool → Notice → News
-news_to is_first n = news_at is_first n.place n.news
+news_to is_early n = news_at is_early n.place n.news

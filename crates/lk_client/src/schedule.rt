@@ -14,8 +14,11 @@ const RENEWAL: u64 = 800_000;
 // How long it is believed that a node keeps a place: until two watches had no answer.
 const BELIEF: u64 = 1_700_000;
 
-// The longest time between two requests, in milliseconds.
+// The longest time between two requests while no node keeps a place, in milliseconds.
 const LONGEST: u64 = 3200;
+
+// The time between two requests while a node keeps a place, in milliseconds: it says when the lock is free.
+const WITH_PLACE: u64 = 60_000;
 
 // After so many notices in turn that wrongly said that the lock is free, none is followed at that fence.
 const MISLED: u32 = 2;
@@ -40,7 +43,7 @@ fn millis_after(count: u32) -> u64
 // Returns so many milliseconds in microseconds, times 0.75 to 1.25 by the last digits of the clock, so that clients do
 // not ask in step.
 fn scattered(millis: u64, now: u64) -> u64
-    requires { millis ≤ 3200 }
+    requires { millis ≤ 60000 }
     ensures least { millis * 750 ≤ result }
     ensures most { result ≤ millis * 1250 }
 {
@@ -103,7 +106,7 @@ impl Schedule {
     {
         self.count_fence(fence);
         self.without_place = now.saturating_add(scattered(millis_after(self.count), now));
-        self.with_place = now.saturating_add(scattered(LONGEST, now));
+        self.with_place = now.saturating_add(scattered(WITH_PLACE, now));
         self.watch_at = now;
     }
 

@@ -1,7 +1,8 @@
 // The watches of a client: whom it sends them to, and what their notices say.
 
 ghost use Rattle.std.specs.Prelude.{◌≡◌, Bool, IfOk, IfErr, IfSome, OnErr};
-ghost use Rattle.lk_client.specs.Watches.{IsNoticeTo, Watches, news_to, next_watch, with_fence};
+ghost use Rattle.lk_client.specs.Watches.{IsNoticeTo, Watches, forgotten, is_again, is_early, news_to, next_watch};
+ghost use Rattle.lk_client.specs.Watches.{noted, with_fence};
 
 use crate::destination::Place;
 use crate::notices::{WatchedPlace, notice_to, send_watch};
@@ -13,6 +14,13 @@ use lk_watch::{News, Notice, Watch};
 use std::alloc::{AllocError, Global};
 use std::net::SocketAddr;
 
+// An answer to a watch that the name is free for those who came before the client, and the client's place.
+#[derive(Clone, Copy, PartialEq, Eq)]
+struct EarlyAnswer {
+    node: NodeNo,
+    place: u16,
+}
+
 /// The watches of a client for one lock.
 #[derive(Drop)]
 pub(crate) struct Watcher {
@@ -23,6 +31,8 @@ pub(crate) struct Watcher {
     named: usize,
     // the nodes that have answered the last watch
     answered: Vec<NodeNo>,
+    // the last early answer, until its node gives another one
+    early: Option<EarlyAnswer>,
 }
 
 // Whether one of the places is this source.
@@ -48,14 +58,24 @@ fn note_answer(source: SocketAddr, places: &mut [WatchedPlace]) {
     }
 }
 
-// Returns what a notice says to the client. A name that is free for those before it is held, if a node says that first:
-// it says later that the client's turn has come.
-fn news_to(notice: &Notice, is_first: bool) -> News
-    ensures { result ≡ news_to is_first notice.now }
+// Returns what a notice says to the client. To it a name is held that an early answer says to be free: the node says
+// later that the client's turn has come.
+fn news_to(notice: &Notice, is_early: bool) -> News
+    ensures { result ≡ news_to is_early notice.now }
 {
     match notice.news {
-        News::Free if is_first && notice.place > 1 => News::Held,
+        News::Free if is_early && notice.place > 1 => News::Held,
         news => news,
+    }
+}
+
+// Returns the last early answer, unless it is one of that node.
+fn forgotten(early: Option<EarlyAnswer>, node: NodeNo) -> Option<EarlyAnswer>
+    ensures { result ≡ forgotten node early }
+{
+    match early {
+        Some(answer) if answer.node == node => None,
+        other => other,
     }
 }
 
@@ -77,6 +97,7 @@ impl Watcher {
             named: places.len(),
             places,
             answered: Vec::new(alloc),
+            early: None,
         })
     }
 
@@ -144,13 +165,43 @@ impl Watcher {
         true
     }
 
+    // Whether a notice repeats the last early answer of its node.
+    fn is_again(&self, notice: &Notice) -> bool
+        ensures { result ≡ is_again notice.now self.now.early }
+    {
+        match self.early {
+            Some(early) => early.node == notice.node && early.place == notice.place,
+            None => false,
+        }
+    }
+
+    // Notes the answer of a node to the last watch. Returns whether it is early, so whether it says that the name is
+    // free for those who came before the client. If a node says so again at the same place, what it has said since is
+    // lost, and those who came before leave the name free.
+    fn note_early(&mut self, answer: &Notice) -> bool
+        ensures value { result ≡ is_early answer.now self.old.early }
+        ensures notes { self.new ≡ record self.old { early = noted answer.now self.old.early } }
+    {
+        let is_again = self.is_again(answer);
+        let is_early = answer.news == News::Free && answer.place > 1 && !is_again;
+        self.early = if is_early {
+            Some(EarlyAnswer {
+                node: answer.node,
+                place: answer.place,
+            })
+        } else {
+            forgotten(self.early, answer.node)
+        };
+        is_early
+    }
+
     /// Returns what a notice that was read says to the client.
     pub(crate) fn news_in(&mut self, notice: &Notice) -> News
-        ensures news { (is_first : Bool) × (result ≡ news_to is_first notice.now) }
+        ensures news { (is_early : Bool) × (result ≡ news_to is_early notice.now) }
         ensures watch { self.new.watch ≡ self.old.watch }
     {
-        let is_first = self.add_answer(notice.node);
-        news_to(notice, is_first)
+        let is_early = self.add_answer(notice.node) && self.note_early(notice);
+        news_to(notice, is_early)
     }
 
     /// Sends the next watches to this place too, at which a node answered last, in place of the last such. If it is out

@@ -12,6 +12,8 @@ const (
 	watchPeriods = 20
 	// renewal is how often a watch is sent again.
 	renewal = 800 * time.Millisecond
+	// belief is how long a node is believed to keep a place for the client: until two watches have no answer.
+	belief = 1700 * time.Millisecond
 	// answerTime is how long a node may take to answer a watch.
 	answerTime = renewal / 2
 	// mostSilent is how many watches in a row a node may leave unanswered. After that it is gone.
@@ -24,20 +26,47 @@ const (
 
 // A post is a node to which watches are sent.
 type post struct {
-	address  netip.AddrPort
-	isAsked  bool // a watch was sent to it
-	isOpen   bool // it has not answered the last one
-	silent   int  // watches that it did not answer, since its last notice
-	isQueued bool // its last notice said that the client has a place in its queue
+	address   netip.AddrPort
+	isAsked   bool      // a watch was sent to it
+	isOpen    bool      // it has not answered the last one
+	silent    int       // watches that it did not answer, since its last notice
+	keptUntil time.Time // until then it keeps a place for the client, as its last notice said
+	early     uint16    // the place with which its last answer to a watch said that the lock is free for others, or 0
 }
 
 func (p *post) isGone() bool { return p.silent >= mostSilent }
 
+// hear takes a notice of the node. It reports whether that says that the lock is free for the client.
+func (p *post) hear(notice wire.Notice, now time.Time) bool {
+	isEarly := p.isOpen && p.isEarly(notice)
+	p.silent, p.isOpen, p.keptUntil = 0, false, time.Time{}
+	if notice.News != wire.NewsNotHere && notice.Place > 0 {
+		p.keptUntil = now.Add(belief)
+	}
+	return notice.News == wire.NewsFree && !isEarly
+}
+
+// isEarly reports whether an answer to a watch says that the lock is free for those who came before the client. To the
+// client the lock is then held: the node says later that its turn has come. If the node gives this answer again at the
+// same place, what it has said since is lost, and those who came before leave the lock free.
+func (p *post) isEarly(notice wire.Notice) bool {
+	place := uint16(0)
+	if notice.News == wire.NewsFree && notice.Place > 1 {
+		place = notice.Place
+	}
+	isAgain := place == p.early
+	p.early = place
+	if isAgain {
+		p.early = 0
+	}
+	return place > 0 && !isAgain
+}
+
 // A Waiter is one wait for a lock that another client holds. It sends watches to the nodes, and says when to ask again:
-// at once after a notice that the lock is free, otherwise after the wait of Polls, or after a long one while the client
+// at once after a notice that the lock is free, otherwise after the wait of Polls, or after a minute while the client
 // has a place in the queue of a node.
 //
-// A notice can only bring a request forward. So whatever is lost, late or forged costs time alone.
+// A notice brings a request forward, or puts it off. So whatever is lost, late or forged costs time alone.
 type Waiter struct {
 	seals  wire.Seals
 	ticket wire.Ticket   // of the last watch
@@ -45,14 +74,14 @@ type Waiter struct {
 	posts  []post
 	polls  Polls
 
-	watches   int
-	watchedAt time.Time // when the last watch was sent
-	busyAt    time.Time
-	poll      time.Duration // from busyAt to the next request
-	longPoll  time.Duration // the same with a place in a queue
-	isFree    bool          // a notice to the last watch said so, and no request has followed it
-	isTold    bool          // the last request followed such a notice
-	misled    int           // requests in a row that followed one in vain, at this fence
+	watches       int
+	watchedAt     time.Time // when the last watch was sent
+	busyAt        time.Time
+	poll          time.Duration // from busyAt to the next request
+	pollWithPlace time.Duration // the same with a place in a queue
+	isFree        bool          // a notice to the last watch said so, and no request has followed it
+	isTold        bool          // the last request followed such a notice
+	misled        int           // requests in a row that followed one in vain, at this fence
 }
 
 // NewWaiter returns a wait for the lock that op asks for. Each number that it takes is greater than all that the client
@@ -111,7 +140,7 @@ func (w *Waiter) Busy(now time.Time, fence uint64) []Datagram {
 
 func (w *Waiter) wait(now time.Time, fence uint64) {
 	w.ticket.Fence, w.busyAt = fence, now
-	w.poll, w.longPoll = w.polls.After(fence), scattered(longPoll, w.polls.Random)
+	w.poll, w.pollWithPlace = w.polls.After(fence), scattered(withPlace, w.polls.Random)
 }
 
 // watch sends the next watch to each node.
@@ -126,7 +155,7 @@ func (w *Waiter) watch(now time.Time) []Datagram {
 		if it.isOpen && isLate {
 			it.silent++
 		}
-		it.isQueued, it.isOpen = it.isQueued && !it.isGone(), false
+		it.isOpen = false
 		if !it.isGone() || w.watches%tryEach == 0 {
 			it.isAsked, it.isOpen = true, true
 			sends = append(sends, Datagram{payload, it.address})
@@ -151,7 +180,7 @@ func (w *Waiter) Tick(now time.Time) []Datagram {
 // Hear takes a datagram that came. It reports whether that is a notice to the last watch, and whether the node leads.
 // Without a key anybody can send one, so it is only taken from an address to which the watch was sent. With a key the
 // seal decides.
-func (w *Waiter) Hear(came Datagram) (isOne, leads bool) {
+func (w *Waiter) Hear(came Datagram, now time.Time) (isOne, leads bool) {
 	it := w.post(came.Address)
 	if w.watches == 0 || w.seals.Keys.IsEmpty() && (it == nil || !it.isAsked) {
 		return false, false
@@ -165,13 +194,11 @@ func (w *Waiter) Hear(came Datagram) (isOne, leads bool) {
 		return false, false
 	}
 	leads = notice.News != wire.NewsNotHere
-	// To this client a name is held that is free for those who came before it: a node answers a watch so with a place
-	// above 1, and tells it later that its turn has come.
-	isEarly := it != nil && it.isOpen && notice.Place > 1
+	isFree := notice.News == wire.NewsFree
 	if it != nil {
-		it.silent, it.isOpen, it.isQueued = 0, false, leads && notice.Place > 0
+		isFree = it.hear(notice, now)
 	}
-	if notice.News == wire.NewsFree && !isEarly && !w.isTold && !w.isMisled() {
+	if isFree && !w.isTold && !w.isMisled() {
 		w.isFree = true
 	}
 	return true, leads && it != nil
@@ -179,25 +206,46 @@ func (w *Waiter) Hear(came Datagram) (isOne, leads bool) {
 
 func (w *Waiter) isMisled() bool { return w.misled >= mostMisled }
 
-// IsQueued reports whether the client has a place in the queue of a node that leads, as far as it knows.
-func (w *Waiter) IsQueued() bool {
+// keptUntil returns until when a node keeps a place for the client, as far as notices are followed; the zero time if
+// none does.
+func (w *Waiter) keptUntil() time.Time {
+	var until time.Time
+	if w.isMisled() {
+		return until
+	}
 	for _, it := range w.posts {
-		if it.isQueued && !w.isMisled() {
-			return true
+		if it.keptUntil.After(until) {
+			until = it.keptUntil
 		}
 	}
-	return false
+	return until
 }
 
-// AsksAt returns when the lock is to be asked for again, unless a notice comes before.
-func (w *Waiter) AsksAt() time.Time {
-	switch {
-	case w.isFree:
-		return w.busyAt
-	case w.IsQueued() && w.longPoll > w.poll:
-		return w.busyAt.Add(w.longPoll)
+// IsQueued reports whether the client has a place in the queue of a node that leads, as far as it knows.
+func (w *Waiter) IsQueued(now time.Time) bool { return now.Before(w.keptUntil()) }
+
+// Pause returns after how long it asks, after a Busy that came now, if nodes go on as they do.
+func (w *Waiter) Pause(now time.Time) time.Duration {
+	if w.IsQueued(now) {
+		return w.pollWithPlace
 	}
-	return w.busyAt.Add(w.poll)
+	return w.poll
+}
+
+// AsksAt returns when the lock is to be asked for again, unless a notice comes before. As long as a node keeps a place,
+// each of its notices puts that off, up to the poll with a place.
+func (w *Waiter) AsksAt() time.Time {
+	if w.isFree {
+		return w.busyAt
+	}
+	asks, kept := w.busyAt.Add(w.poll), w.keptUntil()
+	if last := w.busyAt.Add(w.pollWithPlace); kept.After(last) {
+		kept = last
+	}
+	if kept.After(asks) {
+		return kept
+	}
+	return asks
 }
 
 // Ask reports whether the lock is to be asked for now. Then the caller does so.

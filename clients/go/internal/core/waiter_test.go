@@ -24,7 +24,7 @@ func waiter() *Waiter {
 }
 
 func hear(w *Waiter, came Datagram) bool {
-	isOne, _ := w.Hear(came)
+	isOne, _ := w.Hear(came, start)
 	return isOne
 }
 
@@ -80,7 +80,7 @@ func TestEachNodeIsWatchedAfterTheFirstBusyAndEach800Milliseconds(t *testing.T) 
 		}
 		wantWatches(t, w.Tick(at), ticket(number, 3), 20, one, two, three)
 		for _, node := range []netip.AddrPort{one, two, three} {
-			w.Hear(notice(ticket(number, 3), wire.NewsNotHere, 1, node))
+			w.Hear(notice(ticket(number, 3), wire.NewsNotHere, 1, node), at)
 		}
 	}
 }
@@ -100,9 +100,9 @@ func TestOneNoticeOfEachWatchIsFollowed(t *testing.T) {
 	w := waiter()
 	w.Busy(start, 3)
 	free := notice(ticket(1, 3), wire.NewsFree, 1, two)
-	w.Hear(free)
+	hear(w, free)
 	w.Ask(after(10))
-	w.Hear(free) // doubled
+	hear(w, free) // doubled
 	wantWatches(t, w.Busy(after(20), 3), ticket(2, 3), 20, one, two, three)
 	if hear(w, free) || w.Ask(after(30)) { // late
 		t.Error("took a notice to an earlier watch")
@@ -112,10 +112,10 @@ func TestOneNoticeOfEachWatchIsFollowed(t *testing.T) {
 func TestAWaiterThatComesTooLateWatchesAgainAtOnce(t *testing.T) {
 	w := waiter()
 	w.Busy(start, 3)
-	w.Hear(notice(ticket(1, 3), wire.NewsFree, 1, two))
+	hear(w, notice(ticket(1, 3), wire.NewsFree, 1, two))
 	w.Ask(after(10))
 	wantWatches(t, w.Busy(after(11), 4), ticket(2, 4), 20, one, two, three)
-	w.Hear(notice(ticket(2, 4), wire.NewsFree, 1, two))
+	hear(w, notice(ticket(2, 4), wire.NewsFree, 1, two))
 	if !w.Ask(after(12)) {
 		t.Error("does not ask")
 	}
@@ -125,10 +125,10 @@ func TestALockThatIsFreeForOthersIsAskedForWhenItsTurnHasCome(t *testing.T) {
 	w := waiter()
 	w.Busy(start, 3)
 	free := notice(ticket(1, 3), wire.NewsFree, 2, two)
-	if !hear(w, free) || !w.IsQueued() || w.Ask(after(2000)) {
+	if !hear(w, free) || !w.IsQueued(after(1000)) || w.Ask(after(1000)) {
 		t.Error("asks at the answer to its watch")
 	}
-	if !hear(w, free) || !w.Ask(after(2000)) {
+	if !hear(w, free) || !w.Ask(after(1000)) {
 		t.Error("does not ask")
 	}
 }
@@ -137,7 +137,7 @@ func TestANodeThatIsWrongAboutAHeldLockIsFollowedTwice(t *testing.T) {
 	w, asked := waiter(), 0
 	w.Busy(start, 3)
 	for at := 0; at < 10_000; at++ { // each millisecond a notice, and an answer Busy to each request
-		w.Hear(notice(w.ticket, wire.NewsFree, 1, two))
+		w.Hear(notice(w.ticket, wire.NewsFree, 1, two), after(at))
 		if w.Ask(after(at)) {
 			asked++
 			w.Busy(after(at), 3)
@@ -148,49 +148,109 @@ func TestANodeThatIsWrongAboutAHeldLockIsFollowedTwice(t *testing.T) {
 		t.Errorf("asked %d times in ten seconds", asked)
 	}
 	w.Busy(after(10_000), 4)
-	w.Hear(notice(w.ticket, wire.NewsFree, 1, two))
+	hear(w, notice(w.ticket, wire.NewsFree, 1, two))
 	if !w.Ask(after(10_001)) {
 		t.Error("does not ask at another fence")
 	}
 }
 
-func TestInTheQueueOfANodeALockIsSeldomAskedFor(t *testing.T) {
+// asked returns after how many milliseconds a wait asks, each time in vain, until one of these. Node two gives this
+// notice to each watch that is sent before another one.
+func asked(says wire.News, place byte, silentAt, end int) []int {
+	w, now, asked := waiter(), start, []int(nil)
+	w.Busy(now, 3)
+	for now.Before(after(end)) {
+		if now.Before(after(silentAt)) {
+			w.Hear(notice(w.ticket, says, place, two), now)
+		}
+		now = w.AsksAt()
+		if renews, _ := w.RenewsAt(); renews.Before(now) {
+			now = renews
+		}
+		if w.Ask(now) {
+			asked = append(asked, int(now.Sub(start).Milliseconds()))
+			w.Busy(now, 3)
+		}
+		w.Tick(now)
+	}
+	return asked
+}
+
+func TestInTheQueueOfANodeALockIsAskedForOnceAMinute(t *testing.T) {
+	for _, place := range []byte{1, 200} {
+		if got := fmt.Sprint(asked(wire.NewsHeld, place, 200_000, 200_000)); got != "[60000 120000 180000]" {
+			t.Errorf("place %d: asked after %s", place, got)
+		}
+	}
+}
+
+func TestWithoutAPlaceALockIsAskedForAtIntervals(t *testing.T) {
 	for _, row := range []struct {
 		says  wire.News
 		place byte
-		asks  int
+	}{{wire.NewsHeld, 0}, {wire.NewsNotHere, 1}, {wire.NewsNotHere, 0}} { // a full queue, and nodes that do not lead
+		if got := fmt.Sprint(asked(row.says, row.place, 3000, 3000)); got != "[50 150 350 750 1550 2350 3150]" {
+			t.Errorf("%v, place %d: asked after %s", row.says, row.place, got)
+		}
+	}
+}
+
+func TestAPlaceThatNoNoticeKeepsIsBelievedFor1700Milliseconds(t *testing.T) {
+	got := fmt.Sprint(asked(wire.NewsHeld, 1, 8000, 10_000)) // the last notice comes after 7200
+	if got != "[8900 9000 9200 9600 10400]" {
+		t.Errorf("asked after %s", got)
+	}
+}
+
+func TestAnAnswerThatALockIsFreeForOthersCountsAsFreeAtTheSamePlace(t *testing.T) {
+	type answer struct {
+		says  wire.News
+		place byte
+	}
+	free, fewer, held := answer{wire.NewsFree, 3}, answer{wire.NewsFree, 2}, answer{wire.NewsHeld, 3}
+	for _, row := range []struct {
+		answers []answer
+		asks    string // by which of them
 	}{
-		{wire.NewsHeld, 1, 3200}, {wire.NewsHeld, 200, 3200}, {wire.NewsHeld, 0, 50}, {wire.NewsNotHere, 1, 50},
-		{wire.NewsNotHere, 0, 50},
+		{[]answer{free, free, free, free}, "[1 3]"}, {[]answer{free, fewer, fewer}, "[2]"},
+		{[]answer{free, held, free, free}, "[3]"},
 	} {
-		w := waiter()
+		w, asks := waiter(), []int(nil)
 		w.Busy(start, 3)
-		wantAsksAt(t, w, 50)
-		w.Hear(notice(ticket(1, 3), row.says, row.place, two))
-		wantAsksAt(t, w, row.asks)
+		for at, it := range row.answers {
+			now := after(800 * at)
+			w.Hear(notice(w.ticket, it.says, it.place, two), now)
+			if w.Ask(now) {
+				asks = append(asks, at)
+				w.Busy(now, 3)
+			}
+			w.Tick(now.Add(renewal))
+		}
+		if got := fmt.Sprint(asks); got != row.asks {
+			t.Errorf("%v: asks at %s, wanted %s", row.answers, got, row.asks)
+		}
 	}
 }
 
 func TestANodeThatLeavesTwoRenewalsUnansweredIsGone(t *testing.T) {
 	w := waiter()
 	w.Busy(start, 3)
-	w.Hear(notice(ticket(1, 3), wire.NewsHeld, 1, two))
+	w.Hear(notice(ticket(1, 3), wire.NewsHeld, 1, two), start)
 	hear := func(number uint64, says wire.News) {
-		w.Hear(notice(ticket(number, 3), wire.NewsNotHere, 1, one))
-		w.Hear(notice(ticket(number, 3), says, 1, three))
+		now := after(int(number-1) * 800)
+		w.Hear(notice(ticket(number, 3), wire.NewsNotHere, 1, one), now)
+		w.Hear(notice(ticket(number, 3), says, 1, three), now)
 	}
 	for number := uint64(2); number <= 3; number++ {
 		hear(number-1, wire.NewsNotHere)
 		wantWatches(t, w.Tick(after(int(number-1)*800)), ticket(number, 3), 20, one, two, three)
-		wantAsksAt(t, w, 3200)
+		wantAsksAt(t, w, 1700)
 	}
 	hear(3, wire.NewsNotHere)
 	wantWatches(t, w.Tick(after(2400)), ticket(4, 3), 20, one, three)
-	wantAsksAt(t, w, 50)
-	hear(4, wire.NewsHeld) // another one leads
-	wantAsksAt(t, w, 3200)
 	for number := uint64(5); number <= 8; number++ {
-		hear(number-1, wire.NewsHeld)
+		hear(number-1, wire.NewsHeld) // another one leads
+		wantAsksAt(t, w, int(number-2)*800+1700)
 		nodes := []netip.AddrPort{one, three}
 		if number == tryEach {
 			nodes = []netip.AddrPort{one, two, three}
@@ -283,7 +343,7 @@ func TestWhoReleasedTheLockWatchesBeforeItAsks(t *testing.T) {
 	w := waiter()
 	wantWatches(t, w.Watch(start, 3), ticket(1, 3), 20, one, two, three)
 	wantAsksAt(t, w, 50)
-	w.Hear(notice(ticket(1, 3), wire.NewsFree, 0, two))
+	hear(w, notice(ticket(1, 3), wire.NewsFree, 0, two))
 	if !w.Ask(after(1)) {
 		t.Error("does not ask for a free lock")
 	}
@@ -313,7 +373,7 @@ func TestAnyBytesOfNoticesAreHeardWithoutHarm(t *testing.T) {
 		if isTaken && at < 12 || isTaken && at >= 16 && at < 68 {
 			t.Fatalf("took %x", came.Payload)
 		}
-		if asks := w.AsksAt(); asks.Before(start) || asks.After(after(3200)) {
+		if asks := w.AsksAt(); asks.Before(start) || asks.After(start.Add(belief)) {
 			t.Fatalf("%x: asks at %v", came.Payload, asks)
 		}
 	}

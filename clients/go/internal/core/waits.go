@@ -15,6 +15,8 @@ const (
 	// longAfter is how many polls one holder is waited for like that, about half a minute.
 	longAfter = 34
 	longPoll  = 3200 * time.Millisecond
+	// withPlace is how long a client waits that has a place in the queue of a node, which tells it when to ask.
+	withPlace = time.Minute
 )
 
 // scattered makes a wait up to a quarter longer or shorter, so that clients do not ask in step.
