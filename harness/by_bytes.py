@@ -8,11 +8,12 @@ from harness.cluster import free_ports, genesis_text
 
 PROBE = b"LP\1\x09"  # what a probe of form 1 begins with
 PROBES = (PROBE, b"LP\2\x09")
+LONGEST = 20_000  # bytes; no datagram has more
 
 
 def received(it):
     """The next datagram to a socket but for probes: a node asks once, and once more, who writes to it from there."""
-    while (data := it.recv(9000)).startswith(PROBES):
+    while (data := it.recv(LONGEST)).startswith(PROBES):
         pass
     return data
 

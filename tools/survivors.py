@@ -1,7 +1,7 @@
 #!/usr/bin/env python3
 """Lets the nodes that are left of a cluster go on, and checks that a request is still answered.
 
-Every fourth schedule is drawn by `locks fuzz --groups --nudges`, the others here. Those have alpha 1 to 32 and seven
+Every fourth schedule is drawn by `locks fuzz --groups --nudges`, the others here. Those have alpha 1 to 64 and seven
 nodes, of which one to three are the first members. Datagrams are lost, late and repeated. Nodes stop with all or none
 of their unsynced bytes, restart and compact. Members join and leave, and in two of three schedules all first members
 are replaced, in one burst or one after another, often while 20 or 40 requests wait.
@@ -95,7 +95,7 @@ class Drawn(Survivors):
 
     def __init__(self, program, draws):
         first = NODES[:draws.randint(1, 3)]
-        genesis = f"genesis 5 {draws.randint(1, 32)}w " + " ".join(f"{node}:700{node}" for node in first)
+        genesis = f"genesis 5 {draws.randint(1, 64)}w " + " ".join(f"{node}:700{node}" for node in first)
         super().__init__(program, [genesis, *(f"start {node}" for node in first)], draws)
         self.open, self.under_way, self.known = {}, [], 0
         self.clients, self.changers = itertools.count(1), itertools.count(FIRST_CHANGER)

@@ -76,18 +76,26 @@ above_rises low i vs e =
     rising_above low i (votes_above i vs)
     (rising_filter (λ (w : Vote). nat_lt i w.position) low vs e) (above_is_above i vs)
 
--- the votes from a position on that lie near it fit into a promise
-pub from_fits : (low i alpha : ℕ) (vs : List Vote) → 1 ≤ i → alpha ≤ 32 → are_votes_above low vs ≡ true
+from_rises : (low i : ℕ) (vs : List Vote) → 1 ≤ i → are_votes_above low vs ≡ true
+    → are_votes_above (i - 1) (votes_from i vs) ≡ true
+from_rises low i vs some e =
+    rising_above low (i - 1) (votes_from i vs) (rising_filter (λ (w : Vote). nat_le i w.position) low vs e)
+    (λ v h. let k = from_is_from i vs v h in omega arith)
+
+-- the votes from a position on that lie near it are at most twice alpha
+pub from_are_few : (low i alpha : ℕ) (vs : List Vote) → 1 ≤ i → are_votes_above low vs ≡ true
+    → ((v : Vote) → Contains vs v → v.position < i + 2 * alpha) → length (votes_from i vs) ≤ 2 * alpha
+from_are_few low i alpha vs some e near =
+    rising_count (i - 1) (2 * alpha) (votes_from i vs) (from_rises low i vs some e)
+    (λ v h. let k = near v (filter_from (λ (w : Vote). nat_le i w.position) vs v h) in omega arith)
+
+-- so they fit into a promise
+pub from_fits : (low i alpha : ℕ) (vs : List Vote) → 1 ≤ i → alpha ≤ 64 → are_votes_above low vs ≡ true
     → ((v : Vote) → Contains vs v → v.position < i + 2 * alpha) → are_votes_from i (votes_from i vs) ≡ true
 from_fits low i alpha vs some small e near =
-    let rise : are_votes_above (i - 1) (votes_from i vs) ≡ true =
-    rising_above low (i - 1) (votes_from i vs) (rising_filter (λ (w : Vote). nat_le i w.position) low vs e)
-    (λ v h. let k = from_is_from i vs v h in omega arith) in
-    let count : length (votes_from i vs) ≤ 2 * alpha =
-    rising_count (i - 1) (2 * alpha) (votes_from i vs) rise
-    (λ v h. let k = near v (filter_from (λ (w : Vote). nat_le i w.position) vs v h) in omega arith) in
-    and_from (leb (length (votes_from i vs)) 64) (are_votes_above (i - 1) (votes_from i vs))
-    (le-leb _ _ (omega arith)) rise
+    let count : length (votes_from i vs) ≤ 2 * alpha = from_are_few low i alpha vs some e near in
+    and_from (leb (length (votes_from i vs)) 128) (are_votes_above (i - 1) (votes_from i vs))
+    (le-leb _ _ (omega arith)) (from_rises low i vs some e)
 
 -- ---- the votes with one more
 

@@ -62,7 +62,7 @@ fn votes_facts(votes: &[Vote])
 
 impl Acceptor {
     /// Creates an acceptor from what its store holds. The votes are above the snapshot, strictly rising by position,
-    /// and in ballots up to the promised one. The members are known `alpha` positions ahead, 1 to 32.
+    /// and in ballots up to the promised one. The members are known `alpha` positions ahead, 1 to 64.
     pub fn new(
         alloc: Global,
         alpha: u8,
@@ -118,7 +118,7 @@ impl Acceptor {
     }
 
     // Whether a Prepare gets a Promise: its ballot is at least the promised one, `first` is above the snapshot, and
-    // each vote is less than 2 alpha above `first`, so at most 64 votes are reported.
+    // each vote is less than 2 alpha above `first`, so at most 2 alpha votes are reported.
     fn grants_prepare(&self, ballot: RealBallot, first: Position) -> bool
         ensures { IsTrue result ↔ GrantsPrepare self.now ballot first }
     {
@@ -194,8 +194,8 @@ impl Acceptor {
         Ok(Some(Entry::Vote(vote.copy())))
     }
 
-    /// Responds to a Prepare, given how many positions are executed: a Promise of at most 64 votes, or a Nack. An
-    /// error changes nothing.
+    /// Responds to a Prepare, given how many positions are executed: a Promise of at most twice alpha votes, or a
+    /// Nack. An error changes nothing.
     pub fn prepare(
         &mut self,
         ballot: RealBallot,

@@ -1,5 +1,5 @@
 //! Laws of an acceptor's responses, about the definitions alone: each is the contract of a function without a body.
-ghost use Rattle.std.specs.Prelude.{◌≡◌, ◌+◌, ◌≤◌, ℕ, List, length, Contains, IsTrue};
+ghost use Rattle.std.specs.Prelude.{◌≡◌, ◌+◌, ◌*◌, ◌≤◌, ℕ, List, length, Contains, IsTrue};
 ghost use Rattle.lk_types.specs.BallotValue.{BallotValue};
 ghost use Rattle.lk_types.specs.Ballots.{IsBelow};
 ghost use Rattle.lk_types.specs.declared.entry.Entry.TheVariants as entry;
@@ -10,8 +10,9 @@ ghost use Rattle.lk_agreement_laws.specs.Changes.{with_promise};
 ghost use Rattle.lk_agreement_laws.specs.Datagrams.{Genesis, Datagram};
 ghost use Rattle.lk_agreement_laws.specs.Nodes.{PaxosState, MaySend};
 ghost use Rattle.lk_acceptor.specs.AcceptorValue.{AcceptorValue};
-ghost use Rattle.lk_acceptor.specs.Replies.{GrantsAccept, RepliesToPrepare, RepliesToAccept};
+ghost use Rattle.lk_acceptor.specs.Replies.{GrantsAccept, GrantsPrepare, RepliesToPrepare, RepliesToAccept};
 ghost use Rattle.lk_acceptor.specs.States.{IsOrdered, with_vote, without_votes_to, acceptor_with, with_written};
+ghost use Rattle.lk_acceptor.specs.VoteLists.{votes_from};
 ghost use Rattle.lk_acceptor.specs.declared.response.Response.{Response};
 
 /// Keeping a granted vote, and forgetting votes that a snapshot replaces, are changes that the protocol permits.
@@ -65,4 +66,10 @@ pub fn there_is_one_reply()
 pub fn rising_votes_are_few()
     ensures { (low n : ℕ) (votes : List Vote) → IsTrue (are_votes_above low votes)
         → ((v : Vote) → Contains votes v → v.position ≤ low + n) → length votes ≤ n }
+{}
+
+/// A Promise has at most twice alpha votes.
+pub fn a_promise_has_few_votes()
+    ensures { (a : AcceptorValue) (b : BallotValue) (first : ℕ) → IsOrdered a.state → GrantsPrepare a b first
+        → length (votes_from first a.state.votes) ≤ 2 * a.alpha }
 {}

@@ -9,7 +9,6 @@ ghost use Rattle.lk_bundle.specs.Opened.{HandsOutFirst, LeavesPayload, OpensBund
 use crate::bundle::{Bundle, is_piece};
 use crate::pieces::Pieces;
 use lk_types::NodeNo;
-use lk_types::limits::MAX_DATAGRAM;
 use std::alloc::Global;
 use std::io;
 use std::marker::Model;
@@ -18,8 +17,9 @@ use std::net::{SocketAddr, UdpSocket};
 // The most addresses to which bundles are kept back: more than a cluster has members.
 const MOST: usize = 16;
 
-// The longest bundle to another address of this machine, and to another machine: that fits an Ethernet frame.
-const LOCAL_ROOM: usize = MAX_DATAGRAM;
+// The longest bundle to another address of this machine, and to another machine: that fits an Ethernet frame. A longer
+// datagram is sent bare.
+const LOCAL_ROOM: usize = 8192;
 
 const REMOTE_ROOM: usize = 1400;
 

@@ -1,12 +1,13 @@
 -- A node that starts, or does not, is as its cluster has it.
 use Rattle.std.proofs.Common.{◌≡◌, ℕ, ap, sym, subst₂}
+use Rattle.lk_types.specs.Limits.{max_base_of}
 use Rattle.lk_disk.specs.Disk.{Disk}
 use Rattle.lk_memory_disk.specs.Memory.{Memory, disk_of}
 use Rattle.lk_disk.specs.declared.device.Side.{Side}
 use Rattle.lk_locks.specs.Meaning.{table_meaning}
 use Rattle.lk_locks.specs.Packed.{IsTableText}
 use Rattle.lk_log.specs.StoreValue.{disks}
-use Rattle.lk_log.proofs.Room.{refused_room, never_longer}
+use Rattle.lk_log.proofs.Room.{most_base, refused_room, never_longer}
 use Rattle.lk_node.specs.Histories.{Genesis}
 use Rattle.lk_node.specs.Leavings.{header_of}
 use Rattle.lk_replica.specs.ReplicaValue.{ReplicaValue}
@@ -26,7 +27,9 @@ begun_in Honest genesis n old s honest begun =
       restarts = record {
         goes = λ h is lawful fit. up.goes h n (ap (λ (z : Genesis). header_of z n) (sym is)) lawful fit;
         short =
-            λ short. never_longer old (disks s.replica.store) (refused_room old (disks s.replica.store) up.room) short;
+            λ short. never_longer old (disks s.replica.store)
+            (refused_room (max_base_of genesis.alpha) old (disks s.replica.store) (most_base genesis.alpha) up.room)
+            short;
       };
       loopback = begun.loopback;
       alive = begun.ready.alive;
@@ -37,7 +40,8 @@ rests_in : (genesis : Genesis) (n : ℕ) (old left : Side → Disk)
     → StaysDown table_meaning (header_of genesis n) old left → RestsBy table_meaning genesis n old left
 rests_in genesis n old left down = record {
   ends = λ h is lawful fit. down.fits h n (ap (λ (z : Genesis). header_of z n) (sym is)) lawful fit;
-  short = λ short. never_longer old left (refused_room old left down.room) short;
+  short = λ short. never_longer old left
+      (refused_room (max_base_of genesis.alpha) old left (most_base genesis.alpha) down.room) short;
 }
 
 pub refused_rests : (Honest : Type 0) → Honest → (genesis : Genesis) (n : ℕ) (device left : Memory) (old : Side → Disk)

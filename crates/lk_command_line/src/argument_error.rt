@@ -107,7 +107,7 @@ fn wanted_members(words: &[u8]) -> &'static str {
 // Returns what an invalid alpha has to be.
 fn wanted_alpha(word: &[u8]) -> &'static str {
     if word.contains(&b'w') {
-        "a wide ALPHA must be 1w to 32w"
+        "a wide ALPHA must be 1w to 64w"
     } else {
         "ALPHA must be 1 to 16"
     }

@@ -157,7 +157,7 @@ module _ (m : Meaning) (IsText : List ℕ → Type 0) (b a : ℕ) (told : Progre
       turned : (ps : List PartValue) → 1 ≤ length ps → Follow (position_of q) (text_of q) (count_of r) ps
           → HearsInTurn m IsText b (parts_from a ps) served new
           → TookTurn m IsText b a (position_of q) (text_of q) (count_of r) ps asked.asking served new
-          × (length (text_of q) ≤ 49152)
+          × (length (text_of q) ≤ 65536)
       turned [] none follow d = absurd (omega (arith, none))
       turned (p ∷ ps) one follow d = (
         parts_turn m IsText b a (position_of q) (text_of q) ps p (count_of r) asked.asking served new own_up own_rested
@@ -165,13 +165,13 @@ module _ (m : Meaning) (IsText : List ℕ → Type 0) (b a : ℕ) (told : Progre
         (
             let first = follow 0 p refl in
             let total : p.total ≡ length (text_of q) = ap (λ (x : PartValue). x.total) first.0 in
-            let low : p.total ≤ 49152 = d.1.spelled.0.1.1.1.1 in
+            let low : p.total ≤ 65536 = d.1.spelled.0.1.1.1.1 in
             omega (arith, total, low)
             ),
       )
 
       both : TookTurn m IsText b a (position_of q) (text_of q) (count_of r) feeds.parts asked.asking served new
-          × (length (text_of q) ≤ 49152)
+          × (length (text_of q) ≤ 65536)
       both = turned feeds.parts some are.each turn
 
       run_parts : TakesParts m IsText b a old new

@@ -103,7 +103,7 @@ module _ (m : Meaning) (IsText : List ℕ → Type 0) where
     }
 
     -- it does not go on for ever
-    pub feeding_ends : (i : ℕ) (now : WorldState ReplicaValue) → FeedsOn i now → 48 ≤ i → ⊥
+    pub feeding_ends : (i : ℕ) (now : WorldState ReplicaValue) → FeedsOn i now → 64 ≤ i → ⊥
     feeding_ends i now f enough = by_gathered f.may.behind.node.learner.gathered refl
       where
         by_gathered : (o : Option GatheredValue) → f.may.behind.node.learner.gathered ≡ o → ⊥
@@ -202,7 +202,7 @@ module _ (m : Meaning) (IsText : List ℕ → Type 0) where
                     g.position ∙ sym (ap (λ (l : LearnerValue). l.snapshot_position) e.learner),
                     g.short,
                   );
-              room = λ x is. subst (λ (y : GatheredValue). y.total ≤ 49152) (one x is) g.room;
+              room = λ x is. subst (λ (y : GatheredValue). y.total ≤ 65536) (one x is) g.room;
               remembers = n.remembers;
             };
             last = f.last;

@@ -23,7 +23,7 @@ use lk_world_leftovers::laws::{
 use std::alloc::Global;
 
 // A snapshot has at most so many parts, and each exchange sends one of them at least.
-const MOST_PARTS: usize = 48;
+const MOST_PARTS: usize = 64;
 
 // Returns the places of the datagrams after this many.
 fn places_after(alloc: Global, sent: &[Datagram], count: usize) -> Result<Vec<usize>, NoMemory>

@@ -24,7 +24,7 @@ use std::alloc::Global;
 use std::marker::Model;
 
 // A ballot in progress: the first promise of each node, and what was proposed at the positions of the window, of which
-// there are at most 32.
+// there are at most 64.
 #[derive(Drop)]
 pub(crate) struct Term {
     ballot: RealBallot,

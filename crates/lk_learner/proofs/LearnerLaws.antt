@@ -61,7 +61,7 @@ keeping_fits i v l f w =
 
 -- a state that reaches farther, with as many sets
 pub installed_fits : (w : WholeValue) (l : LearnerValue) → IsLearner l → executed l ≤ w.roster.executed
-    → length w.roster.sets ≡ alpha l → 1 ≤ length (packed w) → length (packed w) ≤ 37406 → IsLearner (installed w l)
+    → length w.roster.sets ≡ alpha l → 1 ≤ length (packed w) → length (packed w) ≤ 38782 → IsLearner (installed w l)
 installed_fits w l f above sets some room = record {
   window = rw sets f.window;
   reaches = omega arith;

@@ -126,7 +126,7 @@ inserted p (q ∷ qs) =
     ]
 
 -- there is room for it
-pub room : (e a : ℕ) (p : Pair) (qs : List Pair) → a ≤ 32 → AreKept e a (with_pair p qs) → length qs < 64
+pub room : (e a : ℕ) (p : Pair) (qs : List Pair) → a ≤ 64 → AreKept e a (with_pair p qs) → length qs < 128
 room e a p qs small k =
     let le = prefix_len-le-length (λ (q : Pair). nat_lt q.0 p.0) qs in
     let many = ap length (inserted p qs) in

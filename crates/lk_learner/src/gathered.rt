@@ -69,7 +69,7 @@ impl Gathered {
         &self.bytes
     }
 
-    /// Returns how many bytes are gathered, at most 49,152.
+    /// Returns how many bytes are gathered, at most 65,536.
     pub fn length(&self) -> u32
         ensures value { result ≡ length self.now.bytes }
         ensures room { result ≤ max_base }

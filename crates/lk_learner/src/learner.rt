@@ -181,11 +181,13 @@ impl<M: Machine> Learner<M> {
         Ok(Some(ran))
     }
 
-    /// Packs the state after the executed commands. It needs memory for the text, at most 37,406 bytes.
+    /// Packs the state after the executed commands. It needs memory for the text, at most 38,782 bytes,
+    /// or 36,030 and 43 for each set of members.
     pub fn pack_now(&self) -> Result<BytesMut, NoMemory>
         ensures text { IfOk result (λ t. t.items ≡ packed self.now.whole) }
         ensures some { IfOk result (λ t. 1 ≤ length t.items) }
-        ensures room { IfOk result (λ t. length t.items ≤ 37406) }
+        ensures room { IfOk result (λ t. length t.items ≤ 38782) }
+        ensures by_alpha { IfOk result (λ t. length t.items ≤ 36030 + 43 * alpha self.now) }
     {
         self.whole.facts();
         let mut text = BytesMut::new(self.alloc);
@@ -214,7 +216,7 @@ impl<M: Machine> Learner<M> {
         Want::of(first, self.gathered_bytes())
     }
 
-    /// How many bytes of a snapshot are gathered, at most 49,152.
+    /// How many bytes of a snapshot are gathered, at most 65,536.
     pub fn gathered_bytes(&self) -> u32
         ensures value { result ≡ gathered_bytes self.now.gathered }
         ensures room { result ≤ max_base }

@@ -6,6 +6,7 @@ use Rattle.std.proofs.Math.Seq.{take-append-add}
 use Rattle.std.proofs.lemmas.List.Concat.{flat_map-cons}
 use Rattle.std.proofs.lemmas.List.{append-nil}
 use Rattle.lk_types.specs.Ballots.{IsBallot}
+use Rattle.lk_types.specs.Limits.{max_base_of}
 use Rattle.lk_types.specs.Ranges.{IsCount, IsTotal}
 use Rattle.lk_types.specs.Votes.{IsVote}
 use Rattle.lk_types.specs.declared.command.Command.{Command}
@@ -15,10 +16,10 @@ use Rattle.lk_disk.specs.Disk.{Disk, other, contents, CutShort, MayLeave}
 use Rattle.lk_disk.specs.declared.device.Side.{Side}
 use Rattle.lk_disk.specs.declared.device.Side.TheVariants.{A, B}
 use Rattle.lk_store_format.specs.Headers.{IsHeader}
-use Rattle.lk_store_format.specs.Entries.{base, spelling, IsPair, IsStored}
+use Rattle.lk_store_format.specs.Entries.{base, body, spelling, IsPair, IsStored}
 use Rattle.lk_store_format.specs.Files.{IsFile}
 use Rattle.lk_store_format.specs.Bases.{is_misplaced, generation}
-use Rattle.lk_store_format.specs.Values.{BaseValue}
+use Rattle.lk_store_format.specs.Values.{HeaderValue, BaseValue}
 use Rattle.lk_store_format.specs.declared.stored.Stored.{Stored}
 use Rattle.lk_store_format.specs.declared.stored.Stored.TheVariants.{Base}
 use Rattle.lk_store_format.proofs.EntryLaws.{len_command}
@@ -27,9 +28,11 @@ use Rattle.lk_store_format.proofs.Spelling.{spelled-append, all-left, all-right}
 use Rattle.lk_store_format.proofs.Whole.{front, file_behind, front_file, file_spelled}
 use Rattle.lk_log.specs.Images.{Image, IsLive}
 use Rattle.lk_log.specs.StoreValue.{pick}
-use Rattle.lk_log.specs.Stores.{IsOlder, HoldsOn, FitsBase, KeepsOrIs, IsWrittenOver}
+use Rattle.lk_log.specs.Stores.{IsOlder, HoldsOn, FitsBase, KeepsOrIs, IsWrittenOver, first_base}
+use Rattle.lk_log.specs.Stores.{base_room}
 use Rattle.lk_log.proofs.BeginLaws.{entry_or_nothing, members_long}
 use Rattle.lk_log.proofs.ImageLaws.{misplaced-take, generation-append, generation-take, each_side, is_live}
+use Rattle.lk_log.proofs.Room.{spelled_room, least_base}
 use Rattle.lk_log.proofs.Settle.{all_synced, short_front}
 use Rattle.lk_log.proofs.Steps.{OlderImage, grows_holds, keeps_at}
 
@@ -95,6 +98,32 @@ base_fits b two number whose promised position votes pairs may = (
     length-append (flat_map vote b.standing.votes),
   ),
 )
+
+-- and has at most so many bytes
+pub base_long : (b : BaseValue) → IsHeader b.header → AllByRecursion IsVote b.standing.votes
+    → AllByRecursion IsPair b.standing.pairs → 4 + length (body (Base b)) ≤ base_room b.standing
+unfolding base two four eight
+base_long b whose votes pairs = omega (
+  arith,
+  members_long b.header.members,
+  whose.4.1,
+  votes_long b.standing.votes votes,
+  pairs_long b.standing.pairs pairs,
+  length-append (flat_map member b.header.members),
+  length-append b.standing.snapshot,
+  length-append (flat_map vote b.standing.votes),
+)
+
+pub base_spelled : (b : BaseValue) → IsHeader b.header → AllByRecursion IsVote b.standing.votes
+    → AllByRecursion IsPair b.standing.pairs → length (spelling (Base b)) ≤ base_room b.standing
+base_spelled b whose votes pairs =
+    spelled_room (Base b) (base_room b.standing) (base_long b whose votes pairs)
+
+-- the Base of a new store, which has no votes and no pairs
+pub first_short : (h : HeaderValue) (text : List ℕ) → IsHeader h → length text ≤ 49054
+    → length (spelling (Base (first_base h text))) ≤ max_base_of h.alpha
+first_short h text whose few =
+    omega (arith, base_spelled (first_base h text) whose tt tt, few, least_base h.alpha)
 
 -- ---- images of both files
 

@@ -1,9 +1,12 @@
 -- How much longer a file is after a call.
-use Rattle.std.proofs.Common.{◌≡◌, ℕ, ◌+◌, ◌*◌, ◌≤◌, ◌<◌, max, List, [], ◌∷◌, ◌++◌, length, take, ap, sym, ◌∙◌, subst}
-use Rattle.std.proofs.Common.{inl, inr, arith, length-append, append-nil}
+use Rattle.std.proofs.Common.{◌≡◌, ℕ, ◌+◌, ◌*◌, ◌≤◌, ◌<◌, max, Bool, true, false, leb, List, [], ◌∷◌, ◌++◌, length}
+use Rattle.std.proofs.Common.{take, ap, sym, ◌∙◌, subst, inl, inr, refl, arith, length-append, append-nil}
+use Rattle.std.specs.Prelude.{if◌then◌else◌}
 use Rattle.std.specs.List.{AllByRecursion}
 use Rattle.std.proofs.Math.Seq.{take-length}
+use Rattle.std.proofs.lemmas.Bool.{leb-true}
 use Rattle.std.proofs.lemmas.List.{length-take}
+use Rattle.lk_types.specs.Limits.{max_base_of}
 use Rattle.lk_types.specs.declared.entry.Entry.{Entry}
 use Rattle.lk_types.specs.declared.entry.Entry.TheVariants.{Promise, Vote, Decided}
 use Rattle.lk_codec.specs.Fields.{four, eight}
@@ -11,7 +14,7 @@ use Rattle.lk_disk.specs.Disk.{Disk, other, contents, appended, fully_synced, cu
 use Rattle.lk_disk.specs.declared.device.Side.{Side}
 use Rattle.lk_disk.specs.declared.device.Side.TheVariants.{A, B}
 use Rattle.lk_disk.proofs.Devices.{contents_may_be_left}
-use Rattle.lk_store_format.specs.Entries.{spelling, spelling_of_all, IsEntry, IsStored, plain}
+use Rattle.lk_store_format.specs.Entries.{body, spelling, spelling_of_all, IsEntry, IsStored, plain}
 use Rattle.lk_store_format.specs.Values.{BaseValue}
 use Rattle.lk_store_format.specs.declared.stored.Stored.{Stored}
 use Rattle.lk_store_format.specs.declared.stored.Stored.TheVariants.{Base, Plain}
@@ -108,15 +111,20 @@ over_room old bytes new over = elim (over (contents new) (contents_may_be_left n
   | inr front ↦ omega (arith, ap length front.1, length-take front.0 bytes)
 ]
 
--- an entry has at most 49,152 bytes
-pub spelling_room : (e : Stored) → IsStored e → length (spelling e) ≤ 49152
+-- an entry has at most 65,536 bytes
+pub spelling_room : (e : Stored) → IsStored e → length (spelling e) ≤ 65536
 unfolding spelling four
 spelling_room e f = omega (arith, body_short e f)
 
+-- with its length an entry has four bytes more
+pub spelled_room : (e : Stored) (most : ℕ) → 4 + length (body e) ≤ most → length (spelling e) ≤ most
+unfolding spelling four
+spelled_room e most few = omega (arith, few)
+
 -- a Base that was written over
-pub begun_room : (b : BaseValue) (old new : Disk) → IsStored (Base b) → IsWrittenOver old (spelling (Base b)) new
-    → length (contents new) ≤ max (length (contents old)) 49152
-begun_room b old new fits over = omega (arith, over_room old (spelling (Base b)) new over, spelling_room (Base b) fits)
+pub begun_room : (b : BaseValue) (most : ℕ) (old new : Disk) → length (spelling (Base b)) ≤ most
+    → IsWrittenOver old (spelling (Base b)) new → length (contents new) ≤ max (length (contents old)) most
+begun_room b most old new few over = omega (arith, over_room old (spelling (Base b)) new over, few)
 
 -- so of the disks of a store that was made of the device
 pub within_pick : (most : ℕ) (live : Side) (old new : Side → Disk) → StaysWithin most old new
@@ -140,14 +148,50 @@ pub within_still : (most : ℕ) (old mid new : Side → Disk) → StaysWithin mo
     → StaysWithin most old new
 within_still most old mid new a b s = omega (arith, a s, b s)
 
-pub written_room : (side : Side) (old new : Side → Disk) (bytes : List ℕ) → length bytes ≤ 49152
-    → IsWrittenOver (old side) bytes (new side) → new (other side) ≡ old (other side) → StaysWithin 49152 old new
-written_room side old new bytes few over beside =
-    within_side 49152 side old new (omega (arith, over_room (old side) bytes (new side) over, few)) beside
+pub written_room : (most : ℕ) (side : Side) (old new : Side → Disk) (bytes : List ℕ) → length bytes ≤ most
+    → IsWrittenOver (old side) bytes (new side) → new (other side) ≡ old (other side) → StaysWithin most old new
+written_room most side old new bytes few over beside =
+    within_side most side old new (omega (arith, over_room (old side) bytes (new side) over, few)) beside
 
-pub short_room : (d : Disk) (bytes : List ℕ) → d ≡ record { synced = bytes; unsynced = [] } → length bytes ≤ 49152
-    → length (contents d) ≤ 49152
-short_room d bytes e few = omega (arith, ap (λ x. length (contents x)) e, ap length (append-nil bytes), few)
+pub short_room : (most : ℕ) (d : Disk) (bytes : List ℕ) → d ≡ record { synced = bytes; unsynced = [] }
+    → length bytes ≤ most → length (contents d) ≤ most
+short_room most d bytes e few = omega (arith, ap (λ x. length (contents x)) e, ap length (append-nil bytes), few)
+
+-- what stays within so much stays within more
+pub within_wider : (few most : ℕ) (old new : Side → Disk) → few ≤ most → StaysWithin few old new
+    → StaysWithin most old new
+within_wider few most old new less stays s = omega (arith, stays s, less)
+
+-- ---- the longest Base of an alpha
+
+most_if : (narrow : Bool) → (if narrow then 49152 else 65536) ≤ 65536
+most_if true = omega arith
+most_if false = omega arith
+
+-- it fits every file's bound
+pub most_base : (alpha : ℕ) → max_base_of alpha ≤ 65536
+unfolding max_base_of
+most_base alpha = most_if (leb alpha 32)
+
+least_if : (narrow : Bool) → 49152 ≤ (if narrow then 49152 else 65536)
+least_if true = omega arith
+least_if false = omega arith
+
+-- a new store's Base is no longer, whatever alpha is
+pub least_base : (alpha : ℕ) → 49152 ≤ max_base_of alpha
+unfolding max_base_of
+least_base alpha = least_if (leb alpha 32)
+
+within_if : (narrow : Bool) (alpha n : ℕ) → leb alpha 32 ≡ narrow → alpha ≤ 64 → n ≤ 36128 + 407 * alpha
+    → n ≤ (if narrow then 49152 else 65536)
+within_if true alpha n is small few = omega (arith, leb-true alpha 32 is, few)
+within_if false alpha n is small few = omega (arith, small, few)
+
+-- 98 bytes, a machine of 30,631, 256 sessions of 21, and 407 for each position that is open: a set of members, two
+-- votes and two pairs
+pub base_within : (alpha n : ℕ) → alpha ≤ 64 → n ≤ 36128 + 407 * alpha → n ≤ max_base_of alpha
+unfolding max_base_of
+base_within alpha n = within_if (leb alpha 32) alpha n refl
 
 pub within_first : (most : ℕ) (old mid new : Side → Disk) → StaysWithin most old mid → StaysWithin most mid new
     → StaysWithin most old new
@@ -156,12 +200,13 @@ within_first most old mid new a b s = omega (arith, a s, b s)
 -- ---- a step, after a rebase that is due
 
 -- a rebase was refused
-pub refused_room : (old new : Side → Disk) → StaysWithin 49152 old new → StaysWithin 132704 old new
-refused_room old new stays s = omega (arith, stays s)
+pub refused_room : (most : ℕ) (old new : Side → Disk) → most ≤ 65536 → StaysWithin most old new
+    → StaysWithin 132704 old new
+refused_room most old new small stays s = omega (arith, small, stays s)
 
 -- where a rebase was due it was done, and so the live file has less than 131,072 bytes: a step of at most 1,632 stands
 -- after it
-behind : (live : Side) (old mid new : Side → Disk) → StaysWithin 49152 old mid → length (contents (mid live)) < 131072
+behind : (live : Side) (old mid new : Side → Disk) → StaysWithin 65536 old mid → length (contents (mid live)) < 131072
     → length (contents (new live)) ≤ length (contents (mid live)) + 1632 → new (other live) ≡ mid (other live)
     → StaysWithin 132704 old new
 behind A old mid new stays small grows beside A = omega (arith, small, grows)
@@ -169,7 +214,7 @@ behind A old mid new stays small grows beside B = omega (arith, stays B, ap (λ 
 behind B old mid new stays small grows beside A = omega (arith, stays A, ap (λ d. length (contents d)) beside)
 behind B old mid new stays small grows beside B = omega (arith, small, grows)
 
-pub behind_room : (old : Side → Disk) (mid new : StoreValue) → StaysWithin 49152 old (disks mid)
+pub behind_room : (old : Side → Disk) (mid new : StoreValue) → StaysWithin 65536 old (disks mid)
     → length (contents mid.live_disk) < 131072 → new.live ≡ mid.live
     → length (contents new.live_disk) ≤ length (contents mid.live_disk) + 1632 → new.other_disk ≡ mid.other_disk
     → StaysWithin 132704 old (disks new)
@@ -177,7 +222,7 @@ behind_room old mid new stays small is grows beside =
     subst (λ (side : Side). StaysWithin 132704 old (pick side new.live_disk new.other_disk))
     (sym is) (on mid.live stays)
   where
-    on : (side : Side) → StaysWithin 49152 old (pick side mid.live_disk mid.other_disk)
+    on : (side : Side) → StaysWithin 65536 old (pick side mid.live_disk mid.other_disk)
         → StaysWithin 132704 old (pick side new.live_disk new.other_disk)
     on A stays = behind A old (pick A mid.live_disk mid.other_disk)
         (pick A new.live_disk new.other_disk) stays small grows beside

@@ -1,9 +1,9 @@
 -- An open store, and what a stop may leave of it.
-use Rattle.std.specs.Prelude.{◌≡◌, ℕ, ◌+◌, ◌<◌, ◌≤◌, ◌⊎◌, nat_le, Bool, false, IsTrue, List, [], ◌∷◌, ◌++◌, length}
+use Rattle.std.specs.Prelude.{◌≡◌, ℕ, ◌+◌, ◌*◌, ◌<◌, ◌≤◌, ◌⊎◌, nat_le, Bool, false, IsTrue, List, [], ◌∷◌, ◌++◌, length}
 use Rattle.std.specs.Prelude.{take, Result, Ok, Err, IsErrOf, if◌then◌else◌}
 use Rattle.std.specs.List.{AllByRecursion}
 use Rattle.lk_types.specs.Ballots.{zero_ballot}
-use Rattle.lk_types.specs.Limits.{max_base, max_votes}
+use Rattle.lk_types.specs.Limits.{max_votes}
 use Rattle.lk_types.specs.declared.entry.Entry.{Entry}
 use Rattle.lk_types.specs.Votes.{are_votes_above}
 use Rattle.lk_disk.specs.Disk.{Disk, other, contents, MayLeave}
@@ -73,9 +73,9 @@ KeepsOtherDisk old new result =
 
 -- ---- a rebase
 
--- bytes of a snapshot that leave room in a Base for a header, 64 votes and 64 pairs
+-- bytes of a snapshot that leave room in a Base for a header, 128 votes and 128 pairs
 abbrev pub max_snapshot : ℕ
-max_snapshot = 37406
+max_snapshot = 42142
 
 -- a standing that may be written: its snapshot leaves room in a Base for all votes and pairs, and these are few and in
 -- order
@@ -87,6 +87,10 @@ pub record FitsBase (s : StandingValue) : Type 0 where
   pub few_pairs : length s.pairs ≤ max_votes
   pub pairs_rise : IsTrue (are_pairs_above s.position s.pairs)
 
+-- no Base of this standing has more bytes: 98 beside the snapshot, 97 for each vote and 85 for each pair
+abbrev pub base_room : StandingValue → ℕ
+base_room s = 98 + length s.snapshot + 97 * length s.votes + 85 * length s.pairs
+
 -- the Base of the next generation of a store, which has format 2
 abbrev pub next_base : StoreValue → StandingValue → BaseValue
 next_base s t = record { generation = s.generation + 1; format = 2; header = s.header; standing = t }
@@ -97,9 +101,9 @@ abbrev pub SwitchesFiles : {T : Type 0} → StoreValue → StoreValue → Result
 SwitchesFiles old new (Ok _) = (new.generation ≡ old.generation + 1) × (new.format ≡ 2) × (new.header ≡ old.header)
 SwitchesFiles old new (Err e) = KeepsItsFile old new
 
--- the old file is empty, and the live one is no longer than a Base
-abbrev pub LeavesEmpty : StoreValue → Type 0
-LeavesEmpty s = (s.other_disk ≡ record { synced = []; unsynced = [] }) × (length (contents s.live_disk) ≤ max_base)
+-- the old file is empty, and the live one has at most this many bytes
+abbrev pub LeavesEmpty : ℕ → StoreValue → Type 0
+LeavesEmpty most s = (s.other_disk ≡ record { synced = []; unsynced = [] }) × (length (contents s.live_disk) ≤ most)
 
 -- each image that a stop may leave of these disks has all of the first entries and a prefix of the others, or the new
 -- Base alone

@@ -1,18 +1,18 @@
 //! Laws about the verdict on two files and about what a stop may leave of a store. A law is a theorem, stated as the
 //! contract of a function that does nothing.
-ghost use Rattle.std.specs.Prelude.{◌≡◌, ◌++◌, ◌∷◌, [], List, ℕ, Bool, true};
+ghost use Rattle.std.specs.Prelude.{◌≡◌, ◌≤◌, ◌++◌, ◌∷◌, [], List, length, ℕ, Bool, true};
 ghost use Rattle.lk_types.specs.declared.entry.Entry.{Entry};
 ghost use Rattle.lk_disk.specs.Disk.{Disk};
 ghost use Rattle.lk_disk.specs.declared.device.Side.{Side};
-ghost use Rattle.lk_store_format.specs.Entries.{plain};
+ghost use Rattle.lk_store_format.specs.Entries.{plain, spelling, IsStored};
 ghost use Rattle.lk_store_format.specs.Standings.{StandsFor, with_plain};
-ghost use Rattle.lk_store_format.specs.Values.{HeaderValue, StandingValue};
+ghost use Rattle.lk_store_format.specs.Values.{BaseValue, HeaderValue, StandingValue};
 ghost use Rattle.lk_store_format.specs.declared.stored.Stored.{Stored};
-ghost use Rattle.lk_store_format.specs.declared.stored.Stored.TheVariants.{Plain};
+ghost use Rattle.lk_store_format.specs.declared.stored.Stored.TheVariants.{Base, Plain};
 ghost use Rattle.lk_log.specs.EveryImage.{EveryFound, AllMean, NarrowsOrIsNewForSome};
 ghost use Rattle.lk_log.specs.Images.{Image, MayLeaveBoth, Means, IsLive, IsEmpty, seen};
 ghost use Rattle.lk_log.specs.StoreValue.{StoreValue, disks};
-ghost use Rattle.lk_log.specs.Stores.{HoldsEntries, KeepsAtLeast, NarrowsOrIsNew};
+ghost use Rattle.lk_log.specs.Stores.{HoldsEntries, KeepsAtLeast, NarrowsOrIsNew, base_room};
 ghost use Rattle.lk_log.specs.declared.verdict.Verdict.{Verdict};
 
 /// Two files have only one verdict (damaged, empty, or one of them is live), and only one list of whole entries each.
@@ -41,6 +41,11 @@ pub fn what_a_stop_leaves()
         → (image : Image) × MayLeaveBoth (disks s) image × IsLive image ks }
     ensures synced { (s : StoreValue) (ks : List Stored) → HoldsEntries s ks [] → (image : Image)
         → MayLeaveBoth (disks s) image → IsLive image ks }
+{}
+
+/// A Base has at most 98 bytes beside its snapshot, 97 for each vote and 85 for each pair.
+pub fn bases_are_short()
+    ensures { (b : BaseValue) → IsStored (Base b) → length (spelling (Base b)) ≤ base_room b.standing }
 {}
 
 /// Reading the files returns an image that a stop may leave, and files without a byte are an empty store.

@@ -1,6 +1,5 @@
 // Switching from the live file to the other one.
-ghost use Rattle.std.specs.Prelude.{◌≡◌, ◌<◌, ◌≤◌, List, [], ◌∷◌, length, OnOk};
-ghost use Rattle.lk_types.specs.Limits.{max_base};
+ghost use Rattle.std.specs.Prelude.{◌≡◌, ◌<◌, ◌≤◌, ℕ, List, [], ◌∷◌, length, OnOk};
 ghost use Rattle.lk_disk.specs.Disk.{contents, other, HasCause};
 ghost use Rattle.lk_store_format.specs.Entries.{IsStored, spelling};
 ghost use Rattle.lk_store_format.specs.Bases.{generation};
@@ -36,10 +35,10 @@ pub fn switch_files<D: LogDisk>(device: &mut D, live: Side, bytes: &[u8]) -> Res
         → HoldsOn (D.disk device.old live) (D.disk device.old (other live)) ks ls
         → generation ks < b.generation → b.format ≡ 2 → IsStored (base_entry b) → bytes.now ≡ spelling (base_entry b)
         → KeepsOrIs (D.disk device.new) ks ls b }
-    ensures room { D.is_honest → length bytes.now ≤ max_base
-        → StaysWithin max_base (D.disk device.old) (D.disk device.new) }
-    ensures short { D.is_honest → length bytes.now ≤ max_base
-        → OnOk result (length (contents (D.disk device.new (other live))) ≤ max_base) }
+    ensures room { D.is_honest → (most : ℕ) → length bytes.now ≤ most
+        → StaysWithin most (D.disk device.old) (D.disk device.new) }
+    ensures short { D.is_honest → (most : ℕ) → length bytes.now ≤ most
+        → OnOk result (length (contents (D.disk device.new (other live))) ≤ most) }
     ensures cause { HasCause (D.failures device.old) (D.failures device.new) result }
     ensures metered { D.is_metered → D.is_honest
         → ComesBy (D.meter device.old) (D.meter device.new) rebase_calls result }

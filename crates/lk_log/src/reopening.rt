@@ -5,7 +5,7 @@ ghost use Rattle.lk_disk.specs.Disk.{other, HasCause};
 ghost use Rattle.lk_disk.specs.Meters.{CallsSucceed};
 ghost use Rattle.lk_disk.specs.declared.device.Side.{Side};
 ghost use Rattle.lk_disk.specs.declared.device.Side.TheVariants.{A, B};
-ghost use Rattle.lk_types.specs.Limits.{max_base};
+ghost use Rattle.lk_types.specs.Limits.{max_base_of};
 ghost use Rattle.lk_store_format.specs.Headers.{IsHeader};
 ghost use Rattle.lk_store_format.specs.Bases.{generation};
 ghost use Rattle.lk_store_format.specs.Standings.{HasHeader};
@@ -103,7 +103,7 @@ fn create_store<D: LogDisk>(
         (D.disk device.new (other o.live)) o.generation o.format o.standing) }
     ensures stays { D.is_honest → IsEmpty (seen (D.disk device.old))
         → NarrowsOrIsNew (D.disk device.old) (D.disk device.new) header.now zero.now }
-    ensures room { D.is_honest → StaysWithin max_base (D.disk device.old) (D.disk device.new) }
+    ensures room { D.is_honest → StaysWithin (max_base_of header.now.alpha) (D.disk device.old) (D.disk device.new) }
     ensures in_a { IfOk result (λ o. o.live ≡ A) }
     ensures is_new { IfOk result (λ o. o.is_new ≡ true) }
     ensures stands { IfOk result (λ o. StandsForSome o.standing) }
@@ -194,7 +194,7 @@ fn recover<D: LogDisk>(
         → IfOk result (λ o. OpensOn (seen (D.disk device.old)) header.now zero.now (D.disk device.new o.live)
         (D.disk device.new (other o.live)) o.generation o.format o.standing) }
     ensures stays { D.is_honest → NarrowsOrIsNew (D.disk device.old) (D.disk device.new) header.now zero.now }
-    ensures room { D.is_honest → StaysWithin max_base (D.disk device.old) (D.disk device.new) }
+    ensures room { D.is_honest → StaysWithin (max_base_of header.now.alpha) (D.disk device.old) (D.disk device.new) }
     ensures starts_in_a { D.is_honest → IsEmpty (seen (D.disk device.old)) → IfOk result (λ o. o.live ≡ A) }
     ensures is_new { D.is_honest → IfOk result (λ o. IsTrue o.is_new ↔ IsEmpty (seen (D.disk device.old))) }
     ensures stands { IfOk result (λ o. StandsForSome o.standing) }
@@ -239,10 +239,10 @@ pub fn reopen<D: LogDisk + Drop>(
     ensures stays { D.is_honest → MatchResult result
         (λ r. NarrowsOrIsNew (D.disk device) (disks r.store) header.now zero.now)
         (λ e. NarrowsOrIsNew (D.disk device) (D.disk e.device) header.now zero.now) }
-    // However it ends, neither file has grown, except up to the size of a Base.
+    // However it ends, neither file has grown, except up to the size of a Base of this alpha.
     ensures room { D.is_honest
-        → MatchResult result (λ r. StaysWithin max_base (D.disk device) (disks r.store))
-        (λ e. StaysWithin max_base (D.disk device) (D.disk e.device)) }
+        → MatchResult result (λ r. StaysWithin (max_base_of header.now.alpha) (D.disk device) (disks r.store))
+        (λ e. StaysWithin (max_base_of header.now.alpha) (D.disk device) (D.disk e.device)) }
     // A store is new exactly if there was no Base, and then begins in A.
     ensures starts_in_a { D.is_honest → IsEmpty (seen (D.disk device)) → IfOk result (λ r. r.store.live ≡ A) }
     ensures is_new { D.is_honest → IfOk result (λ r. IsTrue r.is_new ↔ IsEmpty (seen (D.disk device))) }

@@ -1,7 +1,6 @@
 // The store: appends entries to the live file, and replaces them by a Base in the other file.
 ghost use Rattle.std.specs.Prelude.{◌≡◌, ◌++◌, ◌∷◌, ◌<◌, ◌≤◌, ◌^◌, ◌+◌, ◌-◌, ◌*◌, List, [], length, true, false, IfOk};
 ghost use Rattle.std.specs.Prelude.{OnOk, IsErrOf};
-ghost use Rattle.lk_types.specs.Limits.{max_base};
 ghost use Rattle.lk_disk.specs.Disk.{contents, other};
 ghost use Rattle.lk_disk.specs.Meters.{trapped};
 ghost use Rattle.lk_disk.specs.declared.device.Side.{Side};
@@ -13,7 +12,7 @@ ghost use Rattle.lk_log.specs.Causes.{FailsByRefusing, FailsUnlessLast, IsMetere
 ghost use Rattle.lk_log.specs.Rooms.{StaysWithin};
 ghost use Rattle.lk_log.specs.StoreValue.{disks};
 ghost use Rattle.lk_log.specs.Stores.{HoldsEntries, KeepsAtLeast, KeepsItsFile, KeepsBothDisks, KeepsOtherDisk};
-ghost use Rattle.lk_log.specs.Stores.{FitsBase};
+ghost use Rattle.lk_log.specs.Stores.{FitsBase, base_room};
 ghost use Rattle.lk_log.specs.Stores.{next_base, SwitchesFiles, LeavesEmpty, KeepsOrIs};
 
 use crate::adding::add;
@@ -156,14 +155,14 @@ impl<D: LogDisk + Drop> Store<D> {
         // At Ok the Base alone is there, synced, and the old file is empty.
         ensures base { D.is_honest → (ks ls : List Stored) → HoldsEntries self.old ks ls
             → OnOk result (HoldsEntries self.new (Base (next_base self.old standing.now) ∷ []) []) }
-        ensures left { D.is_honest → OnOk result (LeavesEmpty self.new) }
+        ensures left { D.is_honest → OnOk result (LeavesEmpty (base_room standing.now) self.new) }
         // However it ends, each image that a stop may leave has what it had before, or that Base alone.
         ensures every_image { D.is_honest → (ks ls : List Stored) → HoldsEntries self.old ks ls
             → KeepsOrIs (disks self.new) ks ls (next_base self.old standing.now) }
         ensures no_memory { D.is_honest → IsErrOf result StoreFault.NoMemory → (s : Side)
             → disks self.new s ≡ disks self.old s }
-        // However it ends, neither file has grown, except up to the size of a Base.
-        ensures room { D.is_honest → StaysWithin max_base (disks self.old) (disks self.new) }
+        // However it ends, neither file has grown, except up to the size of a Base of this standing.
+        ensures room { D.is_honest → StaysWithin (base_room standing.now) (disks self.old) (disks self.new) }
         ensures file { SwitchesFiles self.old self.new result }
         ensures failing { FailsUnlessLast self.old self.new result }
         ensures refuses { RefusesOrIsLast IsOfDeviceOrMemory self.old self.new result }

@@ -9,7 +9,7 @@ use Rattle.lk_types.specs.declared.member.Member.{Member}
 abbrev pub IsSet : List Member → Type 0
 IsSet set = AreMembers set × AllByRecursion IsMember set
 
--- at most 32 sets
+-- at most 64 sets
 abbrev pub IsWindow : List (List Member) → Type 0
 IsWindow sets = (length sets ≤ max_window) × AllByRecursion IsSet sets
 

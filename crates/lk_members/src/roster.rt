@@ -85,7 +85,7 @@ impl Roster {
         Roster::of(Executed::default(), window, greatest, Executed::default()).unwrap()
     }
 
-    /// How many positions ahead the members are known: 1 to 32.
+    /// How many positions ahead the members are known: 1 to 64.
     pub fn alpha(&self) -> u8
         ensures value { result ≡ length self.now.sets }
         ensures in_range { IsAlpha result }

@@ -63,7 +63,7 @@ impl WindowSet {
     }
 }
 
-/// The sets of members of the next positions, the nearest first: at most 32. No call takes memory.
+/// The sets of members of the next positions, the nearest first: at most 64. No call takes memory.
 #[derive(Drop)]
 pub struct Window {
     sets: ArrayVec<WindowSet, MAX_WINDOW>,

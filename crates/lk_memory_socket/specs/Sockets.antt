@@ -13,7 +13,7 @@ sent_in ts = map datagram ts
 -- what a receive finds: nothing, or a datagram with its source, of which at most the first 8,229 bytes
 abbrev pub received_of : Option MemoryDatagram → Option (SocketAddr × List ℕ)
 received_of None = None
-received_of (Some t) = Some (t.address, take 8229 t.bytes.items)
+received_of (Some t) = Some (t.address, take 16421 t.bytes.items)
 
 -- each of these is what one receive finds, in order
 abbrev pub coming_in : List (Option MemoryDatagram) → Stream

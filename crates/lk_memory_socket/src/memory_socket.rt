@@ -32,17 +32,17 @@ pub struct MemorySocket {
 
 // Returns how many bytes of a datagram of this length are received: at most 8,229, the longest frame and one more.
 fn cut_length(length: usize) -> usize
-    ensures { result ≡ min length 8229 }
+    ensures { result ≡ min length 16421 }
 {
-    if length <= 8229 { length } else { 8229 }
+    if length <= 16421 { length } else { 16421 }
 }
 
 impl MemoryDatagram {
     // Copies its first bytes into a buffer, at most 8,229. Returns how many these are, and its source.
     fn copy_to(&self, buffer: &mut [u8]) -> (usize, SocketAddr)
-        requires room { 8229 ≤ length buffer.old }
+        requires room { 16421 ≤ length buffer.old }
         ensures within { result.0 ≤ length buffer.new }
-        ensures copies { take result.0 buffer.new ≡ take 8229 self.now.bytes.items }
+        ensures copies { take result.0 buffer.new ≡ take 16421 self.now.bytes.items }
         ensures source { result.1 ≡ self.now.address }
     {
         let length = cut_length(self.bytes.len());
@@ -70,7 +70,7 @@ impl MemorySocket {
     pub fn add_incoming(&mut self, from: SocketAddr, bytes: &[u8]) -> Result<(), NoMemory>
         ensures ok { OnOk result
             (coming_in self.new.incoming.items
-            ≡ coming_in self.old.incoming.items ++ Some (from, take 8229 bytes.now) ∷ []) }
+            ≡ coming_in self.old.incoming.items ++ Some (from, take 16421 bytes.now) ∷ []) }
         ensures err { OnErr result (coming_in self.new.incoming.items ≡ coming_in self.old.incoming.items) }
         ensures others { self.new ≡ record self.old { incoming = self.new.incoming } }
     {

@@ -1,5 +1,5 @@
 -- How long a spelling can be.
-use Rattle.std.proofs.Common.{◌≡◌, ℕ, ◌*◌, ◌≤◌, true, List, [], ◌∷◌, length, arith}
+use Rattle.std.proofs.Common.{◌≡◌, ℕ, ◌+◌, ◌*◌, ◌≤◌, true, List, [], ◌∷◌, length, arith}
 use Rattle.std.specs.List.{flat_map, AllByRecursion}
 use Rattle.std.proofs.lemmas.Bool.Decides.{nat_tests}
 use Rattle.std.proofs.lemmas.List.{length-append}
@@ -24,8 +24,8 @@ use Rattle.lk_messages.specs.declared.message.Content.TheVariants as content
 use Rattle.lk_messages.specs.declared.message.Message.{Message}
 use Rattle.lk_codec.specs.Fields.{ballot, member, op, request, command, vote, pair, answer}
 use Rattle.lk_codec.proofs.Spellings.{length-two, length-four, length-eight}
-use Rattle.lk_messages.specs.Grammar.{node_fields, fields, header, spelling, kind, sender, IsNodeMessage, IsContent}
-use Rattle.lk_messages.specs.Grammar.{IsMessage}
+use Rattle.lk_messages.specs.Grammar.{node_fields, fields, header, spelling, kind, sender, node_vote_count}
+use Rattle.lk_messages.specs.Grammar.{vote_count, IsNodeMessage, IsContent, IsMessage}
 
 pub length-ballot : (b : BallotValue) → length (ballot b) ≡ 12
 length-ballot b = simp (length-append, length-four, length-eight)
@@ -71,53 +71,73 @@ flat_map_is_short s F most short (x ∷ xs) f =
 
 -- ---- messages
 
-pub few_votes : (first : ℕ) (vs : List Vote) → are_votes_from first vs ≡ true → length vs ≤ 64
+pub few_votes : (first : ℕ) (vs : List Vote) → are_votes_from first vs ≡ true → length vs ≤ 128
 few_votes first vs e = grind (arith, nat_tests)
 
 pub few_commands : (first : ℕ) (cs : List Command) → are_commands_from first cs ≡ true → length cs ≤ 16
 few_commands first cs e = grind (arith, nat_tests)
 
-votes_are_short : (first : ℕ) (vs : List Vote) → AllByRecursion IsVote vs → are_votes_from first vs ≡ true
-    → length (flat_map vote vs) ≤ 6208
-votes_are_short first vs f e = omega (arith, flat_map_is_short vote IsVote 97 vote_is_short vs f, few_votes first vs e)
+votes_are_short : (most : ℕ) (vs : List Vote) → AllByRecursion IsVote vs → length vs ≤ most
+    → length (flat_map vote vs) ≤ 97 * most
+votes_are_short most vs f few = omega (arith, flat_map_is_short vote IsVote 97 vote_is_short vs f, few)
 
 commands_are_short : (first : ℕ) (cs : List Command) → AllByRecursion IsCommand cs → are_commands_from first cs ≡ true
     → length (flat_map command cs) ≤ 1232
 commands_are_short first cs f e =
     omega (arith, flat_map_is_short command IsCommand 77 command_is_short cs f, few_commands first cs e)
 
--- sixty-four votes are the longest
-node_fields_are_short : (m : NodeMessage) → IsNodeMessage m → length (node_fields m) ≤ 6229
-node_fields_are_short (kinds.Prepare b first) f = simp (length-append, length-four, length-eight) (omega arith)
-node_fields_are_short (kinds.Promise p) f =
-    simp (length-append, length-four, length-eight) (omega (arith, votes_are_short p.first p.votes f.2 f.3))
-node_fields_are_short (kinds.Accept v) f =
-    simp (length-append, length-four, length-eight) (omega (arith, command_is_short v.command f.2))
-node_fields_are_short (kinds.Accepted v) f =
-    simp (length-append, length-four, length-eight) (omega (arith, command_is_short v.command f.2))
-node_fields_are_short (kinds.Nack n) f = simp (length-append, length-four, length-eight) (omega arith)
-node_fields_are_short (kinds.Decided d) f =
-    simp (length-append, length-eight) (omega (arith, commands_are_short d.first d.commands f.1 f.2))
-node_fields_are_short (kinds.Want w) f = simp (length-append, length-four, length-eight) (omega arith)
-node_fields_are_short (kinds.Part p) f =
-    simp (length-append, length-two, length-four, length-eight) (omega (arith, f.1))
-node_fields_are_short (kinds.Answer a) f =
-    simp (length-append, length-two, length-eight) (omega (arith, answer_is_short a.answer))
-node_fields_are_short (kinds.Elsewhere e) f = simp (length-append, length-two, length-four, length-eight) (omega arith)
-node_fields_are_short (kinds.Passed p) f = simp (length-append, length-two, length-eight) (omega arith)
-node_fields_are_short (kinds.Lead b executed) f = simp (length-append, length-four, length-eight) (omega arith)
+-- with 13 votes a Promise is longer than any other message of a node
+node_fields_are_short : (most : ℕ) → 13 ≤ most → (m : NodeMessage) → IsNodeMessage m → node_vote_count m ≤ most
+    → length (node_fields m) ≤ 21 + 97 * most
+node_fields_are_short most least (kinds.Prepare b first) f few =
+    simp (length-append, length-four, length-eight) (omega (arith, least))
+node_fields_are_short most least (kinds.Promise p) f few =
+    simp (length-append, length-four, length-eight) (omega (arith, votes_are_short most p.votes f.2 few))
+node_fields_are_short most least (kinds.Accept v) f few =
+    simp (length-append, length-four, length-eight) (omega (arith, least, command_is_short v.command f.2))
+node_fields_are_short most least (kinds.Accepted v) f few =
+    simp (length-append, length-four, length-eight) (omega (arith, least, command_is_short v.command f.2))
+node_fields_are_short most least (kinds.Nack n) f few =
+    simp (length-append, length-four, length-eight) (omega (arith, least))
+node_fields_are_short most least (kinds.Decided d) f few =
+    simp (length-append, length-eight) (omega (arith, least, commands_are_short d.first d.commands f.1 f.2))
+node_fields_are_short most least (kinds.Want w) f few =
+    simp (length-append, length-four, length-eight) (omega (arith, least))
+node_fields_are_short most least (kinds.Part p) f few =
+    simp (length-append, length-two, length-four, length-eight) (omega (arith, least, f.1))
+node_fields_are_short most least (kinds.Answer a) f few =
+    simp (length-append, length-two, length-eight) (omega (arith, least, answer_is_short a.answer))
+node_fields_are_short most least (kinds.Elsewhere e) f few =
+    simp (length-append, length-two, length-four, length-eight) (omega (arith, least))
+node_fields_are_short most least (kinds.Passed p) f few =
+    simp (length-append, length-two, length-eight) (omega (arith, least))
+node_fields_are_short most least (kinds.Lead b executed) f few =
+    simp (length-append, length-four, length-eight) (omega (arith, least))
 
-fields_are_short : (c : Content) → IsContent c → length (fields c) ≤ 6229
-fields_are_short (content.Request r) f = omega (arith, request_is_short r f)
-fields_are_short (content.Node node m) f = node_fields_are_short m f.1
+fields_are_short : (most : ℕ) → 13 ≤ most → (c : Content) → IsContent c → vote_count c ≤ most
+    → length (fields c) ≤ 21 + 97 * most
+fields_are_short most least (content.Request r) f few = omega (arith, least, request_is_short r f)
+fields_are_short most least (content.Node node m) f few = node_fields_are_short most least m f.1 few
 
 length-header : (k cluster from : ℕ) → length (header k cluster from) ≡ 16
 length-header k cluster from = simp (length-append, length-four, length-eight)
 
-pub message_is_short : (m : Message) → IsMessage m → length (spelling m) ≤ 6245
-message_is_short m f = omega (
+pub few_votes_are_short : (m : Message) (most : ℕ) → IsMessage m → 13 ≤ most → vote_count m.content ≤ most
+    → length (spelling m) ≤ 37 + 97 * most
+few_votes_are_short m most f least few = omega (
   arith,
   length-append (header (kind m.content) m.cluster (sender m.content)) (fields m.content),
   length-header (kind m.content) m.cluster (sender m.content),
-  fields_are_short m.content f.1,
+  fields_are_short most least m.content f.1 few,
 )
+
+few_of_node : (m : NodeMessage) → IsNodeMessage m → node_vote_count m ≤ 128
+few_of_node (kinds.Promise p) f = few_votes p.first p.votes f.3
+few_of_node _ f = omega arith
+
+few_of : (c : Content) → IsContent c → vote_count c ≤ 128
+few_of (content.Request r) f = omega arith
+few_of (content.Node node m) f = few_of_node m f.1
+
+pub message_is_short : (m : Message) → IsMessage m → length (spelling m) ≤ 12453
+message_is_short m f = few_votes_are_short m 128 f (omega arith) (few_of m.content f.1)

@@ -99,20 +99,20 @@ decided_reads = fitting read_decided decided
 pub want_reads : Reads read_want want IsWant
 unfolding read_want
 want_reads = fitting read_want want
-    (λ (w : WantValue). (IsCount w.first × (w.offset < 2 ^ 32)) × (leb w.offset 49152 ≡ true)) IsWant
-    (λ w f. (f.0.0, at_most 49152 w.offset f.1)) (λ w f. ((f.0, omega (arith, f.1)), is_at_most 49152 w.offset f.1))
-    (tested_reads (λ (w : WantValue). leb w.offset 49152) _ want _
+    (λ (w : WantValue). (IsCount w.first × (w.offset < 2 ^ 32)) × (leb w.offset 65536 ≡ true)) IsWant
+    (λ w f. (f.0.0, at_most 65536 w.offset f.1)) (λ w f. ((f.0, omega (arith, f.1)), is_at_most 65536 w.offset f.1))
+    (tested_reads (λ (w : WantValue). leb w.offset 65536) _ want _
     (made_reads (λ (v : ℕ × ℕ). let x : WantValue = record { first = v.0; offset = v.1 } in x)
     (λ (w : WantValue). (w.first, w.offset)) (λ x. refl) (λ y. refl) _ _ _
     (both_reads read_count eight IsCount read_four four (λ n. n < 2 ^ 32) count_reads four_reads)))
 
 within_is : (total offset n : ℕ)
-    → (leb 1 total && leb total 49152 && leb 1 n && leb n 1024 && leb (offset + n) total) ≡ true
-    → (1 ≤ total) × (total ≤ 49152) × (1 ≤ n) × (n ≤ 1024) × (offset + n ≤ total)
+    → (leb 1 total && leb total 65536 && leb 1 n && leb n 1024 && leb (offset + n) total) ≡ true
+    → (1 ≤ total) × (total ≤ 65536) × (1 ≤ n) × (n ≤ 1024) × (offset + n ≤ total)
 within_is total offset n e = grind (arith, nat_tests)
 
-is_within_lem : (total offset n : ℕ) → 1 ≤ total → total ≤ 49152 → 1 ≤ n → n ≤ 1024 → offset + n ≤ total
-    → (leb 1 total && leb total 49152 && leb 1 n && leb n 1024 && leb (offset + n) total) ≡ true
+is_within_lem : (total offset n : ℕ) → 1 ≤ total → total ≤ 65536 → 1 ≤ n → n ≤ 1024 → offset + n ≤ total
+    → (leb 1 total && leb total 65536 && leb 1 n && leb n 1024 && leb (offset + n) total) ≡ true
 is_within_lem total offset n a b c d e = grind (arith, nat_tests)
 
 lies_within : (p : PartValue) → is_within p ≡ true → IsWithin p

@@ -115,6 +115,16 @@ header k cluster from = 76 ∷ 75 ∷ 1 ∷ k ∷ (eight cluster ++ four from)
 abbrev pub spelling : Message → List ℕ
 spelling m = header (kind m.content) m.cluster (sender m.content) ++ fields m.content
 
+-- how many votes a node's message has: none if it is no Promise
+abbrev pub node_vote_count : NodeMessage → ℕ
+node_vote_count (kinds.Promise p) = length p.votes
+node_vote_count _ = 0
+
+-- how many votes a message has
+abbrev pub vote_count : Content → ℕ
+vote_count (content.Request r) = 0
+vote_count (content.Node node m) = node_vote_count m
+
 -- ---- validity
 
 abbrev pub IsNack : Nack → Type 0

@@ -51,7 +51,7 @@ unfoldable pub read_want : List ℕ → Option (WantValue × List ℕ)
 read_want = tested (λ w. nat_le w.offset max_base)
     (made (λ w. record { first = w.0; offset = w.1 }) (both read_count read_four))
 
--- a total of 1 to 49,152, 1 to 1,024 bytes, and these within the total
+-- a total of 1 to 65,536, 1 to 1,024 bytes, and these within the total
 abbrev pub is_within : PartValue → Bool
 is_within p = nat_le 1 p.total && nat_le p.total max_base && nat_le 1 (length p.bytes)
     && nat_le (length p.bytes) max_part && nat_le (p.offset + length p.bytes) p.total

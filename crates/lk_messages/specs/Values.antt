@@ -16,7 +16,7 @@ pub record PromiseValue : Type 0 where
   pub first : ℕ
   pub votes : List Vote
 
--- at most 64 votes, strictly rising by position, all at first or above
+-- at most 128 votes, strictly rising by position, all at first or above
 abbrev pub are_votes_from : ℕ → List Vote → Bool
 are_votes_from first vs = nat_le (length vs) max_votes && are_votes_above (first - 1) vs
 
@@ -54,7 +54,7 @@ pub record PartValue : Type 0 where
   pub offset : ℕ
   pub bytes : List ℕ
 
--- 1 to 1,024 bytes after the offset are within the total, which is 1 to 49,152
+-- 1 to 1,024 bytes after the offset are within the total, which is 1 to 65,536
 abbrev pub LieWithin : ℕ → ℕ → ℕ → Type 0
 LieWithin total offset n = (1 ≤ total) × (total ≤ max_base) × (1 ≤ n) × (n ≤ max_part) × (offset + n ≤ total)
 

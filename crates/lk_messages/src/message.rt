@@ -33,7 +33,7 @@ impl Model for Want {
 }
 
 impl Want {
-    /// The value, or `None` if the offset is above 49,152.
+    /// The value, or `None` if the offset is above 65,536.
     pub fn of(first: Position, offset: u32) -> Option<Want>
         ensures some { IsSome result ↔ (offset ≤ max_base) }
         ensures value { IfSome result (λ w. w ≡ record { first = first; offset = offset }) }

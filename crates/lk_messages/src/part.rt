@@ -30,7 +30,7 @@ impl Model for Part {
         (record { position = p.position; total = p.total; offset = p.offset; bytes = p.bytes.items }) };
 }
 
-// Whether the total is 1 to 49,152 bytes, the piece has 1 to 1,024, and it ends within the total.
+// Whether the total is 1 to 65,536 bytes, the piece has 1 to 1,024, and it ends within the total.
 fn is_within(total: u32, offset: u32, length: usize) -> bool
     ensures { IsTrue result ↔ LieWithin total offset length }
 {
@@ -42,7 +42,7 @@ fn is_within(total: u32, offset: u32, length: usize) -> bool
 }
 
 impl Part {
-    /// The piece, or `None` if the total is not 1 to 49,152, there are not 1 to 1,024 bytes, or they end past the
+    /// The piece, or `None` if the total is not 1 to 65,536, there are not 1 to 1,024 bytes, or they end past the
     /// total.
     pub fn of(position: Position, total: u32, offset: u32, bytes: Vec<u8>) -> Option<Part>
         ensures some { IsSome result

@@ -41,7 +41,7 @@ fn votes_facts(votes: &[Vote])
     }
 }
 
-// Whether there are at most 64 votes, strictly rising by position, all at `first` or above.
+// Whether there are at most 128 votes, strictly rising by position, all at `first` or above.
 fn are_from(first: Position, votes: &[Vote]) -> bool
     ensures { result ≡ are_votes_from first votes.now }
 {
@@ -60,7 +60,7 @@ fn are_from(first: Position, votes: &[Vote]) -> bool
 }
 
 impl Promise {
-    /// The promise, or `None` if there are more than 64 votes, or they do not rise strictly by position or begin below
+    /// The promise, or `None` if there are more than 128 votes, or they do not rise strictly by position or begin below
     /// `first`.
     pub fn of(ballot: RealBallot, first: Position, votes: Vec<Vote>) -> Option<Promise>
         ensures some { IsSome result ↔ IsTrue (are_votes_from first votes.items) }

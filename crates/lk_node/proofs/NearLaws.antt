@@ -2,11 +2,13 @@
 use Rattle.std.proofs.Common.{◌≡◌, ℕ, ◌+◌, ◌*◌, ◌≤◌, inl, inr, Bool, true, false, List, [], ◌∷◌, ltb, ◌&&◌, length}
 use Rattle.std.proofs.Common.{Contains, Option, Some, None, refl, sym, ◌∙◌, ap, subst, arith}
 use Rattle.lk_types.specs.BallotValue.{BallotValue}
+use Rattle.lk_types.specs.Limits.{max_base_of}
 use Rattle.lk_types.specs.declared.vote.Vote.{Vote}
 use Rattle.lk_agreement_laws.specs.Acceptors.{AcceptorState}
 use Rattle.lk_agreement_laws.specs.Changes.{with_promise}
 use Rattle.lk_store_format.specs.Entries.{are_pairs_above}
-use Rattle.lk_log.specs.Stores.{FitsBase}
+use Rattle.lk_log.proofs.Room.{base_within}
+use Rattle.lk_log.specs.Stores.{FitsBase, base_room}
 use Rattle.lk_state.specs.Meanings.{Meaning}
 use Rattle.lk_state.specs.Packed.{packed}
 use Rattle.lk_acceptor.specs.AcceptorValue.{AcceptorValue}
@@ -91,25 +93,39 @@ pub same_above : (low : ℕ) (ps : List Pair) → pairs.are_pairs_above low ps �
 same_above low [] = refl
 same_above low (p ∷ ps) = ap (λ (t : Bool). ltb low p.0 && t) (same_above p.0 ps)
 
+-- above what is executed lie at most twice alpha votes
+few_above : (node : NodeValue) → IsAcceptor node.acceptor → AreNear node.acceptor node.learner
+    → length (votes_above (executed node.learner) node.acceptor.state.votes) ≤ 2 * alpha node.learner
+few_above node a n =
+    let subset = (takes_snapshot node.acceptor.state (executed node.learner) n.snapshot).only in
+    rising_count (executed node.learner) (2 * alpha node.learner)
+    (votes_above (executed node.learner) node.acceptor.state.votes)
+    (above_rises node.acceptor.state.snapshot_position
+    (executed node.learner) node.acceptor.state.votes a.kept.rising) (λ v c. n.votes v (subset v c))
+
 -- what a node holds above what it has executed fits into a Base
 pub may_begin : (node : NodeValue) → IsAcceptor node.acceptor → IsLearner node.learner
     → AreNear node.acceptor node.learner → 1 ≤ length (packed node.learner.whole)
-    → length (packed node.learner.whole) ≤ 37406
+    → length (packed node.learner.whole) ≤ 38782
     → FitsBase (standing_of node)
 may_begin node a l n some room = record {
   some = some;
   room = omega (arith, room);
-  few_votes =
-      let subset = (takes_snapshot node.acceptor.state (executed node.learner) n.snapshot).only in
-      let few : length (votes_above (executed node.learner) node.acceptor.state.votes) ≤ 2 * alpha node.learner =
-      rising_count (executed node.learner) (2 * alpha node.learner)
-      (votes_above (executed node.learner) node.acceptor.state.votes)
-      (above_rises node.acceptor.state.snapshot_position
-      (executed node.learner) node.acceptor.state.votes a.kept.rising) (λ v c. n.votes v (subset v c)) in
-      omega (arith, few, l.window.1);
+  few_votes = omega (arith, few_above node a n, l.window.1);
   votes_rise =
       above_rises node.acceptor.state.snapshot_position (executed node.learner) node.acceptor.state.votes a.kept.rising;
   few_pairs = let few = kept_few (executed node.learner) (alpha node.learner) node.learner.pairs l.kept in
       omega (arith, few, l.window.1);
   pairs_rise = sym (same_above (executed node.learner) node.learner.pairs) ∙ l.kept.rising;
 }
+
+-- and that Base is no longer than one of this alpha may be
+pub base_short : (node : NodeValue) → IsAcceptor node.acceptor → IsLearner node.learner
+    → AreNear node.acceptor node.learner
+    → length (packed node.learner.whole) ≤ 36030 + 43 * alpha node.learner
+    → base_room (standing_of node) ≤ max_base_of node.acceptor.alpha
+base_short node a l n room =
+    let votes = few_above node a n in
+    let pairs = kept_few (executed node.learner) (alpha node.learner) node.learner.pairs l.kept in
+    base_within node.acceptor.alpha (base_room (standing_of node)) (omega (arith, n.alpha_is, l.window.1))
+    (omega (arith, room, votes, pairs, n.alpha_is))

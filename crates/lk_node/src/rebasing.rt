@@ -1,6 +1,7 @@
 // What a node writes as the Base of the other file, and how it then drops what the Base's snapshot replaces.
-ghost use Rattle.std.specs.Prelude.{◌≡◌, ◌↔◌, IsTrue, IfOk};
-ghost use Rattle.lk_log.specs.Stores.{FitsBase};
+ghost use Rattle.std.specs.Prelude.{◌≡◌, ◌≤◌, ◌↔◌, IsTrue, IfOk};
+ghost use Rattle.lk_types.specs.Limits.{max_base_of};
+ghost use Rattle.lk_log.specs.Stores.{FitsBase, base_room};
 ghost use Rattle.lk_state.specs.Packed.{packed};
 ghost use Rattle.lk_node.specs.NewBases.{standing_of, with_snapshot, IsSnapshotOld};
 ghost use Rattle.lk_node.specs.Reaching.{HoldsNear};
@@ -18,6 +19,8 @@ impl<M: Machine> Node<M> {
     pub fn standing(&self) -> Result<Standing, NoMemory>
         ensures value { IfOk result (λ s. s ≡ standing_of self.now) }
         ensures may { IfOk result FitsBase }
+        // Its Base is no longer than one of this alpha may be.
+        ensures short { IfOk result (λ s. base_room s ≤ max_base_of self.now.acceptor.alpha) }
         ensures near { HoldsNear self.now }
     {
         self.acceptor.facts();

@@ -1,6 +1,6 @@
 -- How a node starts, and why it does not.
 use Rattle.std.specs.Prelude.{◌≡◌, ◌≤◌, ℕ, false, List, []}
-use Rattle.lk_types.specs.Limits.{max_base}
+use Rattle.lk_types.specs.Limits.{max_base_of}
 use Rattle.lk_disk.specs.Disk.{Disk}
 use Rattle.lk_disk.specs.declared.device.Side.{Side}
 use Rattle.lk_store_format.specs.Values.{HeaderValue}
@@ -26,19 +26,19 @@ use Rattle.lk_node_setup.specs.KeysOfNode.{AreSealsOf}
 use Rattle.lk_node_setup.specs.SelfProbes.{SocketValue}
 
 -- a replica of this header restarts from what these disks have: it goes on in each history that they fit, and its
--- files have not grown, except up to the size of a Base
+-- files have not grown, except up to the size of a Base of this alpha
 pub record ComesUp (m : Meaning) (header : HeaderValue) (old : Side → Disk) (r : ReplicaValue) : Type 0 where
   pub notes : List Note
   pub goes : (h : History) (n : ℕ) → header ≡ header_of h.genesis n → IsLawful m h → DisksFit m h n old
       → LeavesFit m h n (ReplicaHolds m r.node r.store h.genesis n) (disks r.store) notes []
-  pub room : StaysWithin max_base old (disks r.store)
+  pub room : StaysWithin (max_base_of header.alpha) old (disks r.store)
 
 -- no replica restarts from what these disks had, and they are left like this: whatever a stop may leave of them fits
--- each history that they fitted, and the files have not grown, except up to the size of a Base
+-- each history that they fitted, and the files have not grown, except up to the size of a Base of this alpha
 pub record StaysDown (m : Meaning) (header : HeaderValue) (old left : Side → Disk) : Type 0 where
   pub fits : (h : History) (n : ℕ) → header ≡ header_of h.genesis n → IsLawful m h
       → DisksFit m h n old → DisksFit m h n left
-  pub room : StaysWithin max_base old left
+  pub room : StaysWithin (max_base_of header.alpha) old left
 
 -- `honest` says that the device that had these disks is honest
 module _ (m : Meaning) (honest : Type 0) (old : Side → Disk) (header : HeaderValue) where

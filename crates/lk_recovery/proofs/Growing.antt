@@ -1,5 +1,5 @@
 -- How much longer a file is after a step, apart from a Base.
-use Rattle.std.proofs.Common.{◌≡◌, ◌+◌, ◌≤◌, length, ap, sym, subst, arith}
+use Rattle.std.proofs.Common.{◌≡◌, ℕ, ◌+◌, ◌≤◌, length, ap, sym, subst, arith}
 use Rattle.lk_disk.specs.Disk.{Disk, contents}
 use Rattle.lk_disk.specs.declared.device.Side.{Side}
 use Rattle.lk_disk.specs.declared.device.Side.TheVariants.{A, B}
@@ -13,12 +13,14 @@ pub grown_none : (old new : Side → Disk) → AreSame old new → GrowsFromBase
 grown_none old new same s = omega (arith, ap (λ d. length (contents d)) (same s))
 
 -- a Base was written, or was to be
-pub grown_base : (old new : Side → Disk) → StaysWithin 49152 old new → GrowsFromBase old new
-grown_base old new stays s = omega (arith, stays s)
+pub grown_base : (most : ℕ) (old new : Side → Disk) → most ≤ 65536 → StaysWithin most old new
+    → GrowsFromBase old new
+grown_base most old new small stays s = omega (arith, small, stays s)
 
 -- after that, if any, a step
-pub grown_then : (old mid new : Side → Disk) → StaysWithin 49152 old mid → GrowsFromBase mid new → GrowsFromBase old new
-grown_then old mid new a b s = omega (arith, a s, b s)
+pub grown_then : (most : ℕ) (old mid new : Side → Disk) → most ≤ 65536 → StaysWithin most old mid
+    → GrowsFromBase mid new → GrowsFromBase old new
+grown_then most old mid new small a b s = omega (arith, small, a s, b s)
 
 -- a step's entries
 pub grown_put : (old new : StoreValue) → new.live ≡ old.live

@@ -4,6 +4,7 @@ use Rattle.std.proofs.Common.{length, take, Contains, refl, sym, ◌∙◌, ap, 
 use Rattle.std.specs.Prelude.{⊤}
 use Rattle.lk_types.specs.BallotValue.{BallotValue}
 use Rattle.lk_types.specs.Ballots.{IsAtMost, is_below}
+use Rattle.lk_types.specs.Limits.{max_base_of}
 use Rattle.lk_types.specs.declared.vote.Vote.{Vote}
 use Rattle.lk_types.proofs.Values.{below_by_test}
 use Rattle.lk_messages.specs.declared.message.NodeMessage.{NodeMessage}
@@ -20,7 +21,7 @@ use Rattle.lk_log.specs.Images.{IsLive}
 use Rattle.lk_log.specs.StoreValue.{StoreValue, pick, disks}
 use Rattle.lk_log.specs.Stores.{HoldsOn, HoldsEntries, FitsBase, next_base, KeepsOrIs}
 use Rattle.lk_log.specs.Rooms.{StaysWithin}
-use Rattle.lk_log.proofs.Room.{within_same}
+use Rattle.lk_log.proofs.Room.{within_same, most_base}
 use Rattle.lk_log.proofs.StoreLaws.{rising_stands, one_standing, one_header, of_every, plain_take, synced_live}
 use Rattle.lk_log.proofs.StoreLaws.{rebase_every}
 use Rattle.lk_state.specs.Meanings.{Meaning}
@@ -362,9 +363,9 @@ module _ (m : Meaning) (old new : StoreValue) (same : IsSameStore old new) where
     header_is = subst (HasHeader ks) (sym same.header) h.header_is;
   }
 
-  pub same_room : StaysWithin 49152 (disks old) (disks new)
-  same_room = subst (λ d. StaysWithin 49152 (disks old) d) (sym same_disks)
-      (within_same 49152 (disks old) (disks old) (λ s. refl))
+  pub same_room : (most : ℕ) → StaysWithin most (disks old) (disks new)
+  same_room most = subst (λ d. StaysWithin most (disks old) d) (sym same_disks)
+      (within_same most (disks old) (disks old) (λ s. refl))
 
 -- a node that went on with nothing noted and nothing sent fits again
 pub goes_fits : (m : Meaning) (h : History) (n : ℕ) (node : NodeValue) (store : StoreValue) → IsLawful m h
@@ -386,7 +387,7 @@ module _ (m : Meaning) (node : NodeValue) (old new : StoreValue)
     (any : (ks ls : List Stored) → HoldsEntries old ks ls
     → KeepsOrIs (disks new) ks ls (next_base old (standing_of node))) where
   -- after any exit
-  pub stays_safe : StaysWithin 49152 (disks old) (disks new) → StaysSafe m node old new
+  pub stays_safe : StaysWithin (max_base_of node.acceptor.alpha) (disks old) (disks new) → StaysSafe m node old new
   stays_safe room = record {
     fits = λ h n f. rebase_fits m h n node old new f.holding f.shown may close f.lawful f.fits
         (any f.shown.keeps.entries (plain f.shown.keeps.loose) f.shown.keeps.holds) f.left;
@@ -399,7 +400,8 @@ module _ (m : Meaning) (node : NodeValue) (old new : StoreValue)
   pub files_switched : (Metered : Type 0) → (new.generation ≡ old.generation + 1)
       → ((ks ls : List Stored) → HoldsEntries old ks ls
       → HoldsEntries new (Base (next_base old (standing_of node)) ∷ []) [])
-      → (Metered → CallsSucceed old.meter new.meter rebase_calls) → length (contents new.live_disk) ≤ 49152
+      → (Metered → CallsSucceed old.meter new.meter rebase_calls)
+      → length (contents new.live_disk) ≤ max_base_of node.acceptor.alpha
       → HasSwitchedFiles m Metered node old (with_snapshot node) new
   files_switched Metered further writes calls short = record {
     rebases = record { becomes = refl; generation = further; writes = writes };
@@ -427,10 +429,11 @@ module _ (m : Meaning) (node : NodeValue) (old new : StoreValue)
 
 -- what it leaves on the disks
 pub leaves_safe : (m : Meaning) (node : NodeValue) (old new : StoreValue) → StaysSafe m node old new
-    → LeavesDisks m (λ h. ⊤) 49152 node old (disks new)
+    → LeavesDisks m (λ h. ⊤) (max_base_of node.acceptor.alpha) node old (disks new)
 leaves_safe m node old new safe = record {
   ends = λ h n f heard. safe.fits h n (before_fits m h n node old f);
   covers = λ genesis n x shown every. safe.covers genesis n x shown.keeps every;
   room = safe.room;
-  grows = grown_base (disks old) (disks new) safe.room;
+  grows = grown_base (max_base_of node.acceptor.alpha) (disks old) (disks new)
+      (most_base node.acceptor.alpha) safe.room;
 }

@@ -1,6 +1,6 @@
 -- What holds after a rebase of a node and its store, at Ok and after an error.
 use Rattle.std.specs.Prelude.{◌≡◌, ◌⊎◌, ℕ, ◌+◌, ◌<◌, ◌≤◌, false, List, [], length}
-use Rattle.lk_types.specs.Limits.{max_base, max_count}
+use Rattle.lk_types.specs.Limits.{max_base_of, max_count}
 use Rattle.lk_disk.specs.Disk.{Disk, contents}
 use Rattle.lk_disk.specs.declared.device.Side.{Side}
 use Rattle.lk_disk.specs.Meters.{CallsSucceed}
@@ -41,14 +41,14 @@ pub record MatchesBase (node : NodeValue) (store : StoreValue) (new : NodeValue)
   pub store_alive : after.failed ≡ false
 
 -- the node's Base is alone in the store, written in this many calls of a device that counts them (`Metered`), and is
--- no longer than a Base may be. In each history that the node fitted it goes on, and sends and notes nothing; it holds
--- something if it did before, and the store keeps what the acceptor holds if it did before; whatever a stop may leave
--- of the disks covers what the node does, and stands for a snapshot of everything executed
+-- no longer than a Base of its alpha may be. In each history that the node fitted it goes on, and sends and notes
+-- nothing; it holds something if it did before, and the store keeps what the acceptor holds if it did before; whatever
+-- a stop may leave of the disks covers what the node does, and stands for a snapshot of everything executed
 pub record HasSwitchedFiles (m : Meaning) (Metered : Type 0) (node : NodeValue) (store : StoreValue) (new : NodeValue)
     (after : StoreValue) : Type 0 where
   pub rebases : Rebases node store new after
   pub calls : Metered → CallsSucceed store.meter after.meter rebase_calls
-  pub short : length (contents after.live_disk) ≤ max_base
+  pub short : length (contents after.live_disk) ≤ max_base_of node.acceptor.alpha
   pub goes : (h : History) (n : ℕ) → NodeFits m h n (ReplicaHolds m node store h.genesis n) (disks store)
       → LeavesFit m h n (ReplicaHolds m new after h.genesis n) (disks after) [] []
   pub shows : (genesis : Genesis) (n : ℕ) (held : Holding) → ReplicaHolds m node store genesis n held
@@ -68,14 +68,14 @@ KeepsOrBegins node store ks ls after =
     ⊎ (FitsBase (standing_of node) × KeepsOrIs (disks after) ks ls (next_base store (standing_of node)))
 
 -- each image that a stop may leave of the store fits each history that the node fitted, and covers what every image
--- covered; neither file has grown, except up to the size of a Base
+-- covered; neither file has grown, except up to the size of a Base of its alpha
 pub record StaysSafe (m : Meaning) (node : NodeValue) (store after : StoreValue) : Type 0 where
   pub fits : (h : History) (n : ℕ) → NodeFits m h n (HoldsBeforeRebase m node store h.genesis n) (disks store)
       → DisksFit m h n (disks after)
   pub covers : (genesis : Genesis) (n : ℕ) (x : NodeMessage)
       → StoreKeeps (header_of genesis n) store node.acceptor.state
       → AllCover m genesis n (disks store) x → AllCover m genesis n (disks after) x
-  pub room : StaysWithin max_base (disks store) (disks after)
+  pub room : StaysWithin (max_base_of node.acceptor.alpha) (disks store) (disks after)
 
 -- a write failed with this fault, for its cause: the device has failed, memory ran out, or, if the store failed
 -- earlier or no generation is left, with `Failed`. The same file is live, with the same generation, format and header;

@@ -28,7 +28,7 @@ pub fn write_base<M: Machine, D: LogDisk + Drop>(
         → OnOk result (HasSwitchedFiles M.meaning D.is_metered node.old store.old node.new store.new) }
     ensures becomes { OnOk result (MatchesBase node.old store.old node.new store.new) }
     // However it ends, every image that a stop may leave fits and covers what every image covered before, and neither
-    // file has grown, except up to the size of a Base.
+    // file has grown, except up to the size of a Base of its alpha.
     ensures disks { D.is_honest → StaysSafe M.meaning node.old store.old store.new }
     // However it ends, and whatever waited for a sync, every image has what it had before, or the Base alone.
     ensures every_image { D.is_honest → (ks ls : List Stored) → HoldsEntries store.old ks ls

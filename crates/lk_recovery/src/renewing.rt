@@ -26,7 +26,7 @@ pub fn renew<M: Machine, D: LogDisk + Drop>(
     ensures renewed { D.is_honest → OnOk result (IsRenewed M.meaning node.old store.old node.new store.new) }
     ensures ready { OnOk result (HasFormatTwo node.old store.old node.new store.new) }
     // However it ends, every image that a stop may leave fits and covers what every image covered before, and neither
-    // file has grown, except up to the size of a Base.
+    // file has grown, except up to the size of a Base of its alpha.
     ensures safe { D.is_honest → StaysSafe M.meaning node.old store.old store.new }
     ensures halted { node.new.halted ≡ node.old.halted }
     // After an error every image has what it had before, or the Base alone.

@@ -6,7 +6,7 @@ ghost use Rattle.lk_log.specs.Images.{IsEmpty, seen};
 ghost use Rattle.lk_log.specs.Stores.{NarrowsOrIsNew, StandsForSome};
 ghost use Rattle.lk_log.specs.StoreValue.{disks};
 ghost use Rattle.lk_log.specs.Rooms.{StaysWithin};
-ghost use Rattle.lk_types.specs.Limits.{max_base};
+ghost use Rattle.lk_types.specs.Limits.{max_base_of};
 ghost use Rattle.lk_state.specs.Packed.{Packs};
 ghost use Rattle.lk_state.specs.States.{WholeValue};
 ghost use Rattle.lk_agreement_laws.specs.Datagrams.{NodeMessage};
@@ -38,7 +38,7 @@ use std::alloc::Global;
 fn zero_text<M: Machine>(alloc: Global, genesis: &Genesis) -> Result<BytesMut, NoMemory>
     ensures text { IfOk result (λ t. t.items ≡ text M.meaning genesis.now []) }
     ensures some { IfOk result (λ t. 1 ≤ length t.items) }
-    ensures room { IfOk result (λ t. length t.items ≤ 37406) }
+    ensures room { IfOk result (λ t. length t.items ≤ 38782) }
 {
     let whole: Whole<M> = Whole::begin(alloc, genesis);
     whole.facts();
@@ -164,10 +164,10 @@ pub fn restart_node<M: Machine, D: LogDisk + Drop>(
     ensures metered { D.is_metered → D.is_honest → MatchResult result
         (λ r. CallsOfOpening (D.disk device) (D.meter device) r.store.meter)
         (λ e. RefusedAfter (fault_number e.fault) (D.meter device) (D.meter e.device)) }
-    // However it ends, neither file has grown, except up to the size of a Base.
+    // However it ends, neither file has grown, except up to the size of a Base of this alpha.
     ensures room { D.is_honest
-        → MatchResult result (λ r. StaysWithin max_base (D.disk device) (disks r.store))
-        (λ e. StaysWithin max_base (D.disk device) (D.disk e.device)) }
+        → MatchResult result (λ r. StaysWithin (max_base_of header.now.alpha) (D.disk device) (disks r.store))
+        (λ e. StaysWithin (max_base_of header.now.alpha) (D.disk device) (D.disk e.device)) }
 {
     header.genesis().facts();
     let Ok(zero) = zero_text::<M>(alloc, header.genesis()) else {

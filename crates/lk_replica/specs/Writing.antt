@@ -1,6 +1,6 @@
 -- What writing the outbox of a step has done, after the node has taken the step, and the sync after it.
 use Rattle.std.specs.Prelude.{◌≡◌, ◌+◌, ◌*◌, ◌≤◌, Bool, true, false, List, ◌++◌, length}
-use Rattle.lk_types.specs.Limits.{max_base}
+use Rattle.lk_types.specs.Limits.{max_base_of}
 use Rattle.lk_types.specs.declared.entry.Entry.{Entry}
 use Rattle.lk_disk.specs.Disk.{contents}
 use Rattle.lk_disk.specs.Meters.{CallsSucceed}
@@ -40,9 +40,9 @@ pub record StaysWritten (node : NodeValue) (store : StoreValue) (out : OutboxVal
 
 -- A Base of the node was to be written, whatever waited for a sync. Each image that a stop may leave has what was
 -- synced and a prefix of the rest, or the Base alone; what the node holds lies near; and neither file has grown, except
--- up to the size of a Base.
+-- up to the size of a Base of its alpha.
 pub record LeavesByBase (node : NodeValue) (store after : StoreValue) : Type 0 where
-  pub room : StaysWithin max_base (disks store) (disks after)
+  pub room : StaysWithin (max_base_of node.acceptor.alpha) (disks store) (disks after)
   pub near : HoldsNear node
   pub every_image : (ks ls : List Stored) → HoldsEntries store ks ls → KeepsOrBegins node store ks ls after
 

@@ -1,7 +1,8 @@
 // Compacting: a rebase on demand, whether it is due or not.
 ghost use Rattle.std.specs.Prelude.{◌≡◌, ◌+◌, ◌≤◌, ◌<◌, false, true, OnOk, IfErr, IsErrOf, ⊤};
-ghost use Rattle.lk_types.specs.Limits.{max_base, max_count};
+ghost use Rattle.lk_types.specs.Limits.{max_base_of, max_count};
 ghost use Rattle.lk_log.specs.StoreValue.{disks};
+ghost use Rattle.lk_learner.specs.Learners.{alpha};
 ghost use Rattle.lk_replica.specs.Compacted.{IsNotCompacted};
 ghost use Rattle.lk_recovery.specs.Rebased.{MatchesBase, HasSwitchedFiles, LeavesDisks};
 ghost use Rattle.lk_node_interface.specs.Faults.{fault_number, CountsFailures};
@@ -25,9 +26,10 @@ impl<M: Machine, D: LogDisk + Drop> Replica<M, D> {
             self.new.node self.new.store) }
         ensures becomes { OnOk result (MatchesBase self.old.node self.old.store self.new.node self.new.store) }
         ensures alive { OnOk result (self.new.failed ≡ false) }
-        // What is on the disks, however it ends: neither file has grown, except up to the size of a Base.
+        // What is on the disks, however it ends: neither file has grown, except up to the size of a Base of its alpha.
         ensures disks { D.is_honest
-            → LeavesDisks M.meaning (λ h. ⊤) max_base self.old.node self.old.store (disks self.new.store) }
+            → LeavesDisks M.meaning (λ h. ⊤) (max_base_of (alpha self.old.node.learner)) self.old.node self.old.store
+            (disks self.new.store) }
         ensures halted { self.new.node.halted ≡ self.old.node.halted }
         // It fails only with 7, 8 or 11, each for its cause, and each ends it; the node is unchanged, and the same
         // file is live.

@@ -1,7 +1,7 @@
 // Steps of a group: their entries are written unsynced, and synced once before their envelopes are sent.
 ghost use Rattle.std.specs.Prelude.{◌≡◌, ℕ, ◌-◌, ◌<◌, ◌≤◌, ◌||◌, Bool, List, [], ◌++◌, length, true, false, Contains};
 ghost use Rattle.std.specs.Prelude.{IfErr, IfOk, IsOk, OnOk, OnErr, IsErrAnd, IsErrOf, ⊤};
-ghost use Rattle.lk_types.specs.Limits.{max_base, max_count};
+ghost use Rattle.lk_types.specs.Limits.{max_base_of, max_count};
 ghost use Rattle.lk_disk.specs.Disk.{contents};
 ghost use Rattle.lk_disk.specs.Meters.{CallsSucceed};
 ghost use Rattle.lk_store_format.specs.declared.stored.Stored.{Stored};
@@ -261,7 +261,8 @@ fn make_room<M: Machine, D: LogDisk + Drop>(
     ensures keeps { D.is_honest
         → IfOk result (RoomKeepsGroup M.meaning node.old store.old needs_sync node.new store.new) }
     ensures disks { D.is_honest
-        → LeavesInGroup M.meaning (λ h. ⊤) max_base node.old store.old needs_sync (disks store.new) }
+        → LeavesInGroup M.meaning
+        (λ h. ⊤) (max_base_of node.old.acceptor.alpha) node.old store.old needs_sync (disks store.new) }
     ensures exact { D.is_honest
         → IfOk result (MakesRoom D.is_metered node.old store.old needs_sync node.new store.new) }
     ensures alive { OnOk result (StaysAlive node.old store.old node.new store.new) }

@@ -1,7 +1,7 @@
 // The trait of a replica with disks in memory, from which a world of replicas is made.
-ghost use Rattle.std.specs.Prelude.{◌≡◌, ℕ, [], Contains, Ok, Err, IfOk, IfErr, OnOk, OnErr};
+ghost use Rattle.std.specs.Prelude.{◌≡◌, ℕ, [], length, Contains, Ok, Err, IfOk, IfErr, OnOk, OnErr};
 ghost use Rattle.std.specs.List.{AllByRecursion};
-ghost use Rattle.lk_types.specs.Limits.{max_base};
+ghost use Rattle.lk_types.specs.Limits.{max_base_of};
 ghost use Rattle.lk_memory_disk.specs.Memory.{disk_of};
 ghost use Rattle.lk_disk.specs.Meters.{CallsSucceed};
 ghost use Rattle.lk_disk.specs.declared.trap.Trap.{Trap as TrapValue};
@@ -80,9 +80,11 @@ pub trait MemoryReplica: Sized + Drop {
         ensures covers_err { (genesis : Genesis) (n : ℕ) (x : NodeMessage) → header.now ≡ header_of genesis n
             → AllCover meaning genesis n (disk_of device) x
             → IfErr result (λ e. AllCover meaning genesis n (disk_of e.device) x) }
-        // Neither file has grown, except up to the size of a Base.
-        ensures room { IfOk result (λ r. StaysWithin max_base (disk_of device) (disks_by behaves r.replica)) }
-        ensures room_err { IfErr result (λ e. StaysWithin max_base (disk_of device) (disk_of e.device)) }
+        // Neither file has grown, except up to the size of a Base of this alpha.
+        ensures room { IfOk result
+            (λ r. StaysWithin (max_base_of header.now.alpha) (disk_of device) (disks_by behaves r.replica)) }
+        ensures room_err { IfErr result
+            (λ e. StaysWithin (max_base_of header.now.alpha) (disk_of device) (disk_of e.device)) }
         ensures calls { IfOk result (λ r. (k : ℕ) × CallsSucceed device.meter (behaves.memory r.replica).meter k) }
         ensures calls_err { IfErr result (λ e. RefusedAfter (fault_number e.fault) device.meter e.device.meter) }
         ensures exact { IfOk result (λ r. behaves.Revives device header.now (Ok (r.replica, r.notes.items))) }
@@ -173,8 +175,10 @@ pub trait MemoryReplica: Sized + Drop {
         ensures stands { (genesis : Genesis) (n : ℕ) (held : Holding) → Shows self.old genesis n held
             → OnOk result (AllStandAt meaning genesis n (disks_by behaves self.new)
             (whole self.new).roster.executed held.paxos.done) }
-        // However it ends, neither file has grown, except up to the size of a Base.
-        ensures room { StaysWithin max_base (disks_by behaves self.old) (disks_by behaves self.new) }
+        // However it ends, neither file has grown, except up to the size of a Base of its alpha.
+        ensures room { StaysWithin
+            (max_base_of (length (whole self.old).roster.sets))
+            (disks_by behaves self.old) (disks_by behaves self.new) }
         // At Ok its device has made the changing calls of a rebase, and all have succeeded. After error 7 one has
         // failed; after any other error all have succeeded.
         ensures calls { OnOk result

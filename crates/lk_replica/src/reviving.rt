@@ -3,7 +3,7 @@ ghost use Rattle.std.specs.Prelude.{◌≡◌, ℕ, ◌+◌, ◌≤◌, ◌↔�
 ghost use Rattle.lk_log.specs.Images.{IsEmpty, seen};
 ghost use Rattle.lk_log.specs.StoreValue.{disks};
 ghost use Rattle.lk_log.specs.Rooms.{StaysWithin};
-ghost use Rattle.lk_types.specs.Limits.{max_base};
+ghost use Rattle.lk_types.specs.Limits.{max_base_of};
 ghost use Rattle.lk_agreement_laws.specs.Datagrams.{NodeMessage};
 ghost use Rattle.lk_node.specs.Calls.{LeavesFit};
 ghost use Rattle.lk_recovery.specs.Remembering.{ReplicaRemembers};
@@ -77,10 +77,11 @@ impl<M: Machine, D: LogDisk + Drop> Replica<M, D> {
         ensures metered { D.is_metered → D.is_honest → MatchResult result
             (λ r. CallsOfRevival (D.disk device) (D.meter device) r.replica.store.meter)
             (λ e. RefusedAfter (fault_number e.fault) (D.meter device) (D.meter e.device)) }
-        // However it ends, neither file has grown, except up to the size of a Base.
+        // However it ends, neither file has grown, except up to the size of a Base of this alpha.
         ensures room { D.is_honest
-            → MatchResult result (λ r. StaysWithin max_base (D.disk device) (disks r.replica.store))
-            (λ e. StaysWithin max_base (D.disk device) (D.disk e.device)) }
+            → MatchResult result
+            (λ r. StaysWithin (max_base_of header.now.alpha) (D.disk device) (disks r.replica.store))
+            (λ e. StaysWithin (max_base_of header.now.alpha) (D.disk device) (D.disk e.device)) }
     {
         let mut up: RestartedNode<M, D> = match restart_node(alloc, device, header) {
             Ok(up) => up,

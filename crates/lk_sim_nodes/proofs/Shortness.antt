@@ -1,10 +1,11 @@
 -- Files that stay short.
 use Rattle.std.proofs.Common.{◌≡◌, ℕ, ◌≤◌, [], ◌++◌, length, take, ap, sym, subst, arith, append-nil}
 use Rattle.std.proofs.lemmas.List.{length-take, length-append}
+use Rattle.lk_types.specs.Limits.{max_base_of}
 use Rattle.lk_disk.specs.Disk.{Disk, contents, after_stop}
 use Rattle.lk_disk.specs.declared.device.Side.{Side}
 use Rattle.lk_log.specs.Rooms.{StaysWithin}
-use Rattle.lk_log.proofs.Room.{refused_room, never_longer}
+use Rattle.lk_log.proofs.Room.{most_base, refused_room, never_longer}
 use Rattle.lk_sim_nodes.specs.Rooms.{AreShort}
 
 -- after a step
@@ -12,8 +13,10 @@ pub stepped_short : (old new : Side → Disk) → StaysWithin 132704 old new →
 stepped_short old new stays short = never_longer old new stays short
 
 -- after a Base that was written
-pub based_short : (old new : Side → Disk) → StaysWithin 49152 old new → AreShort old → AreShort new
-based_short old new stays short = never_longer old new (refused_room old new stays) short
+pub based_short : (alpha : ℕ) (old new : Side → Disk) → StaysWithin (max_base_of alpha) old new → AreShort old
+    → AreShort new
+based_short alpha old new stays short =
+    never_longer old new (refused_room (max_base_of alpha) old new (most_base alpha) stays) short
 
 pub same_short : (old new : Side → Disk) → ((s : Side) → new s ≡ old s) → AreShort old → AreShort new
 same_short old new same short s = subst (λ (d : Disk). length (contents d) ≤ 262144) (sym (same s)) (short s)

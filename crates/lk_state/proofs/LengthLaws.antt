@@ -1,5 +1,5 @@
 -- How long a packed state is.
-use Rattle.std.proofs.Common.{◌≡◌, ℕ, ◌*◌, ◌≤◌, List, [], ◌∷◌, ◌++◌, length, arith, length-append}
+use Rattle.std.proofs.Common.{◌≡◌, ℕ, ◌+◌, ◌*◌, ◌≤◌, List, [], ◌∷◌, ◌++◌, length, arith, length-append}
 use Rattle.std.specs.List.{flat_map, AllByRecursion}
 use Rattle.std.proofs.Math.Nat.{suc-mul}
 use Rattle.std.proofs.lemmas.List.Concat.{flat_map-cons}
@@ -58,9 +58,8 @@ length-set set h =
     length-pieces IsMember member 6 (λ m _. omega (arith, length-member m)) set h.1 in
     omega (arith, length-append (one (length set)) (flat_map member set))
 
-length-roster : (r : RosterValue) → IsRoster r → length (roster_text r) ≤ 1397
+length-roster : (r : RosterValue) → IsRoster r → length (roster_text r) ≤ 21 + 43 * length r.sets
 length-roster r h =
-    let few = h.sets.0 in
     let pieces : length (flat_map members r.sets) ≤ length r.sets * 43 =
     length-pieces IsSet members 43 length-set r.sets h.sets.1 in
     omega (
@@ -81,9 +80,9 @@ length-sessions l h =
     length-pieces IsSession session_text 21 (λ s _. length-session s) l h.0 in
     omega (arith, length-append (two (length l)) (flat_map session_text l), length-two (length l))
 
--- so it has at most 37,406 bytes, of which the machine's are 30,631
+-- so it has at most 36,030 bytes beside the sets of members, and the machine has 30,631 of these
 pub length-packed : (IsText : List ℕ → Type 0) → ((t : List ℕ) → IsText t → length t ≤ 30631) → (w : WholeValue)
-    → IsWhole IsText w → length (packed w) ≤ 37406
+    → IsWhole IsText w → length (packed w) ≤ 36030 + 43 * length w.roster.sets
 length-packed IsText short w h =
     omega (
       arith,
@@ -93,6 +92,11 @@ length-packed IsText short w h =
       length-sessions w.sessions h.sessions,
       short w.text h.text,
     )
+
+-- with 64 sets it has at most 38,782
+pub length-all-packed : (IsText : List ℕ → Type 0) → ((t : List ℕ) → IsText t → length t ≤ 30631) → (w : WholeValue)
+    → IsWhole IsText w → length (packed w) ≤ 38782
+length-all-packed IsText short w h = omega (arith, length-packed IsText short w h, h.roster.sets.0)
 
 -- and some: how many positions are executed has 8
 pub packed_is_some : (w : WholeValue) → 1 ≤ length (packed w)

@@ -25,10 +25,10 @@ abbrev IsIn : ℕ → ℕ → Type 0
 IsIn most n = (1 ≤ n) × (n ≤ most)
 
 sets_reads : Reads read_sets sets_text
-    (λ (sets : List (List Member)). IsIn 32 (length sets) × AllByRecursion IsSet sets)
+    (λ (sets : List (List Member)). IsIn 64 (length sets) × AllByRecursion IsSet sets)
 unfolding read_sets
-sets_reads = counted_reads (tested (is_from_1_to 32) read_byte) one (IsIn 32)
-    (ranged_reads 32 256 (omega arith) read_byte one byte_reads) read_members members IsSet members_reads
+sets_reads = counted_reads (tested (is_from_1_to 64) read_byte) one (IsIn 64)
+    (ranged_reads 64 256 (omega arith) read_byte one byte_reads) read_members members IsSet members_reads
 
 abbrev Parts : Type 0
 Parts = ℕ × (List (List Member) × (ℕ × ℕ))
@@ -41,7 +41,7 @@ parts_of v = (v.executed, (v.sets, (v.greatest, v.changed)))
 
 abbrev ArePartsOf : RosterValue → Type 0
 ArePartsOf v = IsTotal v.executed
-    × ((IsIn 32 (length v.sets) × AllByRecursion IsSet v.sets) × (IsNode v.greatest × IsTotal v.changed))
+    × ((IsIn 64 (length v.sets) × AllByRecursion IsSet v.sets) × (IsNode v.greatest × IsTotal v.changed))
 
 roster_reads : Reads read_roster roster_text IsRoster
 unfolding read_roster

@@ -1,6 +1,6 @@
 //! The packed text of a state.
 
-ghost use Rattle.std.specs.Prelude.{◌≡◌, ◌≤◌, ◌++◌, length, OnOk, OnErr};
+ghost use Rattle.std.specs.Prelude.{◌≡◌, ◌+◌, ◌*◌, ◌≤◌, ◌++◌, length, OnOk, OnErr};
 ghost use Rattle.lk_types.specs.Limits.{max_client};
 ghost use Rattle.lk_types.specs.Rosters.{AreMembers};
 ghost use Rattle.lk_members.specs.Sets.{IsWindow};
@@ -65,12 +65,13 @@ fn put_sessions(out: &mut BytesMut, sessions: &[Session]) -> Result<(), AllocErr
 }
 
 impl<M: Machine> Whole<M> {
-    /// Shows the prover that each part is in its range, and that the packed text has 1 to 37,406 bytes. Does nothing at
-    /// run time.
+    /// Shows the prover that each part is in its range, and that the packed text has 1 to 38,782 bytes: at most 36,030,
+    /// and 43 for each set of members. Does nothing at run time.
     pub fn facts(&self)
         ensures fits { IsWhole M.IsText self.now }
         ensures some { 1 ≤ length (packed self.now) }
-        ensures short { length (packed self.now) ≤ 37406 }
+        ensures short { length (packed self.now) ≤ 38782 }
+        ensures by_sets { length (packed self.now) ≤ 36030 + 43 * length self.now.roster.sets }
     {
         let _ = &self.roster;
     }

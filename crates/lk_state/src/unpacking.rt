@@ -36,7 +36,7 @@ fn many_sets(count: u8, bytes: &[u8]) -> Option<(Window, &[u8])>
     Some((window, rest))
 }
 
-// Reads how many sets there are, 1 to 32, and then each.
+// Reads how many sets there are, 1 to 64, and then each.
 #[tactic(auto, unfolding(crate::specs::Reading::read_sets))]
 fn read_window(bytes: &[u8]) -> Option<(Window, &[u8])>
     ensures read { Finds (λ x. (x.0, x.1.now)) result (read_sets bytes.now) }

@@ -45,7 +45,7 @@ use Rattle.lk_store_format.specs.declared.stored.Stored.TheVariants.{Base, Plain
 
 alpha_reads : Reads read_alpha one IsAlpha
 unfolding read_alpha
-alpha_reads = ranged_reads 32 256 (omega arith) read_byte one byte_reads
+alpha_reads = ranged_reads 64 256 (omega arith) read_byte one byte_reads
 
 AreAll : List Member → Type 0
 AreAll ms = AreMembers ms × AllByRecursion IsMember ms
@@ -70,28 +70,28 @@ format_reads = ranged_reads 2 256 (omega arith) read_byte one byte_reads
 
 -- ---- the standing
 
-snapshot_reads : Reads read_snapshot snapshot (λ (text : List ℕ). (1 ≤ length text) × (length text ≤ 49152))
+snapshot_reads : Reads read_snapshot snapshot (λ (text : List ℕ). (1 ≤ length text) × (length text ≤ 65536))
 unfolding read_snapshot
-snapshot_reads = sized_reads (tested (is_from_1_to 49152) read_four) four (λ n. (1 ≤ n) × (n ≤ 49152))
-    (ranged_reads 49152 (2 ^ 32) (omega arith) read_four four four_reads)
+snapshot_reads = sized_reads (tested (is_from_1_to 65536) read_four) four (λ n. (1 ≤ n) × (n ≤ 65536))
+    (ranged_reads 65536 (2 ^ 32) (omega arith) read_four four four_reads)
 
-few_reads : Reads read_few two (λ n. n ≤ 64)
+few_reads : Reads read_few two (λ n. n ≤ 128)
 unfolding read_few
-few_reads = limited_reads 64 (2 ^ 16) (omega arith) read_two two two_reads
+few_reads = limited_reads 128 (2 ^ 16) (omega arith) read_two two two_reads
 
 AreVotes : List VoteValue → Type 0
-AreVotes vs = (length vs ≤ 64) × AllByRecursion IsVote vs
+AreVotes vs = (length vs ≤ 128) × AllByRecursion IsVote vs
 
 ArePairs : List (ℕ × Command) → Type 0
-ArePairs ps = (length ps ≤ 64) × AllByRecursion IsPair ps
+ArePairs ps = (length ps ≤ 128) × AllByRecursion IsPair ps
 
 votes_reads : Reads read_votes votes AreVotes
 unfolding read_votes AreVotes
-votes_reads = counted_reads read_few two (λ n. n ≤ 64) few_reads read_vote vote IsVote vote_reads
+votes_reads = counted_reads read_few two (λ n. n ≤ 128) few_reads read_vote vote IsVote vote_reads
 
 pairs_reads : Reads read_pairs pairs ArePairs
 unfolding read_pairs ArePairs
-pairs_reads = counted_reads read_few two (λ n. n ≤ 64) few_reads read_pair pair IsPair pair_reads
+pairs_reads = counted_reads read_few two (λ n. n ≤ 128) few_reads read_pair pair IsPair pair_reads
 
 standing_of : BallotValue × (ℕ × (List ℕ × (List VoteValue × List (ℕ × Command)))) → StandingValue
 standing_of s = record { promised = s.0; position = s.1.0; snapshot = s.1.1.0; votes = s.1.1.1.0; pairs = s.1.1.1.1 }
@@ -106,7 +106,7 @@ are_true a b x y = rw (x, y) refl
 
 Parts : StandingValue → Type 0
 Parts s = IsBallot s.promised
-    × (IsTotal s.position × (((1 ≤ length s.snapshot) × (length s.snapshot ≤ 49152))
+    × (IsTotal s.position × (((1 ≤ length s.snapshot) × (length s.snapshot ≤ 65536))
     × (AreVotes s.votes × ArePairs s.pairs)))
 
 parts_fit : (s : StandingValue) → Parts s × (is_in_order s ≡ true) → IsStanding s
@@ -142,7 +142,7 @@ standing_reads = fitting read_standing standing
     (both_reads read_any_ballot ballot IsBallot _ _ _ mark_reads
     (both_reads read_total eight IsTotal _ _ _ total_reads
     (both_reads read_snapshot snapshot
-    (λ (text : List ℕ). (1 ≤ length text) × (length text ≤ 49152)) _ _ _ snapshot_reads
+    (λ (text : List ℕ). (1 ≤ length text) × (length text ≤ 65536)) _ _ _ snapshot_reads
     (both_reads read_votes votes AreVotes read_pairs pairs ArePairs votes_reads pairs_reads))))))
 
 base_of : ℕ × (ℕ × (HeaderValue × StandingValue)) → BaseValue
@@ -190,9 +190,9 @@ body_reads = tagged_reads kind fields IsBody read_fields fields_takes fields_aga
 
 -- ---- the length before it
 
-size_reads : Reads read_size four (λ n. n ≤ 49148)
+size_reads : Reads read_size four (λ n. n ≤ 65532)
 unfolding read_size
-size_reads = limited_reads 49148 (2 ^ 32) (omega arith) read_four four four_reads
+size_reads = limited_reads 65532 (2 ^ 32) (omega arith) read_four four four_reads
 
 bytes_between : (a text rest bytes : List ℕ) → bytes ≡ (a ++ text) ++ rest → IsBytes bytes → IsBytes text
 bytes_between a text rest bytes is h =
@@ -249,27 +249,27 @@ unfolding eight four two
 len_command Noop f = omega arith
 len_command (Request r) f = omega (arith, len_op r.op f.2)
 
-pub plain_short : (e : Entry) → IsEntry e → length (body (Plain e)) ≤ 49148
+pub plain_short : (e : Entry) → IsEntry e → length (body (Plain e)) ≤ 65532
 unfolding eight four
 plain_short (Promise b) f = omega (arith, len_ballot b)
 plain_short (Vote v) f = omega (arith, len_command v.command f.2)
 plain_short (Decided position c) f = omega (arith, len_command c f.1)
 
-stored_fits : (e : Stored) → IsBody e × (length (body e) ≤ 49148) → IsStored e
+stored_fits : (e : Stored) → IsBody e × (length (body e) ≤ 65532) → IsStored e
 stored_fits (Base b) f = (f.0, omega (arith, f.1))
 stored_fits (Plain e) f = f.0
 
-fits_stored : (e : Stored) → IsStored e → IsBody e × (length (body e) ≤ 49148)
+fits_stored : (e : Stored) → IsStored e → IsBody e × (length (body e) ≤ 65532)
 fits_stored (Base b) f = (f.0, omega (arith, f.1))
 fits_stored (Plain e) f = (f, plain_short e f)
 
 pub entry_reads : Reads read_entry spelling IsStored
 unfolding read_entry spelling
 entry_reads = fitting read_entry spelling
-    (λ (e : Stored). IsBody e × (length (body e) ≤ 49148)) IsStored stored_fits fits_stored
-    (within_reads read_size four (λ n. n ≤ 49148) size_reads read_body body IsBody body_reads)
+    (λ (e : Stored). IsBody e × (length (body e) ≤ 65532)) IsStored stored_fits fits_stored
+    (within_reads read_size four (λ n. n ≤ 65532) size_reads read_body body IsBody body_reads)
 
-pub body_short : (e : Stored) → IsStored e → length (body e) ≤ 49148
+pub body_short : (e : Stored) → IsStored e → length (body e) ≤ 65532
 body_short e f = (fits_stored e f).1
 
 -- ---- the entry in front

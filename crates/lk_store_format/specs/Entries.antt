@@ -78,7 +78,7 @@ abbrev pub are_pairs_above : ℕ → List (ℕ × Command) → Bool
 are_pairs_above low [] = true
 are_pairs_above low (p ∷ ps) = nat_lt low p.0 && are_pairs_above p.0 ps
 
--- a snapshot, and above it at most 64 votes and at most 64 pairs, each strictly rising by position
+-- a snapshot, and above it at most 128 votes and at most 128 pairs, each strictly rising by position
 abbrev pub IsStanding : StandingValue → Type 0
 IsStanding s = IsBallot s.promised × IsTotal s.position
     × (1 ≤ length s.snapshot) × (length s.snapshot ≤ max_base)
@@ -93,7 +93,7 @@ IsEntry (Promise b) = IsRealBallot b
 IsEntry (Vote v) = IsVote v
 IsEntry (Decided position c) = IsCount position × IsCommand c
 
--- a whole Base has at most 49,152 bytes, including the four of its length
+-- a whole Base has at most 65,536 bytes, including the four of its length
 abbrev pub IsStored : Stored → Type 0
 IsStored (Base b) = IsBase b × (4 + length (body (Base b)) ≤ max_base)
 IsStored (Plain e) = IsEntry e

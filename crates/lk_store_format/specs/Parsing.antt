@@ -72,7 +72,7 @@ read_fields =
 abbrev pub read_body : List ℕ → Option (Stored × List ℕ)
 read_body = tagged read_fields
 
--- how many bytes follow the length: including its own four at most 49,152
+-- how many bytes follow the length: including its own four at most 65,536
 unfoldable pub read_size : List ℕ → Option (ℕ × List ℕ)
 read_size = tested (λ n. nat_le n (max_base - 4)) read_four
 

@@ -68,7 +68,7 @@ fn read_header(bytes: &[u8]) -> Option<(Header, &[u8])>
     Some((Header::new(node, genesis), rest))
 }
 
-// Reads a four-byte length and that many bytes: 1 to 49,152.
+// Reads a four-byte length and that many bytes: 1 to 65,536.
 #[tactic(auto, unfolding(crate::specs::Parsing::read_snapshot))]
 fn read_snapshot(alloc: Global, bytes: &[u8]) -> Result<(Vec<u8>, &[u8]), EntryFault>
     ensures { Gives (λ x. (x.0.items, x.1.now)) result (read_snapshot bytes.now) }
@@ -84,7 +84,7 @@ fn read_snapshot(alloc: Global, bytes: &[u8]) -> Result<(Vec<u8>, &[u8]), EntryF
     Ok((text.to_vec(alloc)?, rest))
 }
 
-// Reads the length of a list of votes or pairs: 0 to 64.
+// Reads the length of a list of votes or pairs: 0 to 128.
 #[tactic(auto, unfolding(crate::specs::Parsing::read_few))]
 fn read_few(bytes: &[u8]) -> Option<(u16, &[u8])>
     ensures { Finds (λ x. (x.0, x.1.now)) result (read_few bytes.now) }

@@ -33,7 +33,7 @@ impl Model for ReceiveBuffer {
 
     ghost Value = { BufferValue };
 
-    ghost invariant = { λ e. IfSome e.last (λ l. l.0 ≤ 8229) };
+    ghost invariant = { λ e. IfSome e.last (λ l. l.0 ≤ 16421) };
 
     ghost view = { λ e. record {
       last = heard_in e.buffer e.last;

@@ -75,7 +75,7 @@ pub trait DatagramSocket {
     /// `None` if none arrived within the timeout, or the receive failed; that says nothing about later receives.
     fn receive(&mut self, buffer: &mut [u8]) -> Option<(usize, SocketAddr)>
         // The buffer has room for the longest frame and one byte more.
-        requires room { 8229 ≤ length buffer.old }
+        requires room { 16421 ≤ length buffer.old }
         ensures within { IfSome result (λ r. r.0 ≤ length buffer.new) }
         ensures receives { is_observable
             → Receives (heard_in buffer.new result) (incoming self.old) (incoming self.new) }
@@ -84,7 +84,7 @@ pub trait DatagramSocket {
 
     /// Does the same as `receive` without waiting: `None` if no datagram has arrived yet.
     fn try_receive(&mut self, buffer: &mut [u8]) -> Option<(usize, SocketAddr)>
-        requires room { 8229 ≤ length buffer.old }
+        requires room { 16421 ≤ length buffer.old }
         ensures within { IfSome result (λ r. r.0 ≤ length buffer.new) }
         ensures receives { is_observable
             → Receives (heard_in buffer.new result) (incoming self.old) (incoming self.new) }

@@ -1,5 +1,5 @@
 -- The limits that all crates share. `src/limits.rt` has them for the code, under the same names and with their reasons.
-use Rattle.std.specs.Prelude.{ℕ, ◌*◌, ◌^◌}
+use Rattle.std.specs.Prelude.{ℕ, ◌*◌, ◌^◌, nat_le, if◌then◌else◌}
 
 -- rounds, positions, fences, request numbers and generations
 abbrev pub max_count : ℕ
@@ -23,7 +23,7 @@ max_alpha = 16
 
 -- and if it is
 abbrev pub max_wide_alpha : ℕ
-max_wide_alpha = 32
+max_wide_alpha = 64
 
 -- positions whose members are known
 abbrev pub max_window : ℕ
@@ -63,7 +63,7 @@ max_part = 1024
 
 -- bytes of a datagram
 abbrev pub max_datagram : ℕ
-max_datagram = 8192
+max_datagram = 16 * 1024
 
 -- bytes of a packed machine
 abbrev pub max_machine : ℕ
@@ -71,7 +71,11 @@ max_machine = 30631
 
 -- bytes of a Base including its length field, and so of the snapshot in it
 abbrev pub max_base : ℕ
-max_base = 48 * 1024
+max_base = 64 * 1024
+
+-- bytes of a Base of a node that knows the members so many positions ahead
+unfoldable pub max_base_of : ℕ → ℕ
+max_base_of alpha = if nat_le alpha 32 then 48 * 1024 else max_base
 
 -- the greatest length that an incomplete entry may state
 abbrev pub max_torn : ℕ

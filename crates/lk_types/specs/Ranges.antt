@@ -27,6 +27,6 @@ IsTotal n = n ≤ max_count
 abbrev pub IsSharerCount : ℕ → Type 0
 IsSharerCount n = (1 ≤ n) × (n ≤ max_sharers)
 
--- how many positions ahead the members are known: 1 to 32
+-- how many positions ahead the members are known: 1 to 64
 abbrev pub IsAlpha : ℕ → Type 0
 IsAlpha n = (1 ≤ n) × (n ≤ max_wide_alpha)

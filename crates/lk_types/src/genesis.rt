@@ -15,7 +15,7 @@ pub enum GenesisFault {
     TooMany = 2,
     #[error("the members do not rise by node")]
     NotRising = 3,
-    #[error("alpha is not 1 to 16, or of a wide genesis 1 to 32")]
+    #[error("alpha is not 1 to 16, or of a wide genesis 1 to 64")]
     BadAlpha = 4,
 }
 
@@ -76,7 +76,7 @@ impl Genesis {
         Genesis::up_to(MAX_ALPHA, cluster, alpha, members)
     }
 
-    /// Returns the wide genesis of these parts, whose alpha may be up to 32, or the first fault that applies.
+    /// Returns the wide genesis of these parts, whose alpha may be up to 64, or the first fault that applies.
     pub fn wide(cluster: u64, alpha: u8, members: &[Member]) -> Result<Genesis, GenesisFault>
         ensures ok { IfOk result (λ g. (g.cluster ≡ cluster) × (g.alpha ≡ alpha) × (g.members ≡ members.now)) }
         ensures fault { MatchResult result (λ _. wide_fault alpha members.now ≡ None)

@@ -11,7 +11,7 @@ pub const MAX_PORT: u16 = 65_535;
 /// The greatest alpha, unless the genesis is wide: how many positions ahead of the executed ones the members are known.
 pub const MAX_ALPHA: u8 = 16;
 /// The greatest alpha of a wide genesis: its votes and pairs still fit a Base, beside the longest machine.
-pub const MAX_WIDE_ALPHA: u8 = 32;
+pub const MAX_WIDE_ALPHA: u8 = 64;
 /// Positions whose members are known, and at which proposals may be open at once.
 pub const MAX_WINDOW: usize = MAX_WIDE_ALPHA as usize;
 /// Members of a position.
@@ -31,10 +31,13 @@ pub const MAX_COMMANDS: usize = 16;
 /// Bytes of a snapshot in one Part.
 pub const MAX_PART: usize = 1024;
 /// Bytes of the longest datagram that is received; every one that is sent is shorter.
-pub const MAX_DATAGRAM: usize = 8192;
-/// The most bytes of a packed machine, so that its state with members, sessions, votes and pairs fits a Base.
+pub const MAX_DATAGRAM: usize = 16 * 1024;
+/// The most bytes of a packed machine: up to alpha 32 its state, with members, sessions, votes and pairs, then fits a
+/// Base of 48 KiB.
 pub const MAX_MACHINE: usize = 30_631;
-/// Bytes of a Base including its length field, and so of the snapshot in it.
-pub const MAX_BASE: usize = 48 * 1024;
-/// The greatest length that a torn entry at the end of a file may state; a greater one is damage.
+/// Bytes of a Base including its length field, and so of the snapshot in it. Up to alpha 32 no Base has more than 48
+/// KiB.
+pub const MAX_BASE: usize = 64 * 1024;
+/// The greatest length that a torn entry at the end of a file may state; a greater one is damage. No entry states more:
+/// a Base, the longest, states its length without the four bytes of the length field.
 pub const MAX_TORN: usize = 64 * 1024;

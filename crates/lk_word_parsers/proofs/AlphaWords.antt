@@ -29,7 +29,7 @@ is_narrow alpha word free (wide least most is) = absurd (has_sign 119 (decimal a
 
 -- a word with one is wide, and ends there
 pub is_wide : (alpha : ℕ) (word digits rest : List ℕ) → HasNo 119 digits → word ≡ digits ++ 119 ∷ rest
-    → IsAlphaWord alpha word → (1 ≤ alpha) × (alpha ≤ 32) × (digits ≡ decimal alpha) × (rest ≡ [])
+    → IsAlphaWord alpha word → (1 ≤ alpha) × (alpha ≤ 64) × (digits ≡ decimal alpha) × (rest ≡ [])
 is_wide alpha word digits rest free e (narrow least most is) =
     absurd (has_sign 119 digits rest (subst (HasNo 119) (sym is ∙ e) (number_has_no_w alpha (omega (arith, most)))))
 is_wide alpha word digits rest free e (wide least most is) =

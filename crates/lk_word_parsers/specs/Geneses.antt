@@ -16,7 +16,7 @@ pub data SpellsMembers (sign : ℕ) : List ℕ → List Member → Type 0 where
   more : (m : Member) (word rest : List ℕ) (members : List Member) → IsMemberWord m word
       → SpellsMembers sign rest members → SpellsMembers sign (word ++ sign ∷ rest) (m ∷ members)
 
--- an alpha: 1 to 16, or 1 to 32 with a `w` behind it, which says that the genesis is wide
+-- an alpha: 1 to 16, or 1 to 64 with a `w` behind it, which says that the genesis is wide
 pub data IsAlphaWord (alpha : ℕ) (word : List ℕ) : Type 0 where
   narrow : 1 ≤ alpha → alpha ≤ max_alpha → word ≡ decimal alpha → IsAlphaWord alpha word
   wide : 1 ≤ alpha → alpha ≤ max_wide_alpha → word ≡ decimal alpha ++ 119 ∷ [] → IsAlphaWord alpha word

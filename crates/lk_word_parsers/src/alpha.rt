@@ -20,7 +20,7 @@ fn read_digits(word: &[u8], most: u8) -> Option<u8>
     Some(alpha as u8)
 }
 
-/// Reads an alpha: 1 to 16, or 1 to 32 with a `w` behind it. `None` if the word spells none.
+/// Reads an alpha: 1 to 16, or 1 to 64 with a `w` behind it. `None` if the word spells none.
 pub fn read_alpha(word: &[u8]) -> Option<u8>
     ensures some { IfSome result (λ n. IsAlphaWord n word.now) }
     ensures none { IsNone result → (n : ℕ) → IsAlphaWord n word.now → ⊥ }

@@ -60,43 +60,43 @@ returns-clause-every_image g c honest b ks ls holds less two fits piece =
     (nothing_front (old c.args.live) (new c.args.live) (c.in_ok-cut.ensures.ok honest))
 
 pub returns-in_err-write_over-clause-room : goal.returns-in_err-write_over-clause-room
-returns-in_err-write_over-clause-room g c honest few =
-    written_room c.other-side.result (g.D.LogDisk.disk c.args.device.now)
+returns-in_err-write_over-clause-room g c honest most few =
+    written_room most c.other-side.result (g.D.LogDisk.disk c.args.device.now)
     (g.D.LogDisk.disk c.write_over.new.device) c.args.bytes.now few (c.write_over.ensures.every_image honest)
     (c.write_over.ensures.beside honest)
 
 pub returns-in_err-cut-clause-room : goal.returns-in_err-cut-clause-room
-returns-in_err-cut-clause-room g c honest few =
+returns-in_err-cut-clause-room g c honest most few =
     let old = g.D.LogDisk.disk c.args.device.now in
     let mid = g.D.LogDisk.disk c.write_over.new.device in
     let new = g.D.LogDisk.disk c.cut.new.self in
-    within_still 49152 old mid new
-    (written_room c.other-side.result old mid c.args.bytes.now few (c.write_over.ensures.every_image honest)
+    within_still most old mid new
+    (written_room most c.other-side.result old mid c.args.bytes.now few (c.write_over.ensures.every_image honest)
     (c.write_over.ensures.beside honest))
     (within_side 0 c.args.live mid new
     (omega (arith, cut_short_room 0 (mid c.args.live) (new c.args.live) (c.in_err-cut.ensures.err honest)))
     (c.cut.ensures.beside honest))
 
 pub returns-clause-room : goal.returns-clause-room
-returns-clause-room g c honest few =
+returns-clause-room g c honest most few =
     let old = g.D.LogDisk.disk c.args.device.now in
     let mid = g.D.LogDisk.disk c.write_over.new.device in
     let new = g.D.LogDisk.disk c.cut.new.self in
-    within_still 49152 old mid new
-    (written_room c.other-side.result old mid c.args.bytes.now few (c.write_over.ensures.every_image honest)
+    within_still most old mid new
+    (written_room most c.other-side.result old mid c.args.bytes.now few (c.write_over.ensures.every_image honest)
     (c.write_over.ensures.beside honest))
     (within_side 0 c.args.live mid new
     (omega (arith, cut_room 0 (mid c.args.live) (new c.args.live) (c.in_ok-cut.ensures.ok honest)))
     (c.cut.ensures.beside honest))
 
 pub returns-clause-short : goal.returns-clause-short
-returns-clause-short g c honest few =
+returns-clause-short g c honest most few =
     let mid = g.D.LogDisk.disk c.write_over.new.device in
     let new = g.D.LogDisk.disk c.cut.new.self in
     let written : mid (other c.args.live) ≡ record { synced = c.args.bytes.now; unsynced = [] } =
     subst (λ (k : Side). mid k ≡ record { synced = c.args.bytes.now; unsynced = [] }) c.other-side.ensures
     (c.in_ok-write_over.ensures.ok honest) in
-    short_room (new (other c.args.live)) c.args.bytes.now (c.cut.ensures.beside honest ∙ written) few
+    short_room most (new (other c.args.live)) c.args.bytes.now (c.cut.ensures.beside honest ∙ written) few
 
 -- ---- which calls were made
 

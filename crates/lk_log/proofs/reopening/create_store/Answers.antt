@@ -9,8 +9,9 @@ use Rattle.lk_log.specs.Stores.{first_base, IsWrittenOver, OpensOn}
 use Rattle.lk_log.proofs.BeginLaws.{begins_same, begins, begun_opens, first_fits}
 use Rattle.lk_log.proofs.StoreLaws.{first_stands}
 use Rattle.lk_log.proofs.reopening.create_store.Goals as goal
+use Rattle.lk_log.proofs.RebaseLaws.{first_short}
 use Rattle.lk_log.proofs.Room.{within_same, within_side, begun_room}
-use Rattle.lk_types.specs.Limits.{max_base}
+use Rattle.lk_types.specs.Limits.{max_base_of}
 use Rattle.lk_disk.specs.Meters.{start}
 use Rattle.lk_log.specs.declared.fault.OpenFault.TheVariants.{NoMemory}
 use Rattle.lk_log.proofs.OpenMetering.{refused}
@@ -78,11 +79,13 @@ returns-clause-stands g c =
 
 pub returns-in_err-base-clause-room : goal.returns-in_err-base-clause-room
 returns-in_err-base-clause-room g c honest =
-    within_same max_base (g.D.LogDisk.disk c.args.device.now) (g.D.LogDisk.disk c.args.device.now) (λ s. refl)
+    within_same (max_base_of c.args.header.now.alpha) (g.D.LogDisk.disk c.args.device.now)
+    (g.D.LogDisk.disk c.args.device.now) (λ s. refl)
 
 pub returns-in_err-bytes-clause-room : goal.returns-in_err-bytes-clause-room
 returns-in_err-bytes-clause-room g c honest =
-    within_same max_base (g.D.LogDisk.disk c.args.device.now) (g.D.LogDisk.disk c.args.device.now) (λ s. refl)
+    within_same (max_base_of c.args.header.now.alpha) (g.D.LogDisk.disk c.args.device.now)
+    (g.D.LogDisk.disk c.args.device.now) (λ s. refl)
 
 pub returns-in_err-write_over-clause-room : goal.returns-in_err-write_over-clause-room
 returns-in_err-write_over-clause-room g c honest =
@@ -91,10 +94,10 @@ returns-in_err-write_over-clause-room g c honest =
     let base = first_base c.args.header.now c.args.zero.now in
     let piece = c.deref.ensures ∙ c.in_ok-bytes.ensures
     ∙ ap (λ (b : BaseValue). spelling (Base b)) c.in_ok-base.ensures.value in
-    let fits = first_fits c.args.header.now c.args.zero.now c.first_base.ensures.header
-    c.requires.some c.requires.room in
-    within_side max_base A old new
-    (begun_room base (old A) (new A) fits
+    let most = max_base_of c.args.header.now.alpha in
+    let few = first_short c.args.header.now c.args.zero.now c.first_base.ensures.header c.requires.room in
+    within_side most A old new
+    (begun_room base most (old A) (new A) few
     (subst (λ (l : List ℕ). IsWrittenOver (old A) l (new A)) piece (c.write_over.ensures.every_image honest)))
     (c.write_over.ensures.beside honest)
 
@@ -105,10 +108,10 @@ returns-clause-room g c honest =
     let base = first_base c.args.header.now c.args.zero.now in
     let piece = c.deref.ensures ∙ c.in_ok-bytes.ensures
     ∙ ap (λ (b : BaseValue). spelling (Base b)) c.in_ok-base.ensures.value in
-    let fits = first_fits c.args.header.now c.args.zero.now c.first_base.ensures.header
-    c.requires.some c.requires.room in
-    within_side max_base A old new
-    (begun_room base (old A) (new A) fits
+    let most = max_base_of c.args.header.now.alpha in
+    let few = first_short c.args.header.now c.args.zero.now c.first_base.ensures.header c.requires.room in
+    within_side most A old new
+    (begun_room base most (old A) (new A) few
     (subst (λ (l : List ℕ). IsWrittenOver (old A) l (new A)) piece (c.write_over.ensures.every_image honest)))
     (c.write_over.ensures.beside honest)
 

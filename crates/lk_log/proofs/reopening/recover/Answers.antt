@@ -9,7 +9,7 @@ use Rattle.lk_log.proofs.RecoverLaws.{ok_then, both, neither, found_after, empty
 use Rattle.lk_log.proofs.StoreLaws.{not_both}
 use Rattle.lk_log.proofs.reopening.recover.Goals as goal
 use Rattle.lk_log.proofs.Room.{within_same, within_then, within_more}
-use Rattle.lk_types.specs.Limits.{max_base}
+use Rattle.lk_types.specs.Limits.{max_base_of}
 use Rattle.lk_log.proofs.Metering.{found_opens}
 use Rattle.lk_log.proofs.OpenMetering.{opens_metered}
 
@@ -77,8 +77,8 @@ returns-then-not-has_header-clause-stays g c honest =
 
 pub returns-then-not-has_header-clause-room : goal.returns-then-not-has_header-clause-room
 returns-then-not-has_header-clause-room g c honest =
-    within_same max_base (g.D.LogDisk.disk c.args.device.now) (g.D.LogDisk.disk c.find.new.device)
-    (c.find.ensures.unchanged honest)
+    within_same (max_base_of c.args.header.now.alpha) (g.D.LogDisk.disk c.args.device.now)
+    (g.D.LogDisk.disk c.find.new.device) (c.find.ensures.unchanged honest)
 
 pub returns-then-not-has_header-clause-wrong : goal.returns-then-not-has_header-clause-wrong
 returns-then-not-has_header-clause-wrong g c honest e =
@@ -120,22 +120,23 @@ returns-in-None-clause-stays g c honest =
 
 pub returns-in_err-live-clause-room : goal.returns-in_err-live-clause-room
 returns-in_err-live-clause-room g c honest =
-    within_same max_base (g.D.LogDisk.disk c.args.device.now) (g.D.LogDisk.disk c.find.new.device)
-    (c.find.ensures.unchanged honest)
+    within_same (max_base_of c.args.header.now.alpha) (g.D.LogDisk.disk c.args.device.now)
+    (g.D.LogDisk.disk c.find.new.device) (c.find.ensures.unchanged honest)
 
 pub returns-else-not-has_header-clause-room : goal.returns-else-not-has_header-clause-room
 returns-else-not-has_header-clause-room g c honest =
     let old = g.D.LogDisk.disk c.args.device.now in
     let mid = g.D.LogDisk.disk c.find.new.device in
     let new = g.D.LogDisk.disk c.open.new.device in
-    within_then max_base old mid new (within_same 0 old mid (c.find.ensures.unchanged honest))
-    (within_more max_base mid new (c.open.ensures.room honest))
+    let most = max_base_of c.args.header.now.alpha in
+    within_then most old mid new (within_same 0 old mid (c.find.ensures.unchanged honest))
+    (within_more most mid new (c.open.ensures.room honest))
 
 pub returns-in-None-clause-room : goal.returns-in-None-clause-room
 returns-in-None-clause-room g c honest =
     let old = g.D.LogDisk.disk c.args.device.now in
     let mid = g.D.LogDisk.disk c.find.new.device in
-    within_then max_base old mid (g.D.LogDisk.disk c.create_store.new.device)
+    within_then (max_base_of c.args.header.now.alpha) old mid (g.D.LogDisk.disk c.create_store.new.device)
     (within_same 0 old mid (c.find.ensures.unchanged honest)) (c.create_store.ensures.room honest)
 
 -- ---- which calls were made

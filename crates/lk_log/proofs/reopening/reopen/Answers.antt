@@ -1,6 +1,6 @@
 use Rattle.lk_log.proofs.BeginLaws.{begins_pick}
 use Rattle.lk_log.proofs.Room.{within_pick}
-use Rattle.lk_types.specs.Limits.{max_base}
+use Rattle.lk_types.specs.Limits.{max_base_of}
 use Rattle.lk_log.proofs.reopening.reopen.Goals as goal
 
 -- the disks of the store are those of the device
@@ -11,5 +11,5 @@ returns-in-Ok-clause-stays g c honest =
 
 pub returns-in-Ok-clause-room : goal.returns-in-Ok-clause-room
 returns-in-Ok-clause-room g c honest =
-    within_pick max_base c.in-Ok.opened.live (g.D.LogDisk.disk c.args.device) (g.D.LogDisk.disk c.recover.new.device)
-    (c.recover.ensures.room honest)
+    within_pick (max_base_of c.args.header.now.alpha) c.in-Ok.opened.live (g.D.LogDisk.disk c.args.device)
+    (g.D.LogDisk.disk c.recover.new.device) (c.recover.ensures.room honest)

@@ -1,14 +1,15 @@
-use Rattle.std.proofs.Common.{◌≡◌, rules, arith, [], ◌∷◌, refl, sym, ap, subst, inl, inr}
+use Rattle.std.proofs.Common.{◌≡◌, ◌≤◌, rules, arith, [], ◌∷◌, refl, sym, ap, subst, inl, inr}
+use Rattle.lk_types.specs.Limits.{max_base_of}
 use Rattle.lk_store_format.specs.Values.{StandingValue}
 use Rattle.lk_store_format.specs.declared.stored.Stored.TheVariants.{Base}
 use Rattle.lk_log.specs.StoreValue.{disks}
-use Rattle.lk_log.specs.Stores.{HoldsEntries, FitsBase, next_base, KeepsOrIs}
+use Rattle.lk_log.specs.Stores.{HoldsEntries, FitsBase, base_room, next_base, KeepsOrIs}
 use Rattle.lk_state.specs.Meanings.{Meaning}
 use Rattle.lk_learner.specs.Learners.{Command, IsNext}
 use Rattle.lk_node.specs.NodeValue.{NodeValue}
 use Rattle.lk_node.specs.NewBases.{standing_of}
 use Rattle.lk_recovery.specs.Rebased.{HasSwitchedFiles}
-use Rattle.lk_log.proofs.Room.{within_same}
+use Rattle.lk_log.proofs.Room.{within_same, within_wider}
 use Rattle.lk_log.proofs.StoreLaws.{holds_keeps}
 use Rattle.lk_recovery.proofs.Rebasing.{stays_safe, files_switched}
 use Rattle.lk_recovery.proofs.base.write_base.Goals as goal
@@ -26,6 +27,7 @@ returns-clause-done g c honest =
     let is : c.in_ok-standing.standing ≡ standing_of c.args.node.now = search rules in
     let fits : FitsBase c.in_ok-standing.standing = search rules in
     let may = subst FitsBase is fits in
+    let short : base_room c.in_ok-standing.standing ≤ max_base_of c.args.node.now.acceptor.alpha = search rules in
     subst (λ (k : NodeValue). HasSwitchedFiles m g.D.LogDisk.is_metered c.args.node.now c.args.store.now k
     c.rebase.new.self) (sym c.set_snapshot.ensures)
     (files_switched m c.args.node.now c.args.store.now c.rebase.new.self may c.standing-packed.ensures.near
@@ -34,7 +36,8 @@ returns-clause-done g c honest =
     c.in_ok-rebase.ensures.file.0
     (λ ks ls holds. subst (λ (s : StandingValue). HoldsEntries c.rebase.new.self
     (Base (next_base c.args.store.now s) ∷ []) []) is (c.in_ok-rebase.ensures.base honest ks ls holds))
-    (λ metered. c.in_ok-rebase.ensures.metered metered honest) (c.in_ok-rebase.ensures.left honest).1)
+    (λ metered. c.in_ok-rebase.ensures.metered metered honest)
+    (omega (arith, (c.in_ok-rebase.ensures.left honest).1, short)))
 
 pub returns-clause-becomes : goal.returns-clause-becomes
 returns-clause-becomes g c =
@@ -59,14 +62,16 @@ pub returns-then-generation-ge-MAX_COUNT-clause-disks : goal.returns-then-genera
 returns-then-generation-ge-MAX_COUNT-clause-disks g c honest = record {
   fits = λ h n f. f.left;
   covers = λ genesis n x keeps every. every;
-  room = within_same 49152 (disks c.args.store.now) (disks c.args.store.now) (λ s. refl);
+  room = within_same (max_base_of c.args.node.now.acceptor.alpha) (disks c.args.store.now) (disks c.args.store.now)
+      (λ s. refl);
 }
 
 pub returns-in_err-standing-clause-disks : goal.returns-in_err-standing-clause-disks
 returns-in_err-standing-clause-disks g c honest = record {
   fits = λ h n f. f.left;
   covers = λ genesis n x keeps every. every;
-  room = within_same 49152 (disks c.args.store.now) (disks c.args.store.now) (λ s. refl);
+  room = within_same (max_base_of c.args.node.now.acceptor.alpha) (disks c.args.store.now) (disks c.args.store.now)
+      (λ s. refl);
 }
 
 pub returns-in_err-rebase-clause-disks : goal.returns-in_err-rebase-clause-disks
@@ -75,9 +80,12 @@ returns-in_err-rebase-clause-disks g c honest =
     let is : c.in_ok-standing.standing ≡ standing_of c.args.node.now = search rules in
     let fits : FitsBase c.in_ok-standing.standing = search rules in
     let may = subst FitsBase is fits in
+    let short : base_room c.in_ok-standing.standing ≤ max_base_of c.args.node.now.acceptor.alpha = search rules in
     stays_safe m c.args.node.now c.args.store.now c.rebase.new.self may c.standing-packed.ensures.near
     (λ ks ls holds. subst (λ (s : StandingValue). KeepsOrIs (disks c.rebase.new.self) ks ls
-    (next_base c.args.store.now s)) is (c.rebase.ensures.every_image honest ks ls holds)) (c.rebase.ensures.room honest)
+    (next_base c.args.store.now s)) is (c.rebase.ensures.every_image honest ks ls holds))
+    (within_wider (base_room c.in_ok-standing.standing) (max_base_of c.args.node.now.acceptor.alpha)
+    (disks c.args.store.now) (disks c.rebase.new.self) short (c.rebase.ensures.room honest))
 
 pub returns-clause-disks : goal.returns-clause-disks
 returns-clause-disks g c honest =
@@ -85,9 +93,12 @@ returns-clause-disks g c honest =
     let is : c.in_ok-standing.standing ≡ standing_of c.args.node.now = search rules in
     let fits : FitsBase c.in_ok-standing.standing = search rules in
     let may = subst FitsBase is fits in
+    let short : base_room c.in_ok-standing.standing ≤ max_base_of c.args.node.now.acceptor.alpha = search rules in
     stays_safe m c.args.node.now c.args.store.now c.rebase.new.self may c.standing-packed.ensures.near
     (λ ks ls holds. subst (λ (s : StandingValue). KeepsOrIs (disks c.rebase.new.self) ks ls
-    (next_base c.args.store.now s)) is (c.rebase.ensures.every_image honest ks ls holds)) (c.rebase.ensures.room honest)
+    (next_base c.args.store.now s)) is (c.rebase.ensures.every_image honest ks ls holds))
+    (within_wider (base_room c.in_ok-standing.standing) (max_base_of c.args.node.now.acceptor.alpha)
+    (disks c.args.store.now) (disks c.rebase.new.self) short (c.rebase.ensures.room honest))
 
 pub returns-then-generation-ge-MAX_COUNT-clause-every_image
     : goal.returns-then-generation-ge-MAX_COUNT-clause-every_image

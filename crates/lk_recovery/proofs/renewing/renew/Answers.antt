@@ -1,4 +1,5 @@
 use Rattle.std.proofs.Common.{◌≡◌, ℕ, Bool, false, eqb, refl, arith, sym, subst, ap}
+use Rattle.lk_types.specs.Limits.{max_base_of}
 use Rattle.lk_node.specs.NodeValue.{NodeValue}
 use Rattle.std.specs.Prelude.{if◌then◌else◌}
 use Rattle.std.proofs.lemmas.Bool.{ne_eqb}
@@ -40,7 +41,8 @@ pub returns-then-format-eq2-clause-safe : goal.returns-then-format-eq2-clause-sa
 returns-then-format-eq2-clause-safe g c honest = record {
   fits = λ h n f. f.left;
   covers = λ genesis n x keeps every. every;
-  room = within_same 49152 (disks c.args.store.now) (disks c.args.store.now) (λ s. refl);
+  room = within_same (max_base_of c.args.node.now.acceptor.alpha) (disks c.args.store.now) (disks c.args.store.now)
+      (λ s. refl);
 }
 
 pub returns-then-format-eq2-clause-metered : goal.returns-then-format-eq2-clause-metered

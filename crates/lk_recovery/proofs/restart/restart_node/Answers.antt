@@ -1,5 +1,6 @@
 use Rattle.std.proofs.Common.{◌≡◌, List, ℕ, [], inl, inr, Err, ◌∙◌, ap, subst, sym, refl, arith}
 use Rattle.lk_types.specs.Geneses.{IsGenesis}
+use Rattle.lk_types.specs.Limits.{max_base_of}
 use Rattle.lk_disk.specs.Meters.{CallsSucceed, start}
 use Rattle.lk_node_interface.specs.Faults.{fault_number, RefusedAfter, IsNumberOfRevival}
 use Rattle.lk_store_format.specs.Values.{HeaderValue}
@@ -155,7 +156,7 @@ returns-clause-covers g c honest genesis n x is every =
 
 pub returns-in-Ok-reopen-clause-room : goal.returns-in-Ok-reopen-clause-room
 returns-in-Ok-reopen-clause-room g c honest =
-    given_room 49152 (g.D.LogDisk.disk c.args.device) c.in-Ok-reopen.opened.store
+    given_room (max_base_of c.args.header.now.alpha) (g.D.LogDisk.disk c.args.device) c.in-Ok-reopen.opened.store
     (g.D.LogDisk.disk c.into_disks.result) c.into_disks.ensures.live_disk c.into_disks.ensures.other_disk
     (c.in-Ok-reopen.ensures.room honest)
 

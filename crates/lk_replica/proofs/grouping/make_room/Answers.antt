@@ -1,7 +1,8 @@
 use Rattle.std.proofs.Common.{◌≡◌, Err, rules, true, false, ◌∙◌, sym, ap, arith}
+use Rattle.lk_types.specs.Limits.{max_base_of}
 use Rattle.lk_store_format.specs.Entries.{plain}
 use Rattle.lk_log.specs.StoreValue.{disks}
-use Rattle.lk_log.proofs.Room.{within_first}
+use Rattle.lk_log.proofs.Room.{most_base, within_first}
 use Rattle.lk_state.specs.Meanings.{Meaning}
 use Rattle.lk_node.specs.Leavings.{header_of}
 use Rattle.lk_recovery.specs.Compacting.{AreSame, IsDue}
@@ -87,7 +88,8 @@ returns-then-not-due-clause-disks g c honest = record {
       same_group_covers g.M.Machine.meaning c.args.store.now c.is_rebase_due.new.store
       (c.is_rebase_due.ensures.same honest) genesis n x false every;
   room =
-      same_room g.M.Machine.meaning c.args.store.now c.is_rebase_due.new.store (c.is_rebase_due.ensures.same honest);
+      same_room g.M.Machine.meaning c.args.store.now c.is_rebase_due.new.store (c.is_rebase_due.ensures.same honest)
+      (max_base_of c.args.node.now.acceptor.alpha);
 }
 
 pub returns-in_err-due-clause-disks : goal.returns-in_err-due-clause-disks
@@ -99,7 +101,8 @@ returns-in_err-due-clause-disks g c honest = record {
       same_group_covers g.M.Machine.meaning c.args.store.now c.is_rebase_due.new.store
       (c.is_rebase_due.ensures.same honest) genesis n x false every;
   room =
-      same_room g.M.Machine.meaning c.args.store.now c.is_rebase_due.new.store (c.is_rebase_due.ensures.same honest);
+      same_room g.M.Machine.meaning c.args.store.now c.is_rebase_due.new.store (c.is_rebase_due.ensures.same honest)
+      (max_base_of c.args.node.now.acceptor.alpha);
 }
 
 pub returns-in_err-write_base-clause-disks : goal.returns-in_err-write_base-clause-disks
@@ -127,8 +130,10 @@ returns-in_err-write_base-clause-disks g c honest = record {
       (c.is_rebase_due.ensures.same honest) genesis n x false every)
       (c.write_base.ensures.every_image honest k.entries (plain k.loose) k.holds);
   room =
-      within_first 49152 (disks c.args.store.now) (disks c.is_rebase_due.new.store) (disks c.write_base.new.store)
-      (same_room g.M.Machine.meaning c.args.store.now c.is_rebase_due.new.store (c.is_rebase_due.ensures.same honest))
+      let most = max_base_of c.args.node.now.acceptor.alpha in
+      within_first most (disks c.args.store.now) (disks c.is_rebase_due.new.store) (disks c.write_base.new.store)
+      (same_room g.M.Machine.meaning c.args.store.now c.is_rebase_due.new.store
+      (c.is_rebase_due.ensures.same honest) most)
       (c.write_base.ensures.disks honest).room;
 }
 
@@ -157,8 +162,10 @@ returns-clause-disks g c honest = record {
       (c.is_rebase_due.ensures.same honest) genesis n x false every)
       (c.write_base.ensures.every_image honest k.entries (plain k.loose) k.holds);
   room =
-      within_first 49152 (disks c.args.store.now) (disks c.is_rebase_due.new.store) (disks c.write_base.new.store)
-      (same_room g.M.Machine.meaning c.args.store.now c.is_rebase_due.new.store (c.is_rebase_due.ensures.same honest))
+      let most = max_base_of c.args.node.now.acceptor.alpha in
+      within_first most (disks c.args.store.now) (disks c.is_rebase_due.new.store) (disks c.write_base.new.store)
+      (same_room g.M.Machine.meaning c.args.store.now c.is_rebase_due.new.store
+      (c.is_rebase_due.ensures.same honest) most)
       (c.write_base.ensures.disks honest).room;
 }
 
@@ -198,6 +205,14 @@ returns-clause-alive g c = record {
   );
   runs = c.in_ok-write_base.ensures.becomes.runs;
 }
+
+pub returns-clause-small : goal.returns-clause-small
+returns-clause-small g c honest =
+    omega (
+      arith,
+      (c.in_ok-write_base.ensures.done honest).short,
+      most_base c.args.node.now.acceptor.alpha,
+    )
 
 -- ---- where it was refused
 

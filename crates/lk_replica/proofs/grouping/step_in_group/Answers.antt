@@ -1,6 +1,7 @@
 use Rattle.std.proofs.Common.{◌≡◌, ℕ, ◌∙◌, Bool, true, false, sym, ap, subst, arith, inl}
+use Rattle.lk_types.specs.Limits.{max_base_of}
 use Rattle.lk_log.specs.StoreValue.{disks}
-use Rattle.lk_log.proofs.Room.{refused_room, within_first}
+use Rattle.lk_log.proofs.Room.{most_base, refused_room, within_first}
 use Rattle.lk_node_interface.specs.Envelopes.{batch_of}
 use Rattle.lk_node.specs.Histories.{Genesis}
 use Rattle.lk_node.specs.Leavings.{AllCover}
@@ -91,13 +92,16 @@ returns-in_err-needs_sync-clause-disks g c honest =
           (subst (λ (w : Bool). GroupStays m h n c.args.node.now c.args.store.now w) w s) tt;
       covers = λ genesis n x r every. (c.make_room.ensures.disks honest).covers genesis n x
           (subst (λ (w : Bool). RemembersInGroup c.args.node.now c.args.store.now w genesis n) w r) every;
-      room = refused_room (disks c.args.store.now) (disks c.make_room.new.store)
+      room = refused_room (max_base_of c.args.node.now.acceptor.alpha) (disks c.args.store.now)
+          (disks c.make_room.new.store) (most_base c.args.node.now.acceptor.alpha)
           (c.make_room.ensures.disks honest).room;
     }
 
 pub returns-in_err-needs_sync-clause-grows : goal.returns-in_err-needs_sync-clause-grows
 returns-in_err-needs_sync-clause-grows g c honest =
-    grown_base (disks c.args.store.now) (disks c.make_room.new.store) (c.make_room.ensures.disks honest).room
+    let alpha = c.args.node.now.acceptor.alpha in
+    grown_base (max_base_of alpha) (disks c.args.store.now) (disks c.make_room.new.store) (most_base alpha)
+    (c.make_room.ensures.disks honest).room
 
 pub returns-in_err-outbox-clause-disks : goal.returns-in_err-outbox-clause-disks
 returns-in_err-outbox-clause-disks g c honest =
@@ -114,15 +118,19 @@ returns-in_err-outbox-clause-disks g c honest =
           ((c.make_room.ensures.disks honest).covers genesis n x mine every);
       room = within_first 132704 (disks c.args.store.now) (disks c.make_room.new.store)
           (disks c.step_to_file.new.store)
-          (refused_room (disks c.args.store.now) (disks c.make_room.new.store) (c.make_room.ensures.disks honest).room)
+          (refused_room (max_base_of c.args.node.now.acceptor.alpha) (disks c.args.store.now)
+          (disks c.make_room.new.store) (most_base c.args.node.now.acceptor.alpha)
+          (c.make_room.ensures.disks honest).room)
           ((c.step_to_file.ensures.disks honest c.in_ok-needs_sync.needs_sync).room
           (c.in_ok-needs_sync.ensures.small honest));
     }
 
 pub returns-in_err-outbox-clause-grows : goal.returns-in_err-outbox-clause-grows
 returns-in_err-outbox-clause-grows g c honest =
-    grown_then (disks c.args.store.now) (disks c.make_room.new.store) (disks c.step_to_file.new.store)
-    (c.make_room.ensures.disks honest).room ((c.step_to_file.ensures.disks honest c.in_ok-needs_sync.needs_sync).grows)
+    let alpha = c.args.node.now.acceptor.alpha in
+    grown_then (max_base_of alpha) (disks c.args.store.now) (disks c.make_room.new.store)
+    (disks c.step_to_file.new.store) (most_base alpha) (c.make_room.ensures.disks honest).room
+    ((c.step_to_file.ensures.disks honest c.in_ok-needs_sync.needs_sync).grows)
 
 pub returns-in_err-add-clause-disks : goal.returns-in_err-add-clause-disks
 returns-in_err-add-clause-disks g c honest =
@@ -139,15 +147,19 @@ returns-in_err-add-clause-disks g c honest =
           ((c.make_room.ensures.disks honest).covers genesis n x mine every);
       room = within_first 132704 (disks c.args.store.now) (disks c.make_room.new.store)
           (disks c.step_to_file.new.store)
-          (refused_room (disks c.args.store.now) (disks c.make_room.new.store) (c.make_room.ensures.disks honest).room)
+          (refused_room (max_base_of c.args.node.now.acceptor.alpha) (disks c.args.store.now)
+          (disks c.make_room.new.store) (most_base c.args.node.now.acceptor.alpha)
+          (c.make_room.ensures.disks honest).room)
           ((c.step_to_file.ensures.disks honest c.in_ok-needs_sync.needs_sync).room
           (c.in_ok-needs_sync.ensures.small honest));
     }
 
 pub returns-in_err-add-clause-grows : goal.returns-in_err-add-clause-grows
 returns-in_err-add-clause-grows g c honest =
-    grown_then (disks c.args.store.now) (disks c.make_room.new.store) (disks c.step_to_file.new.store)
-    (c.make_room.ensures.disks honest).room ((c.step_to_file.ensures.disks honest c.in_ok-needs_sync.needs_sync).grows)
+    let alpha = c.args.node.now.acceptor.alpha in
+    grown_then (max_base_of alpha) (disks c.args.store.now) (disks c.make_room.new.store)
+    (disks c.step_to_file.new.store) (most_base alpha) (c.make_room.ensures.disks honest).room
+    ((c.step_to_file.ensures.disks honest c.in_ok-needs_sync.needs_sync).grows)
 
 pub returns-clause-disks : goal.returns-clause-disks
 returns-clause-disks g c honest =
@@ -164,15 +176,19 @@ returns-clause-disks g c honest =
           ((c.make_room.ensures.disks honest).covers genesis n x mine every);
       room = within_first 132704 (disks c.args.store.now) (disks c.make_room.new.store)
           (disks c.step_to_file.new.store)
-          (refused_room (disks c.args.store.now) (disks c.make_room.new.store) (c.make_room.ensures.disks honest).room)
+          (refused_room (max_base_of c.args.node.now.acceptor.alpha) (disks c.args.store.now)
+          (disks c.make_room.new.store) (most_base c.args.node.now.acceptor.alpha)
+          (c.make_room.ensures.disks honest).room)
           ((c.step_to_file.ensures.disks honest c.in_ok-needs_sync.needs_sync).room
           (c.in_ok-needs_sync.ensures.small honest));
     }
 
 pub returns-clause-grows : goal.returns-clause-grows
 returns-clause-grows g c honest =
-    grown_then (disks c.args.store.now) (disks c.make_room.new.store) (disks c.step_to_file.new.store)
-    (c.make_room.ensures.disks honest).room ((c.step_to_file.ensures.disks honest c.in_ok-needs_sync.needs_sync).grows)
+    let alpha = c.args.node.now.acceptor.alpha in
+    grown_then (max_base_of alpha) (disks c.args.store.now) (disks c.make_room.new.store)
+    (disks c.step_to_file.new.store) (most_base alpha) (c.make_room.ensures.disks honest).room
+    ((c.step_to_file.ensures.disks honest c.in_ok-needs_sync.needs_sync).grows)
 
 -- ---- what it has done
 

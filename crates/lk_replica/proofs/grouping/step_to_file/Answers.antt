@@ -1,7 +1,8 @@
 use Rattle.std.proofs.Common.{◌≤◌, ◌∙◌, length, refl, sym, subst, arith}
+use Rattle.lk_types.specs.Limits.{max_base_of}
 use Rattle.lk_store_format.specs.Entries.{plain}
 use Rattle.lk_log.specs.StoreValue.{disks}
-use Rattle.lk_log.proofs.Room.{within_same, behind_room, refused_room}
+use Rattle.lk_log.proofs.Room.{within_same, most_base, behind_room, refused_room}
 use Rattle.lk_node.proofs.Nodes.{few_entries, step_told}
 use Rattle.lk_state.specs.Meanings.{Meaning}
 use Rattle.lk_node_interface.specs.Envelopes.{batch_of}
@@ -40,6 +41,7 @@ returns-in_err-write_to_file-clause-disks g c honest w =
     let few : length out.entries ≤ 16 =
     few_entries _ _ c.args.node.now _ c.step.new.self out c.in_ok-outbox.ensures.steps in
     let left = c.write_to_file.ensures.disks honest in
+    let based = c.step.new.self.acceptor.alpha in
     record {
       ends = λ h n s heard. by_kind out.rebase
           (λ is. let b = left.based is in
@@ -62,12 +64,14 @@ returns-in_err-write_to_file-clause-disks g c honest w =
           out.entries r
           ((left.put not_so).every_image _ _ r.keeps.holds) x every);
       room = λ small. by_kind out.rebase
-          (λ is. refused_room (disks c.args.store.now) (disks after) (left.based is).room)
+          (λ is. refused_room (max_base_of based) (disks c.args.store.now) (disks after) (most_base based)
+          (left.based is).room)
           (λ not_so. behind_room (disks c.args.store.now) c.args.store.now after
-          (within_same 49152 (disks c.args.store.now) (disks c.args.store.now) (λ s. refl)) small (left.put not_so).live
+          (within_same 65536 (disks c.args.store.now) (disks c.args.store.now) (λ s. refl)) small (left.put not_so).live
           (let more = (left.put not_so).grows in omega (arith, more, few)) (left.put not_so).beside);
       grows = by_kind out.rebase
-          (λ is. grown_base (disks c.args.store.now) (disks after) (left.based is).room)
+          (λ is. grown_base (max_base_of based) (disks c.args.store.now) (disks after) (most_base based)
+          (left.based is).room)
           (λ not_so. grown_less (disks c.args.store.now) (disks after)
           (grown_put c.args.store.now after (left.put not_so).live
           (let more = (left.put not_so).grows in omega (arith, more, few)) (left.put not_so).beside));
@@ -81,6 +85,7 @@ returns-clause-disks g c honest w =
     let few : length out.entries ≤ 16 =
     few_entries _ _ c.args.node.now _ c.step.new.self out c.in_ok-outbox.ensures.steps in
     let left = c.write_to_file.ensures.disks honest in
+    let based = c.step.new.self.acceptor.alpha in
     record {
       ends = λ h n s heard. by_kind out.rebase
           (λ is. let b = left.based is in
@@ -103,12 +108,14 @@ returns-clause-disks g c honest w =
           out.entries r
           ((left.put not_so).every_image _ _ r.keeps.holds) x every);
       room = λ small. by_kind out.rebase
-          (λ is. refused_room (disks c.args.store.now) (disks after) (left.based is).room)
+          (λ is. refused_room (max_base_of based) (disks c.args.store.now) (disks after) (most_base based)
+          (left.based is).room)
           (λ not_so. behind_room (disks c.args.store.now) c.args.store.now after
-          (within_same 49152 (disks c.args.store.now) (disks c.args.store.now) (λ s. refl)) small (left.put not_so).live
+          (within_same 65536 (disks c.args.store.now) (disks c.args.store.now) (λ s. refl)) small (left.put not_so).live
           (let more = (left.put not_so).grows in omega (arith, more, few)) (left.put not_so).beside);
       grows = by_kind out.rebase
-          (λ is. grown_base (disks c.args.store.now) (disks after) (left.based is).room)
+          (λ is. grown_base (max_base_of based) (disks c.args.store.now) (disks after) (most_base based)
+          (left.based is).room)
           (λ not_so. grown_less (disks c.args.store.now) (disks after)
           (grown_put c.args.store.now after (left.put not_so).live
           (let more = (left.put not_so).grows in omega (arith, more, few)) (left.put not_so).beside));

@@ -15,7 +15,7 @@ returns-in_err-members-clause-none c = λ _ cluster alpha ms spelled fine.
     let same = numbers_once c.args.words.now c.in_ok-cluster.cluster c.in_ok-cluster.alpha c.in_ok-cluster.words.now
     c.in_ok-cluster.ensures.some cluster alpha ms spelled in
     c.in_err-members.ensures.none refl ms
-    (subst (λ (t : List ℕ). SpellsMembers 32 t ms) (sym same.1) spelled.members_are) (at_most_seven 32 alpha ms fine)
+    (subst (λ (t : List ℕ). SpellsMembers 32 t ms) (sym same.1) spelled.members_are) (at_most_seven 64 alpha ms fine)
 
 pub returns-in-Err-clause-none : goal.returns-in-Err-clause-none
 returns-in-Err-clause-none c = λ _ cluster alpha ms spelled fine.

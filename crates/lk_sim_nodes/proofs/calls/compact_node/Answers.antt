@@ -1,4 +1,4 @@
-use Rattle.std.proofs.Common.{rules, ◌≡◌, refl, sym, subst}
+use Rattle.std.proofs.Common.{rules, ◌≡◌, length, refl, sym, subst}
 use Rattle.lk_memory_disk.specs.Memory.{Memory, disk_of}
 use Rattle.lk_node.specs.Leavings.{DisksFit}
 use Rattle.lk_replica.specs.Behaviours.{disks_by}
@@ -18,7 +18,8 @@ returns-in-Ok-clause-goes g c h w lawful f q same =
       goes = rw (c.new.ensures.items, c.new-in-Ok.ensures.items)
           (c.in-Ok.ensures.goes h c.args.sim_node.now.number (node_fits _ _ _ h w _ _ lawful
           (f.up c.in-Up.replica is)));
-      room = based_short (disks_by g.R.MemoryReplica.behaves c.in-Up.replica)
+      room = based_short (length (g.R.MemoryReplica.whole c.in-Up.replica).roster.sets)
+          (disks_by g.R.MemoryReplica.behaves c.in-Up.replica)
           (disks_by g.R.MemoryReplica.behaves c.compact.new.self) c.compact.ensures.room (f.up c.in-Up.replica is).room;
     }
 
@@ -32,7 +33,8 @@ returns-in-Err-clause-falls g c h w lawful f d down =
     (sym c.remove_device-device.ensures.is)
     (c.compact.ensures.ends h c.args.sim_node.now.number (node_fits _ _ _ h w _ _ lawful (f.up c.in-Up.replica is)))))
     (subst (λ (m : Memory). AreShort (disk_of m)) (sym c.remove_device-device.ensures.is)
-    (based_short (disks_by g.R.MemoryReplica.behaves c.in-Up.replica)
+    (based_short (length (g.R.MemoryReplica.whole c.in-Up.replica).roster.sets)
+    (disks_by g.R.MemoryReplica.behaves c.in-Up.replica)
     (disks_by g.R.MemoryReplica.behaves c.compact.new.self) c.compact.ensures.room (f.up c.in-Up.replica is).room))
 
 pub returns-in-Err-clause-told : goal.returns-in-Err-clause-told

@@ -20,7 +20,7 @@ returns-in-Ok-clause-goes g c h w same lawful f q up =
       replica = c.in-Ok.revived.replica;
       up = refl;
       goes = rw c.new-in-Ok.ensures.items (c.in-Ok.ensures.up h n whose lawful left);
-      room = based_short (disk_of c.remove_device-device.result)
+      room = based_short c.new.result.alpha (disk_of c.remove_device-device.result)
           (disks_by g.R.MemoryReplica.behaves c.in-Ok.revived.replica) c.in-Ok.ensures.room
           (c.remove_device-device.ensures.room h w f);
     }
@@ -35,8 +35,8 @@ returns-in-Err-clause-falls g c h w same lawful f d down =
     subst (λ k. DisksFit g.R.MemoryReplica.meaning h k (disk_of c.remove_device-device.result))
     (sym c.remove_device-device.ensures.number) (c.remove_device-device.ensures.fits h w f) in
     c.stop_node.ensures.fits h w (c.in-Err.ensures.down h n whose lawful left).1
-    (based_short (disk_of c.remove_device-device.result) (disk_of c.in-Err.refused.device) c.in-Err.ensures.room_err
-    (c.remove_device-device.ensures.room h w f))
+    (based_short c.new.result.alpha (disk_of c.remove_device-device.result) (disk_of c.in-Err.refused.device)
+    c.in-Err.ensures.room_err (c.remove_device-device.ensures.room h w f))
 
 pub returns-in-Err-clause-told : goal.returns-in-Err-clause-told
 returns-in-Err-clause-told g c h w same lawful f =

@@ -39,7 +39,7 @@ returns-in_err-members-clause-none c = λ _ cluster alpha ms spelled.
     c.in_ok-alpha.alpha.now c.in_ok-alpha.words.now cluster alpha ms spelled first.0 first.1 second.0 second.1 in
     c.in_err-members.ensures.none refl ms
     (subst (λ (t : List ℕ). SpellsMembers 44 t ms) (sym parts.1) spelled.members_are)
-    (at_most_seven 32 alpha ms spelled.has_no_fault)
+    (at_most_seven 64 alpha ms spelled.has_no_fault)
 
 pub returns-in-Err-clause-none : goal.returns-in-Err-clause-none
 returns-in-Err-clause-none c = λ _ cluster alpha ms spelled.

@@ -12,7 +12,7 @@ unwrap-promise-requires c =
     let grants = c.if-not-grants_prepare.ensures.0 refl in
     let now = c.args.self.now in
     let kept = subst (λ (a : AcceptorValue). IsOrdered a.state) c.self.view_is c.self.invariant.2 in
-    let alpha = subst (λ (a : AcceptorValue). a.alpha ≤ 32) c.self.view_is c.self.invariant.0.1 in
+    let alpha = subst (λ (a : AcceptorValue). a.alpha ≤ 64) c.self.view_is c.self.invariant.0.1 in
     let all = c.deref.ensures.value ∙ ap (λ (a : AcceptorValue). a.state.votes) c.self.view_is in
     let votes = c.in_ok-votes.ensures.ok ∙ ap (votes_from c.args.first) all in
     c.of.ensures.some.1 (subst (λ (l : List Vote). IsTrue (are_votes_from c.args.first l)) (sym votes)

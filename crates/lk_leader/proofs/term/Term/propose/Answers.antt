@@ -19,7 +19,7 @@ push-requires c =
     filter-from_retain _ _ _ (λ y b f' z called. search rules) _ _ c.retain.ensures.filtered in
     let none : proposal_at c.args.position xs ≡ None = ap (proposal_at c.args.position) same ∙ c.requires.new in
     let few : length (in_window e a xs) < a = room e a x xs c.self.invariant none c.requires.above c.requires.reaches in
-    let most : a ≤ 32 = c.facts.ensures.sets.0 in
+    let most : a ≤ 64 = c.facts.ensures.sets.0 in
     (lit< tt, omega (arith, few, most, ap length kept))
 
 pub invariant_of-self : goal.invariant_of-self

@@ -1,13 +1,13 @@
 use Rattle.std.proofs.Common.{◌≡◌, ◌≤◌, ◌+◌, false, [], ◌∷◌, length, refl, sym, ◌∙◌, ap, subst, arith}
 use Rattle.lk_store_format.specs.Values.{BaseValue}
 use Rattle.lk_store_format.specs.declared.stored.Stored.TheVariants.{Base}
-use Rattle.lk_log.specs.Stores.{HoldsEntries, next_base, KeepsOrIs}
+use Rattle.lk_log.specs.Stores.{HoldsEntries, base_room, next_base, KeepsOrIs}
 use Rattle.lk_log.specs.StoreValue.{StoreValue, pick, disks}
 use Rattle.lk_disk.specs.Disk.{other, contents}
 use Rattle.lk_disk.specs.declared.device.Side.{Side}
-use Rattle.lk_log.proofs.RebaseLaws.{base_fits, keeps_pick, keeps_still, held_at, left_at}
+use Rattle.lk_log.proofs.RebaseLaws.{base_fits, base_spelled, keeps_pick, keeps_still, held_at, left_at}
 use Rattle.lk_log.specs.Rooms.{StaysWithin}
-use Rattle.lk_log.proofs.Room.{within_same, within_pick, within_from, spelling_room}
+use Rattle.lk_log.proofs.Room.{within_same, within_pick, within_from}
 use Rattle.lk_log.proofs.store.Store.rebase.Goals as goal
 use Rattle.lk_disk.specs.Meters.{start}
 use Rattle.lk_log.specs.Causes.{IsMetered, rebase_calls}
@@ -111,13 +111,15 @@ returns-clause-every_image g c honest ks ls holds =
     (c.deref.ensures ∙ c.in_ok-bytes.ensures)))
 
 pub returns-then-self-clause-room : goal.returns-then-self-clause-room
-returns-then-self-clause-room g c honest = within_same 49152 (disks c.args.self.now) (disks c.args.self.now) (λ s. refl)
+returns-then-self-clause-room g c honest =
+    within_same (base_room c.args.standing.now) (disks c.args.self.now) (disks c.args.self.now) (λ s. refl)
 
 pub returns-in_err-bytes-clause-room : goal.returns-in_err-bytes-clause-room
 returns-in_err-bytes-clause-room g c honest =
     let old = g.D.LogDisk.disk c.self.inside.device in
     let is = pick c.self.inside.live (old c.self.inside.live) (old (other c.self.inside.live)) in
-    subst (λ (s : StoreValue). StaysWithin 49152 (disks s) is) c.self.view_is (within_same 49152 is is (λ s. refl))
+    let most = base_room c.args.standing.now in
+    subst (λ (s : StoreValue). StaysWithin most (disks s) is) c.self.view_is (within_same most is is (λ s. refl))
 
 pub returns-in_err-switch_files-clause-room : goal.returns-in_err-switch_files-clause-room
 returns-in_err-switch_files-clause-room g c honest =
@@ -129,15 +131,17 @@ returns-in_err-switch_files-clause-room g c honest =
       header = c.self.inside.header;
       standing = c.args.standing.now;
     } in
-    let fits = base_fits b refl
-    (omega arith, omega (arith, c.if-self-ge-MAX_COUNT.false)) c.facts.ensures c.facts-2.ensures.promised
-    c.facts-2.ensures.position c.facts-2.ensures.votes c.facts-2.ensures.pairs c.requires in
-    let few : length c.deref.result.now ≤ 49152 =
-    omega (arith, ap length (c.deref.ensures ∙ c.in_ok-bytes.ensures), spelling_room (Base b) fits) in
+    let most = base_room c.args.standing.now in
+    let few : length c.deref.result.now ≤ most =
+    omega (
+      arith,
+      ap length (c.deref.ensures ∙ c.in_ok-bytes.ensures),
+      base_spelled b c.facts.ensures c.facts-2.ensures.votes c.facts-2.ensures.pairs,
+    ) in
     let live = c.self.inside.live in
-    subst (λ (s : StoreValue). StaysWithin 49152 (disks s) (pick live (new live) (new (other live)))) c.self.view_is
-    (within_from 49152 live old (pick live (new live) (new (other live)))
-    (within_pick 49152 live old new (c.switch_files.ensures.room honest few)))
+    subst (λ (s : StoreValue). StaysWithin most (disks s) (pick live (new live) (new (other live)))) c.self.view_is
+    (within_from most live old (pick live (new live) (new (other live)))
+    (within_pick most live old new (c.switch_files.ensures.room honest most few)))
 
 pub returns-clause-room : goal.returns-clause-room
 returns-clause-room g c honest =
@@ -149,15 +153,17 @@ returns-clause-room g c honest =
       header = c.self.inside.header;
       standing = c.args.standing.now;
     } in
-    let fits = base_fits b refl
-    (omega arith, omega (arith, c.if-self-ge-MAX_COUNT.false)) c.facts.ensures c.facts-2.ensures.promised
-    c.facts-2.ensures.position c.facts-2.ensures.votes c.facts-2.ensures.pairs c.requires in
-    let few : length c.deref.result.now ≤ 49152 =
-    omega (arith, ap length (c.deref.ensures ∙ c.in_ok-bytes.ensures), spelling_room (Base b) fits) in
+    let most = base_room c.args.standing.now in
+    let few : length c.deref.result.now ≤ most =
+    omega (
+      arith,
+      ap length (c.deref.ensures ∙ c.in_ok-bytes.ensures),
+      base_spelled b c.facts.ensures c.facts-2.ensures.votes c.facts-2.ensures.pairs,
+    ) in
     let live = c.other-self-inside.result in
-    subst (λ (s : StoreValue). StaysWithin 49152 (disks s) (pick live (new live) (new (other live)))) c.self.view_is
-    (within_from 49152 c.self.inside.live old (pick live (new live) (new (other live)))
-    (within_pick 49152 live old new (c.switch_files.ensures.room honest few)))
+    subst (λ (s : StoreValue). StaysWithin most (disks s) (pick live (new live) (new (other live)))) c.self.view_is
+    (within_from most c.self.inside.live old (pick live (new live) (new (other live)))
+    (within_pick most live old new (c.switch_files.ensures.room honest most few)))
 
 pub returns-clause-left : goal.returns-clause-left
 returns-clause-left g c honest =
@@ -168,15 +174,17 @@ returns-clause-left g c honest =
       header = c.self.inside.header;
       standing = c.args.standing.now;
     } in
-    let fits = base_fits b refl
-    (omega arith, omega (arith, c.if-self-ge-MAX_COUNT.false)) c.facts.ensures c.facts-2.ensures.promised
-    c.facts-2.ensures.position c.facts-2.ensures.votes c.facts-2.ensures.pairs c.requires in
-    let few : length c.deref.result.now ≤ 49152 =
-    omega (arith, ap length (c.deref.ensures ∙ c.in_ok-bytes.ensures), spelling_room (Base b) fits) in (
+    let most = base_room c.args.standing.now in
+    let few : length c.deref.result.now ≤ most =
+    omega (
+      arith,
+      ap length (c.deref.ensures ∙ c.in_ok-bytes.ensures),
+      base_spelled b c.facts.ensures c.facts-2.ensures.votes c.facts-2.ensures.pairs,
+    ) in (
       left_at new c.self.inside.live c.other-self-inside.result c.other-self-inside.ensures
           (c.in_ok-switch_files.ensures.left honest),
-      subst (λ (k : Side). length (contents (new k)) ≤ 49152) (sym c.other-self-inside.ensures)
-          (c.in_ok-switch_files.ensures.short honest few),
+      subst (λ (k : Side). length (contents (new k)) ≤ most) (sym c.other-self-inside.ensures)
+          (c.in_ok-switch_files.ensures.short honest most few),
     )
 
 -- ---- which calls were made

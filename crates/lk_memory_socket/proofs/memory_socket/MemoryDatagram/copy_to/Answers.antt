@@ -7,6 +7,6 @@ returns-clause-copies c =
     let bytes = c.args.self.now.bytes.items in
     let n = c.cut_length-length.result in
     let long : c.len.result ≡ length bytes = search rules in
-    let few : n ≡ min (length bytes) 8229 = c.cut_length-length.ensures ∙ ap (λ (k : ℕ). min k 8229) long in
+    let few : n ≡ min (length bytes) 16421 = c.cut_length-length.ensures ∙ ap (λ (k : ℕ). min k 16421) long in
     let copied = c.copy_from_slice.ensures.after ∙ ap (λ (bs : List ℕ). take n bs) c.deref.ensures.value in
     heard_so bytes c.copy_from_slice.new.self (drop n c.args.buffer.now) n few copied

@@ -1,9 +1,10 @@
 use Rattle.std.proofs.Common.{[], Result, Ok, Err, OnOk}
+use Rattle.lk_types.specs.Limits.{max_base_of}
 use Rattle.lk_log.specs.Rooms.{StaysWithin}
 use Rattle.lk_log.specs.StoreValue.{disks}
 use Rattle.lk_replica.specs.ReplicaValue.{device_of}
 use Rattle.lk_memory_disk.specs.Memory.{disk_of}
-use Rattle.lk_learner.specs.Learners.{executed}
+use Rattle.lk_learner.specs.Learners.{executed, alpha}
 use Rattle.lk_state.specs.Meanings.{Meaning}
 use Rattle.lk_node.specs.Calls.{NodeFits, LeavesFit}
 use Rattle.lk_node.specs.Keeping.{ReplicaHolds}
@@ -55,8 +56,9 @@ returns-clause-stands g c genesis n held shown =
 
 pub returns-clause-room : goal.returns-clause-room
 returns-clause-room g c =
-    on_device (λ d. StaysWithin 49152 (disk_of (device_of c.args.self.now.store)) d) c.compact.new.self.store
-    (on_device (λ d. StaysWithin 49152 d (disks c.compact.new.self.store)) c.args.self.now.store
+    let most = max_base_of (alpha c.args.self.now.node.learner) in
+    on_device (λ d. StaysWithin most (disk_of (device_of c.args.self.now.store)) d) c.compact.new.self.store
+    (on_device (λ d. StaysWithin most d (disks c.compact.new.self.store)) c.args.self.now.store
     (c.compact.ensures.disks tt).room)
 
 pub returns-clause-exact : goal.returns-clause-exact

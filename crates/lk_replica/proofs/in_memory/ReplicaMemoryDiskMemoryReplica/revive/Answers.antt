@@ -1,5 +1,6 @@
 use Rattle.std.proofs.Common.{◌≡◌, ℕ, ◌+◌, ◌≤◌, List, [], Result, Ok, Err, IfOk, MatchResult}
 use Rattle.std.specs.Prelude.{IfErr}
+use Rattle.lk_types.specs.Limits.{max_base_of}
 use Rattle.lk_store_format.specs.Values.{HeaderValue}
 use Rattle.lk_log.specs.Rooms.{StaysWithin}
 use Rattle.lk_disk.specs.Disk.{Disk}
@@ -88,7 +89,8 @@ returns-clause-exact g c =
 pub returns-clause-room : goal.returns-clause-room
 returns-clause-room g c =
     if_ok _ _ _ c.revive.result
-    (λ r room. on_device (λ d. StaysWithin 49152 (disk_of c.args.device) d) r.replica.store room)
+    (λ r room. on_device (λ d. StaysWithin (max_base_of c.args.header.now.alpha) (disk_of c.args.device) d)
+    r.replica.store room)
     (c.revive.ensures.room tt)
 
 pub returns-clause-room_err : goal.returns-clause-room_err

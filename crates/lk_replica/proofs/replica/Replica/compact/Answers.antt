@@ -1,6 +1,8 @@
-use Rattle.std.proofs.Common.{◌≡◌, ◌∙◌, true, false, refl, sym, ap, subst, inr}
+use Rattle.std.proofs.Common.{◌≡◌, ◌∙◌, ℕ, true, false, refl, sym, ap, subst, inr}
 use Rattle.std.specs.Prelude.{⊤, IfErr}
+use Rattle.lk_types.specs.Limits.{max_base_of}
 use Rattle.lk_log.specs.StoreValue.{disks}
+use Rattle.lk_learner.specs.Learners.{alpha}
 use Rattle.lk_state.specs.Meanings.{Meaning}
 use Rattle.lk_log.proofs.Room.{within_same}
 use Rattle.lk_disk.specs.Meters.{start}
@@ -37,23 +39,34 @@ pub returns-then-self-clause-disks : goal.returns-then-self-clause-disks
 returns-then-self-clause-disks g c honest = record {
   ends = λ h n f heard. f.left;
   covers = λ genesis n x shown every. every;
-  room = within_same 49152 (disks c.args.self.now.store) (disks c.args.self.now.store) (λ s. refl);
+  room = within_same (max_base_of (alpha c.args.self.now.node.learner)) (disks c.args.self.now.store)
+      (disks c.args.self.now.store) (λ s. refl);
   grows = grown_none (disks c.args.self.now.store) (disks c.args.self.now.store) (λ s. refl);
 }
 
 pub returns-in_err-write_base-clause-disks : goal.returns-in_err-write_base-clause-disks
 returns-in_err-write_base-clause-disks g c honest =
     let m : Meaning = g.M.Machine.meaning in
-    subst (λ (r : ReplicaValue). LeavesDisks m (λ h. ⊤) 49152 r.node r.store (disks c.write_base.new.store))
-    c.self.view_is (leaves_safe m c.self.inside.node c.self.inside.store c.write_base.new.store
-    (c.write_base.ensures.disks honest))
+    let node = c.self.inside.node in
+    let store = c.self.inside.store in
+    let left : LeavesDisks m (λ h. ⊤) (max_base_of (alpha node.learner)) node store (disks c.write_base.new.store) =
+    subst (λ (k : ℕ). LeavesDisks m (λ h. ⊤) (max_base_of k) node store (disks c.write_base.new.store))
+    c.write_base.ensures.near.0.alpha_is
+    (leaves_safe m node store c.write_base.new.store (c.write_base.ensures.disks honest)) in
+    subst (λ (r : ReplicaValue). LeavesDisks m (λ h. ⊤) (max_base_of (alpha r.node.learner)) r.node r.store
+    (disks c.write_base.new.store)) c.self.view_is left
 
 pub returns-clause-disks : goal.returns-clause-disks
 returns-clause-disks g c honest =
     let m : Meaning = g.M.Machine.meaning in
-    subst (λ (r : ReplicaValue). LeavesDisks m (λ h. ⊤) 49152 r.node r.store (disks c.write_base.new.store))
-    c.self.view_is (leaves_safe m c.self.inside.node c.self.inside.store c.write_base.new.store
-    (c.write_base.ensures.disks honest))
+    let node = c.self.inside.node in
+    let store = c.self.inside.store in
+    let left : LeavesDisks m (λ h. ⊤) (max_base_of (alpha node.learner)) node store (disks c.write_base.new.store) =
+    subst (λ (k : ℕ). LeavesDisks m (λ h. ⊤) (max_base_of k) node store (disks c.write_base.new.store))
+    c.write_base.ensures.near.0.alpha_is
+    (leaves_safe m node store c.write_base.new.store (c.write_base.ensures.disks honest)) in
+    subst (λ (r : ReplicaValue). LeavesDisks m (λ h. ⊤) (max_base_of (alpha r.node.learner)) r.node r.store
+    (disks c.write_base.new.store)) c.self.view_is left
 
 -- ---- where it was refused
 

@@ -1,14 +1,16 @@
-use Rattle.std.proofs.Common.{[], sym, subst, inl, inr, refl, ◌∙◌, arith}
+use Rattle.std.proofs.Common.{ℕ, [], sym, ap, subst, inl, inr, refl, ◌∙◌, arith}
 use Rattle.std.proofs.lemmas.Bool.{cases_lt}
-use Rattle.lk_types.specs.Limits.{max_count}
+use Rattle.lk_types.specs.Limits.{max_base_of, max_count}
 use Rattle.lk_disk.specs.declared.meter.Meter.{Meter}
 use Rattle.lk_log.proofs.Room.{within_first}
 use Rattle.lk_log.proofs.StoreLaws.{opens_holds}
 use Rattle.lk_log.specs.Images.{seen}
+use Rattle.lk_log.specs.Rooms.{StaysWithin}
 use Rattle.lk_log.specs.StoreValue.{disks}
 use Rattle.lk_state.specs.Meanings.{Meaning}
 use Rattle.lk_node.specs.Keeping.{ReplicaHolds}
 use Rattle.lk_node.specs.NewBases.{standing_of}
+use Rattle.lk_node.specs.NodeValue.{NodeValue}
 use Rattle.lk_node.specs.BorneOut.{text}
 use Rattle.lk_node_interface.specs.Faults.{fault_number, RefusedAfter}
 use Rattle.lk_recovery.proofs.Recoveries.{before_fits, refused_on, goes_fit, then_goes, taken_keeps, revival_calls}
@@ -80,6 +82,15 @@ returns-in-Ok-renew-clause-ready g c = record {
   awake = c.renew.ensures.halted ∙ c.in-Ok.ensures.ready.awake;
   runs = c.in-Ok-renew.ensures.ready.runs c.in-Ok.ensures.ready.runs;
 }
+
+pub returns-in-Ok-renew-clause-room : goal.returns-in-Ok-renew-clause-room
+returns-in-Ok-renew-clause-room g c honest =
+    let old = g.D.LogDisk.disk c.args.device in
+    within_first (max_base_of c.args.header.now.alpha) old (disks c.in-Ok.up.store) (disks c.renew.new.store)
+    (c.in-Ok.ensures.room honest)
+    (subst (λ (k : ℕ). StaysWithin (max_base_of k) (disks c.in-Ok.up.store) (disks c.renew.new.store))
+    (ap (λ (k : NodeValue). k.acceptor.alpha) (c.in-Ok.ensures.exact honest).0.restores.node_is)
+    (c.renew.ensures.safe honest).room)
 
 -- ---- a refused rebase
 
@@ -160,7 +171,10 @@ returns-in-Err-renew-clause-metered g c metered honest =
 pub returns-in-Err-renew-clause-room : goal.returns-in-Err-renew-clause-room
 returns-in-Err-renew-clause-room g c honest =
     let old = g.D.LogDisk.disk c.args.device in
-    given_room 49152 old c.renew.new.store
+    let most = max_base_of c.args.header.now.alpha in
+    given_room most old c.renew.new.store
     (g.D.LogDisk.disk c.into_disks.result) c.into_disks.ensures.live_disk c.into_disks.ensures.other_disk
-    (within_first 49152 old (disks c.in-Ok.up.store) (disks c.renew.new.store) (c.in-Ok.ensures.room honest)
-    (c.renew.ensures.safe honest).room)
+    (within_first most old (disks c.in-Ok.up.store) (disks c.renew.new.store) (c.in-Ok.ensures.room honest)
+    (subst (λ (k : ℕ). StaysWithin (max_base_of k) (disks c.in-Ok.up.store) (disks c.renew.new.store))
+    (ap (λ (k : NodeValue). k.acceptor.alpha) (c.in-Ok.ensures.exact honest).0.restores.node_is)
+    (c.renew.ensures.safe honest).room))

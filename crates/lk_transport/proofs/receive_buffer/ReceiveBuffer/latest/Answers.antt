@@ -5,4 +5,4 @@ use Rattle.lk_transport.proofs.receive_buffer.ReceiveBuffer.latest.Goals as goal
 
 pub shared_ref_as_front-result : goal.shared_ref_as_front-result
 shared_ref_as_front-result c =
-    subst (λ (o : Option (ℕ × SocketAddr)). IfSome o (λ l. l.0 ≤ 8229)) c.in-Some.is c.self.invariant
+    subst (λ (o : Option (ℕ × SocketAddr)). IfSome o (λ l. l.0 ≤ 16421)) c.in-Some.is c.self.invariant
