@@ -13,13 +13,13 @@ import argparse
 import sys
 
 from cluster import built
-from harness.stops import ALL, sweep
+from harness.stops import ALL, Alone, sweep
 
 SWEEPS = (
     ("format 2", (), (), {}),
     ("format 3", ("--sums",), (), {}),
     ("from 2 to 3", (), ("--sums",), {}),
-    ("format 3, a damaged older file", ("--sums",), (), {"requests": 504, "spoilt": True}),
+    ("format 3, a damaged older file", ("--sums",), (), {"requests": 504, "prepare": Alone.spoil}),
 )
 
 

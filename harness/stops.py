@@ -8,7 +8,7 @@ import time
 
 from harness.cluster import Cluster
 from harness.forking import library
-from harness.summed import one_before
+from harness.summed import OTHER, entries, of_generation, one_before
 from locks_client import Client, Held
 
 STOPPED = 99  # the status of a node that tools/stopping.c has stopped
@@ -46,6 +46,14 @@ class Alone(Cluster):
         other, older = one_before(name, live)
         self.spoilt = other, older[:-1] + bytes([older[-1] ^ 1])
         self.kept = [self.spoilt[1] if name == other else data for name, data in zip("ab", files)], last
+
+    def outdate(self):
+        """Puts a newer file beside the live one: of the next generation, with the same entries, and with sums."""
+        files, last = self.kept
+        [(name, older)] = [(name, data) for name, data in zip("ab", files) if data]
+        found = entries(older)
+        newer = of_generation(int.from_bytes(found[0][5:13], "big") + 1, OTHER[name], found)
+        self.kept = [older if it == name else newer for it in "ab"], last
 
     def is_spoilt_alone(self, text):
         """Whether `scrub` wrote only that the spoilt file is damaged, and this has nothing but its first bytes."""
@@ -139,14 +147,13 @@ class Alone(Cluster):
         return True
 
 
-def swept(program, before, after, requests, numbers, left, spoilt):
+def swept(program, before, after, requests, numbers, left, prepare):
     """One worker's part of a sweep."""
     count, wrong = 0, []
     with tempfile.TemporaryDirectory() as folder:
         node = Alone(program, folder, library(folder, "stopping"))
         node.prepare(before, requests)
-        if spoilt:
-            node.spoil()
+        prepare(node)
         for at in numbers:
             for more in left:
                 try:
@@ -158,13 +165,17 @@ def swept(program, before, after, requests, numbers, left, spoilt):
     return count, wrong
 
 
-def sweep(program, before, after, requests=248, numbers=range(1, 200), left=(0, 1, ALL), workers=4, spoilt=False):
+def as_it_is(_node):
+    """Leaves the store as it was prepared."""
+
+
+def sweep(program, before, after, requests=248, numbers=range(1, 200), left=(0, 1, ALL), workers=4, prepare=as_it_is):
     """Stops a node with the options `after` at each of these changes, on a store that one with the options `before` has
-    left, and keeps so many of the bytes that were not synced. If it is to be spoilt, the store has a damaged older file
-    too. How many stops there were, and what went wrong."""
+    left, and keeps so many of the bytes that were not synced. `prepare` changes the store before that: `Alone.spoil`,
+    `Alone.outdate`. How many stops there were, and what went wrong."""
     with concurrent.futures.ThreadPoolExecutor(workers) as pool:
         parts = [
-            pool.submit(swept, program, before, after, requests, numbers[first::workers], left, spoilt)
+            pool.submit(swept, program, before, after, requests, numbers[first::workers], left, prepare)
             for first in range(workers)
         ]
     found = [part.result() for part in parts]

@@ -3,7 +3,7 @@ import os
 import shutil
 import unittest
 
-from harness.stops import ALL, sweep
+from harness.stops import ALL, Alone, sweep
 
 PROGRAM = os.environ.get("LOCKS_PROGRAM")
 SUMS = ("--sums",)
@@ -23,8 +23,12 @@ class StopTest(unittest.TestCase):
         self.assertEqual((wrong, count), ([], len(NEAR)))
 
     def test_a_stop_beside_a_damaged_older_file_loses_nothing(self):
-        count, wrong = sweep(PROGRAM, SUMS, (), requests=509, numbers=NEAR, left=(3,), spoilt=True)
+        count, wrong = sweep(PROGRAM, SUMS, (), requests=509, numbers=NEAR, left=(3,), prepare=Alone.spoil)
         self.assertEqual((wrong, count), ([], len(NEAR)))
+
+    def test_a_stop_beside_an_older_file_without_sums_loses_nothing(self):
+        count, wrong = sweep(PROGRAM, (), (), requests=253, numbers=NEAR, left=(0, 3, ALL), prepare=Alone.outdate)
+        self.assertEqual((wrong, count), ([], 3 * len(NEAR)))
 
 
 if __name__ == "__main__":

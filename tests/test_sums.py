@@ -8,7 +8,7 @@ import unittest
 
 from harness.by_bytes import Node
 from harness.cluster import Cluster, free_ports
-from harness.summed import MAGIC, entries, frames, one_before, pieces, written
+from harness.summed import MAGIC, OTHER, entries, frames, one_before, pieces, written
 from locks_client import Client
 
 PROGRAM = os.environ.get("LOCKS_PROGRAM")
@@ -296,6 +296,93 @@ class OlderFileTest(Store):
 
 
 @unittest.skipUnless(PROGRAM, "LOCKS_PROGRAM does not tell the program")
+class OutdatedFileTest(Store):
+    """A file with sums and an older one without: a stop in the middle of the first snapshot with sums leaves both."""
+
+    def setUp(self):
+        super().setUp()
+        self.node = self.enterContext(Node(PROGRAM, self.folder))
+        self.older = self.node.bytes_of(BASE, PROMISED, VOTED)
+
+    def newer(self, name, *texts):
+        """The file of that name with sums, whose pieces these are."""
+        return written(name, [self.node.bytes_of(it) for it in texts])
+
+    def put_beside(self, name, newer, older):
+        """The file of that name is the one, and the other file the other one."""
+        files = {name: newer, OTHER[name]: older}
+        self.node.write(files["a"], files["b"])
+
+    def files_after(self, name, newer, older, *words):
+        """What is left of them after a start with these options, or without one, and the last line of that."""
+        self.put_beside(name, newer, older)
+        self.node.words = words
+        last = self.node.start()
+        self.node.kill()
+        return last, self.node.read(name), self.node.read(OTHER[name])
+
+    def without_sums(self, name):
+        """What a program that knows no sums says of the folder: it reads those letters as any others."""
+        files = {it: self.get(it) for it in MAGIC}
+        with tempfile.TemporaryDirectory() as folder:
+            for it, data in {**files, name: b"k" + files[name][1:]}.items():
+                with open(os.path.join(folder, it), "wb") as file:
+                    file.write(data)
+            status, out, err = ran("dump", "--dir", folder)
+            return status, (out + err).splitlines()[-1]
+
+    def test_a_start_cuts_it(self):
+        for name in MAGIC:
+            newer = self.newer(name, SECOND, PROMISED)
+            for words in ((), ("--sums",)):
+                done = self.files_after(name, newer, self.older, *words)
+                self.assertEqual(done, (f"port {self.node.ports[1]}", newer, b""), (name, words))
+
+    def test_a_program_without_sums_then_finds_damage(self):
+        for name in MAGIC:
+            newer = self.newer(name, SECOND, PROMISED)
+            self.put_beside(name, newer, self.older)
+            self.assertEqual(self.without_sums(name), (0, "format 2"), "it would go on without the last promise")
+            self.node.start()
+            self.node.kill()
+            self.assertEqual(self.without_sums(name), (1, "fault 9"))
+
+    def test_what_a_stop_leaves_of_it_is_cut_or_no_store(self):
+        base = len(self.node.bytes_of(BASE))
+        newer = self.newer("a", SECOND, PROMISED)
+        for length in range(0, len(self.older), 7):
+            front = self.older[:length]
+            done = self.files_after("a", newer, front)
+            left = front if length < base else b""
+            self.assertEqual(done, (f"port {self.node.ports[1]}", newer, left), length)
+            self.assertEqual(self.without_sums("a"), (1, "fault 9"), length)
+
+    def test_readers_cut_nothing(self):
+        newer = self.newer("b", SECOND, PROMISED)
+        self.put_beside("b", newer, self.older)
+        for words in ("dump", "inspect", "scrub"):
+            self.assertEqual(ran(words, "--dir", self.folder)[0], 0, words)
+            self.assertEqual((self.get("a"), self.get("b")), (self.older, newer), words)
+
+    def test_no_other_file_is_cut(self):
+        serves = f"port {self.node.ports[1]}"
+        newer = self.newer("a", SECOND, PROMISED)
+        same = self.newer("a", BASE, PROMISED)
+        wrong = flipped(newer, 8 * len(newer) - 1)
+        plain = self.node.bytes_of(SECOND, PROMISED)
+        torn = self.newer("a", SECOND)[:-1]
+        for file, beside, last in (
+            (same, self.older, "fault 9"),
+            (wrong, self.older, "fault 9"),
+            (newer, plain, "fault 9"),
+            (same, plain, serves),
+            (torn, self.older, serves),
+            (b"", self.older, serves),
+        ):
+            self.assertEqual(self.files_after("a", file, beside), (last, file, beside))
+
+
+@unittest.skipUnless(PROGRAM, "LOCKS_PROGRAM does not tell the program")
 class NodesTest(Store):
     """Nodes that write such files."""
 
@@ -360,6 +447,32 @@ class NodesTest(Store):
             cluster.kill(1)
             told = ran("inspect", "--dir", folder)[1].splitlines()
             self.assertEqual((told[0], told[-1]), ("format 3", f"held db 7 {last[-1]}"))
+
+    def test_a_restart_cuts_the_older_file_without_sums_and_knows_all(self):
+        with Cluster(PROGRAM, self.folder, nodes=1, alpha=2) as cluster:
+            folder = os.path.join(self.folder, "1")
+            with cluster.client(Client, 7, patience=30.0) as client:
+                last = client.acquire("db")
+                cluster.kill(1)
+                with open(os.path.join(folder, "a"), "rb") as file:
+                    older = file.read()
+                cluster.options = ("--sums",)
+                cluster.start(1)
+                while not ran("dump", "--dir", folder)[1].endswith("format 3\n"):
+                    client.release("db", last)
+                    last = client.acquire("db")
+                cluster.kill(1)
+                cluster.options = ()
+                with open(os.path.join(folder, "a"), "wb") as file:
+                    file.write(older)
+                told = ran("inspect", "--dir", folder)
+                self.assertEqual((told[0], told[2]), (0, ""))
+                self.assertEqual(ran("scrub", "--dir", folder)[1].splitlines()[0], f"{folder}/a: no sums")
+                with open(os.path.join(folder, "a"), "rb") as file:
+                    self.assertEqual(file.read(), older)
+                cluster.start(1)
+                self.assertEqual(client.ask("db").fence, last)
+                self.assertEqual(os.path.getsize(os.path.join(folder, "a")), 0)
 
     def test_the_next_snapshot_replaces_a_damaged_older_file(self):
         with Cluster(PROGRAM, self.folder, nodes=1, alpha=2, options=("--sums",)) as cluster:

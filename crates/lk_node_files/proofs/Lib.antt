@@ -1,3 +1,5 @@
 mod OlderLaws
 mod OpeningLaws
 mod LiveLaws
+mod CutLaws
+mod OutdatedLaws

@@ -34,37 +34,45 @@ one_generation g h bytes a b =
     let same = same_front (Base a.base) (Base b.base) a.rest b.rest a.fits b.fits (sym a.is ∙ b.is) in
     sym a.generation_is ∙ ap (λ (x : Stored). generation (x ∷ [])) same.0 ∙ b.generation_is
 
-alike : (d e : Side → Disk) → ((s : Side) → d s ≡ e s) → d ≡ e
+pub alike : (d e : Side → Disk) → ((s : Side) → d s ≡ e s) → d ≡ e
 alike d e same = λ i s. same s i
 
 -- ---- what two readings of a device say, of which neither changes it: `d` is before the first, `e` after it
 
+pub moved : (d e : Side → Disk) (s t : Side) (g : ℕ) → ((u : Side) → e u ≡ d u) → t ≡ other s
+    → HasGeneration e t g → HasGeneration d (other s) g
+moved d e s t g unchanged is has =
+    subst (λ (u : Side). HasGeneration d u g) is
+    (subst (λ (x : Side → Disk). HasGeneration x t g) (alike e d unchanged) has)
+
+pub unknown : (d e : Side → Disk) (s t : Side) → ((u : Side) → e u ≡ d u) → t ≡ other s
+    → ((g : ℕ) → HasGeneration e t g → ⊥) → (g : ℕ) → HasGeneration d (other s) g → ⊥
+unknown d e s t unchanged is none g has =
+    none g (subst (λ (x : Side → Disk). HasGeneration x t g) (sym (alike e d unchanged))
+    (subst (λ (u : Side). HasGeneration d u g) (sym is) has))
+
 pub is_older : (d e : Side → Disk) (s t : Side) (own newer : ℕ) → ((u : Side) → e u ≡ d u) → t ≡ other s
     → HasGeneration d s own → HasGeneration e t newer → own < newer → IsOlder d s
-is_older d e s t own newer unchanged is has_own has_newer less = record {
-  own = own;
-  newer = newer;
-  has_own = has_own;
-  has_newer = subst (λ (u : Side). HasGeneration d u newer) is
-      (subst (λ (x : Side → Disk). HasGeneration x t newer) (alike e d unchanged) has_newer);
-  less = less;
-}
+is_older d e s t own newer unchanged is has_own has_newer less =
+    let there = moved d e s t newer unchanged is has_newer in (
+      has_own.0,
+      there.0,
+      record { own = own; newer = newer; has_own = has_own.1; has_newer = there.1; less = less },
+    )
 
 pub not_older : (d e : Side → Disk) (s t : Side) (own newer : ℕ) → ((u : Side) → e u ≡ d u) → t ≡ other s
     → HasGeneration d s own → HasGeneration e t newer → newer ≤ own → IsOlder d s → ⊥
 not_older d e s t own newer unchanged is has_own has_newer more older =
-    let there = subst (λ (u : Side). HasGeneration d u newer) is
-    (subst (λ (x : Side → Disk). HasGeneration x t newer) (alike e d unchanged) has_newer) in
+    let there = moved d e s t newer unchanged is has_newer in
     absurd (omega (
       arith,
       more,
-      older.less,
-      one_generation own older.own _ has_own.1 older.has_own.1,
-      one_generation newer older.newer _ there.1 older.has_newer.1,
+      older.2.less,
+      one_generation own older.2.own _ has_own.1 older.2.has_own,
+      one_generation newer older.2.newer _ there.1 older.2.has_newer,
     ))
 
 pub not_known : (d e : Side → Disk) (s t : Side) → ((u : Side) → e u ≡ d u) → t ≡ other s
     → ((g : ℕ) → HasGeneration e t g → ⊥) → IsOlder d s → ⊥
 not_known d e s t unchanged is none older =
-    none older.newer (subst (λ (x : Side → Disk). HasGeneration x t older.newer) (sym (alike e d unchanged))
-    (subst (λ (u : Side). HasGeneration d u older.newer) (sym is) older.has_newer))
+    unknown d e s t unchanged is none older.2.newer (older.1, older.2.has_newer)

@@ -2,7 +2,7 @@
 use Rattle.std.proofs.Common.{◌≡◌, ◌∙◌, Bool, true, Option, Some, None, is_some, Result, Ok, Err, IfOk}
 use Rattle.std.proofs.Common.{refl, sym, ap, subst}
 use Rattle.std.proofs.lemmas.Bool.{true≢false, false≢true}
-use Rattle.lk_disk.specs.Disk.{Disk, other}
+use Rattle.lk_disk.specs.Disk.{Disk}
 use Rattle.lk_disk.specs.declared.device.Side.{Side}
 use Rattle.lk_disk.specs.declared.device.Side.TheVariants.{A, B}
 use Rattle.lk_summed_disk.specs.Hiding.{without}
@@ -69,9 +69,9 @@ pub opens_without : {D : Type 0} (disk : D → Side → Disk) (asked : Bool) (di
     (o : OptionalSums D) → (IsSoundOn disks side → ⊥) → IsOlder disks side
     → OpensAs disk asked (without side disks) o → OpensFiles disk asked disks o (Some side)
 opens_without disk asked disks A o damaged older opens =
-    (opens, (older, opens.sound (on_decodes o (opens.by_file B older.has_newer.0)) B), damaged)
+    (opens, (older, opens.sound (on_decodes o (opens.by_file B older.1)) B), damaged)
 opens_without disk asked disks B o damaged older opens =
-    (opens, (older, opens.sound (on_decodes o (opens.by_file A older.has_newer.0)) A), damaged)
+    (opens, (older, opens.sound (on_decodes o (opens.by_file A older.1)) A), damaged)
 
 -- the same, as a device is opened: `e` is what it shows after the files were compared, and `h` with one of them hidden
 pub opens_hiding : {D : Type 0} (disk : D → Side → Disk) (asked : Bool) (d e h : Side → Disk) (side : Side)

@@ -25,17 +25,26 @@ pub record BeginsWith (generation : ℕ) (bytes : List ℕ) : Type 0 where
   pub is : bytes ≡ spelling (Base base) ++ rest
   pub generation_is : base.generation ≡ generation
 
--- the file at this side has sums, and begins with a Base of this generation, before any wrong sum
-abbrev pub HasGeneration : (Side → Disk) → Side → ℕ → Type 0
-HasGeneration disks s generation = HasSums s (contents (disks s)) × BeginsWith generation (legible disks s)
-
--- the file at this side is older than the other one
-pub record IsOlder (disks : Side → Disk) (s : Side) : Type 0 where
+-- these bytes begin with a Base, and the others with one of a greater generation
+pub record IsBelow (bytes others : List ℕ) : Type 0 where
   pub own : ℕ
   pub newer : ℕ
-  pub has_own : HasGeneration disks s own
-  pub has_newer : HasGeneration disks (other s) newer
+  pub has_own : BeginsWith own bytes
+  pub has_newer : BeginsWith newer others
   pub less : own < newer
+
+-- the file at this side has sums
+abbrev pub IsSummed : (Side → Disk) → Side → Type 0
+IsSummed disks s = HasSums s (contents (disks s))
+
+-- the file at this side has sums, and begins with a Base of this generation, before any wrong sum
+abbrev pub HasGeneration : (Side → Disk) → Side → ℕ → Type 0
+HasGeneration disks s generation = IsSummed disks s × BeginsWith generation (legible disks s)
+
+-- Both files have sums, and the one at this side is older than the other one: that is read from their Bases, before any
+-- wrong sum.
+abbrev pub IsOlder : (Side → Disk) → Side → Type 0
+IsOlder disks s = IsSummed disks s × IsSummed disks (other s) × IsBelow (legible disks s) (legible disks (other s))
 
 -- the file at this side is not needed: it is older than the other one, which is not damaged
 abbrev pub IsReplaced : (Side → Disk) → Side → Type 0

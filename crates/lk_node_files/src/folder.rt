@@ -4,7 +4,7 @@ ghost use Rattle.std.specs.Prelude.{◌≡◌, None, IfOk, IfErr, OnOk};
 ghost use Rattle.lk_node_files.specs.Openings.{IsClosed, IsUnopened};
 
 use crate::causes::{open_file, write_cause, write_open_error};
-use crate::opening::{OpenedFiles, with_sums};
+use crate::opening::{OpenedFiles, open_to_write, with_sums};
 use lk_disk::{FileDisk, SystemDisk};
 use lk_program_fault::ProgramFault;
 use lk_summed_disk::{HidingDisk, OptionalSums};
@@ -166,9 +166,10 @@ impl FolderLock {
 pub type FolderDevice<F> = OptionalSums<HidingDisk<SystemDisk<F>>>;
 
 /// Opens the files of a folder as a device, to read and to write; it creates a missing file. It has sums if `sums` says
-/// so, or if a file has begun with them. A damaged file that is not needed is hidden, and a warning says so. On failure
-/// it writes the reason and returns the fault: `CannotOpen`; `NoMemory`; `Device`, if a file cannot be read; and
-/// `Damaged`, if a sum differs in a file that is needed.
+/// so, or if a file has begun with them. A damaged file that is not needed is hidden, and a warning says so. An older
+/// file without sums beside one with sums is cut to nothing. On failure it writes the reason and returns the fault:
+/// `CannotOpen`; `NoMemory`; `Device`, if a file cannot be read or cut; and `Damaged`, if a sum differs in a file that
+/// is needed.
 pub fn open_device<R: Files, E: Write>(
     rt: &R,
     alloc: Global,
@@ -180,12 +181,12 @@ pub fn open_device<R: Files, E: Write>(
     ensures quiet { IfOk result (λ o. o.hidden ≡ None → err.new ≡ err.old) }
 {
     match FileDisk::open(rt, alloc, folder) {
-        Ok(device) => with_sums(alloc, device, sums, folder, err),
+        Ok(device) => open_to_write(alloc, device, sums, folder, err),
         Err(_) => Err(write_open_error(rt, alloc, &to_write(), folder, err)),
     }
 }
 
-/// Opens the files of a folder as a device to read only; it creates no file. It fails as `open_device` does.
+/// Opens the files of a folder as a device to read only; it creates and cuts no file. It fails as `open_device` does.
 pub fn look_at_device<R: Files, E: Write>(
     rt: &R,
     alloc: Global,

@@ -7,4 +7,5 @@ pub mod folder;
 pub mod laws;
 pub mod older;
 pub mod opening;
+pub mod outdated;
 pub mod refusals;

@@ -1,7 +1,7 @@
-//! Finds out whether a damaged file is older than the other one.
+//! Finds out whether a file with sums is older than the other one.
 
 ghost use Rattle.std.specs.Prelude.{◌≡◌, ℕ, true, false, Ok, None, IfOk, IfErr, IfSome};
-ghost use Rattle.lk_disk.specs.Disk.{other};
+ghost use Rattle.lk_disk.specs.Disk.{contents, other};
 ghost use Rattle.lk_disk.specs.declared.device.Side.{Side as SideValue};
 ghost use Rattle.lk_summed_disk.specs.Opened.{IsNoDamage};
 ghost use Rattle.lk_node_files.specs.Older.{BeginsWith, HasGeneration, IsOlder};
@@ -12,7 +12,7 @@ use lk_summed_disk::{OpenFault, legible_text};
 use std::alloc::Global;
 
 // Returns the other side.
-fn other(side: Side) -> Side
+pub(crate) fn other(side: Side) -> Side
     ensures { result ≡ other side }
 {
     match side {
@@ -21,8 +21,24 @@ fn other(side: Side) -> Side
     }
 }
 
+// Reads the whole file at a side.
+pub(crate) fn read_file<D: LogDisk>(
+    alloc: Global,
+    device: &mut D,
+    side: Side,
+) -> Result<Vec<u8>, OpenFault>
+    ensures unchanged { D.is_honest → (s : SideValue) → D.disk device.new s ≡ D.disk device.old s }
+    ensures bytes { D.is_honest → IfOk result (λ bytes. bytes.items ≡ contents (D.disk device.old side)) }
+    ensures fault { IfErr result IsNoDamage }
+{
+    let count = device.length(side)?;
+    let mut bytes = vec![in alloc; 0; count]?;
+    device.read_into(side, 0, &mut bytes)?;
+    Ok(bytes)
+}
+
 // Returns the generation of the Base that the bytes begin with, or `None` if they begin with none.
-fn generation_of(alloc: Global, bytes: &[u8]) -> Result<Option<u64>, OpenFault>
+pub(crate) fn generation_of(alloc: Global, bytes: &[u8]) -> Result<Option<u64>, OpenFault>
     ensures some { IfOk result (λ r. IfSome r (λ generation. BeginsWith generation bytes.now)) }
     ensures none { result ≡ Ok None → (generation : ℕ) → BeginsWith generation bytes.now → ⊥ }
     ensures fault { IfErr result IsNoDamage }
@@ -37,7 +53,7 @@ fn generation_of(alloc: Global, bytes: &[u8]) -> Result<Option<u64>, OpenFault>
 
 // Returns the generation of the file at a side, or `None` if it has no sums, or does not begin with a Base before any
 // wrong one.
-fn generation_at<D: LogDisk>(
+pub(crate) fn generation_at<D: LogDisk>(
     alloc: Global,
     device: &mut D,
     side: Side,

@@ -8,9 +8,11 @@ ghost use Rattle.lk_summed_disk.specs.Opened.{IsDamagedOn, IsNoDamage, IsSoundOn
 ghost use Rattle.lk_summed_disk.specs.Options.{OpensAs};
 ghost use Rattle.lk_node_files.specs.Older.{IsReplaced, OpensFiles};
 ghost use Rattle.lk_node_files.specs.Openings.{IsUnreadable};
+ghost use Rattle.lk_node_files.specs.Outdated.{OpensCut};
 
 use crate::causes::{FailureCause, write_failed_calls};
 use crate::older::is_older;
+use crate::outdated::cut_outdated;
 use crate::refusals::write_advice;
 use lk_disk::{LogDisk, Side};
 use lk_program_fault::ProgramFault;
@@ -191,5 +193,32 @@ pub fn with_sums<D: LogDisk + FailureCause + Drop, E: Write>(
             hidden: None,
         }),
         Err(refused) => open_refused(alloc, refused, sums, folder, err),
+    }
+}
+
+/// Opens a device to write, as `with_sums` does. Before that it cuts to nothing an outdated file, as `cut_outdated`
+/// explains. It fails as `with_sums` does.
+pub fn open_to_write<D: LogDisk + FailureCause + Drop, E: Write>(
+    alloc: Global,
+    device: D,
+    sums: bool,
+    folder: &str,
+    err: &mut E,
+) -> Result<OpenedFiles<D>, ProgramFault>
+    // What is opened is what the cut has left.
+    ensures opens { D.is_honest
+        → IfOk result (λ o. OpensCut (λ d s. shown D.disk d s) sums (D.disk device) o.device o.hidden) }
+    // Damage is told only if a file is damaged, and one is needed.
+    ensures damaged { D.is_honest → IsErrOf result ProgramFault.Damaged
+        → ((s : SideValue) → IsSoundOn (D.disk device) s) → ⊥ }
+    ensures needed { D.is_honest → IsErrOf result ProgramFault.Damaged
+        → (s : SideValue) → IsReplaced (D.disk device) s → ⊥ }
+    ensures fault { IfErr result IsUnreadable }
+    ensures quiet { IfOk result (λ o. o.hidden ≡ None → err.new ≡ err.old) }
+{
+    let mut device = device;
+    match cut_outdated(alloc, &mut device) {
+        Ok(()) => with_sums(alloc, device, sums, folder, err),
+        Err(fault) => Err(write_why(fault, &device, folder, err)),
     }
 }

@@ -6,6 +6,7 @@ ghost use Rattle.lk_disk.specs.declared.device.Side.{Side as SideValue};
 ghost use Rattle.lk_node_files.specs.Ends.{EndsAt};
 
 use crate::causes::{FailureCause, write_failed_calls};
+use crate::older::read_file;
 use lk_disk::{LogDisk, Side};
 use lk_program_fault::ProgramFault;
 use lk_store_format::{EntryFault, Header, Stored, first_entry};
@@ -21,10 +22,7 @@ fn bytes_of<D: LogDisk>(alloc: Global, device: &mut D, side: Side) -> Option<Vec
     ensures unchanged { D.is_honest → (s : SideValue) → D.disk device.new s ≡ D.disk device.old s }
     ensures bytes { D.is_honest → IfSome result (λ bytes. bytes.items ≡ contents (D.disk device.old side)) }
 {
-    let count = device.length(side).ok()?;
-    let mut bytes = vec![in alloc; 0; count].ok()?;
-    device.read_into(side, 0, &mut bytes).ok()?;
-    Some(bytes)
+    read_file(alloc, device, side).ok()
 }
 
 // Returns the offset where the valid entries end, which is the length if all of the file is entries. `None` if memory

@@ -6,7 +6,7 @@ use Rattle.lk_node_files.proofs.older.is_older.Goals as goal
 
 pub returns-in_default-clause-no : goal.returns-in_default-clause-no
 returns-in_default-clause-no g c honest _ older =
-    c.in_ok-own.ensures.none honest (ap Ok c.in_default.is) older.own older.has_own
+    c.in_ok-own.ensures.none honest (ap Ok c.in_default.is) older.2.own (older.0, older.2.has_own)
 
 pub returns-in_default-2-clause-no : goal.returns-in_default-2-clause-no
 returns-in_default-2-clause-no g c honest _ older =
