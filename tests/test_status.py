@@ -320,6 +320,18 @@ class StatusTest(unittest.TestCase):
         )
         self.assertEqual(first["change_pending_positions"], 1)
 
+    def test_json_is_those_bytes(self):
+        status, lines = self.asks([node(1, leads=1, reach=heard(2, names=7)), silent], "--json")
+        first = (
+            '{"port":a,"up":true,"node":1,"program":"0.1.0","genesis":"' + GENESIS + '","leads":1,"leader":1,'
+            '"leader_silence_ticks":1,"promised_round":3,"executed_positions":10,"snapshot_position":4,"members":3,'
+            '"change_pending_positions":1,"waiting_requests":2,"unread_datagrams_total":5,"failed_sends_total":6,'
+            '"ticks_total":100,"store_format":2,"table_version":1,"members_heard":2,"reads_bundles":1,'
+            '"sends_bundles":0,"watches":0,"names":7,"state_position":0,"state_differs":false,"member_nodes":[1,2,3]}'
+        )
+        head = '{"cluster":5,"served":false,"one_genesis":true,"one_state":true,"members_up":1,"members":3,"nodes":['
+        self.assertEqual((status, lines), (1, [head + first + ',{"port":b,"up":false}]}']))
+
     def test_metrics_have_a_type_and_one_value_each(self):
         leader = node(1, leads=1, leader=0, reach=heard(2, watches=4, names=461))
         status, lines = self.asks([leader, silent, node(3, reach=SENDS)], "--prometheus")

@@ -41,12 +41,12 @@ strangers_as a z measure rs front several all printed =
 same : (n : ℕ) → suc n ≡ n + 1
 same n = omega arith
 
--- the targets from a place on begin with the one that is there
-pub next_target : (ts : List Target) (i : ℕ) (t : Target) → i < length ts → t ≡ get_or ts i t
-    → drop i ts ≡ t ∷ drop (i + 1) ts
-next_target ts i t within is =
-    drop-cons ts i t within ∙ ap (λ (other : Target). other ∷ drop (suc i) ts) (sym is)
-    ∙ ap (λ (n : ℕ). t ∷ drop n ts) (same i)
+-- a list from a place on begins with what is there
+pub next_item : {A : Type 0} (xs : List A) (i : ℕ) (x : A) → i < length xs → x ≡ get_or xs i x
+    → drop i xs ≡ x ∷ drop (i + 1) xs
+next_item {A} xs i x within is =
+    drop-cons xs i x within ∙ ap (λ (other : A). other ∷ drop (suc i) xs) (sym is)
+    ∙ ap (λ (n : ℕ). x ∷ drop n xs) (same i)
 
 -- what was written, with the texts of the targets that are left, is all
 abbrev pub SoFar : (ℕ → Target → List ℕ) → Option (List ℕ) → Option (List ℕ) → List ℕ → ℕ → List Target → Type 0

@@ -1,8 +1,14 @@
--- A status as one object of JSON, in a line.
-use Rattle.std.specs.Prelude.{ℕ, ◌+◌, ◌%◌, ◌^◌, Bool, Option, Some, None, List, [], ◌∷◌, ◌++◌, length, codes, flat_map}
-use Rattle.std.specs.Prelude.{if◌then◌else◌}
+-- A status as one JSON object. Its text is that which the kit's library `json` gives, with no spaces.
+use Rattle.std.specs.Prelude.{◌≡◌, ℕ, true, false, Option, Some, None, List, [], ◌∷◌, ◌++◌, length, map, flat_map}
+use Rattle.std.specs.Prelude.{codes}
 use Rattle.std.specs.Fmt.{decimal}
 use Rattle.hex.specs.Hex.{encode_lower}
+use Rattle.json.specs.Json.{Json, boolean, number, string, array, object, Items, no_items, item, Members, no_members}
+use Rattle.json.specs.Json.{member}
+use Rattle.json.specs.Print.{print}
+use Rattle.json.specs.Token.{Token, key}
+use Rattle.json.specs.Tree.{json_tokens}
+use Rattle.json.specs.Written.{Written}
 use Rattle.lk_types.specs.declared.member.Member.{Member}
 use Rattle.lk_probe.specs.declared.probe.Report.{Report}
 use Rattle.lk_probe.specs.declared.status.Version.{Version}
@@ -14,112 +20,108 @@ use Rattle.lk_status_command.specs.Fields.{field_name, field_value, all_fields}
 use Rattle.lk_status_command.specs.Tokens.{by_token}
 use Rattle.lk_status_command.specs.declared.field.Field.{Field}
 
-abbrev pub truth : Bool → List ℕ
-truth is = if is then codes "true" else codes "false"
+-- ---- JSON of lists
+
+-- a member of an object: its name and its value
+abbrev pub Entry : Type 0
+Entry = List ℕ × Json
+
+abbrev pub members_of : List Entry → Members
+members_of [] = no_members
+members_of (e ∷ es) = member e.0 e.1 (members_of es)
+
+abbrev pub items_of : List Json → Items
+items_of [] = no_items
+items_of (j ∷ js) = item j (items_of js)
+
+abbrev pub object_of : List Entry → Json
+object_of es = object (members_of es)
+
+abbrev pub array_of : List Json → Json
+array_of js = array (items_of js)
+
+abbrev pub whole : ℕ → Json
+whole n = number (decimal n)
 
 -- ---- of a node
 
--- its number, and the version of its program
-abbrev pub program_part : ℕ → Version → List ℕ
-program_part node v =
-    codes ",\"node\":"
-    ++ (decimal node
-    ++ (codes ",\"program\":\""
-    ++ (decimal v.major ++ (46 ∷ (decimal v.minor ++ (46 ∷ (decimal v.patch ++ 34 ∷ [])))))))
-
--- the digest of its genesis in hex
-abbrev pub genesis_part : List ℕ → List ℕ
-genesis_part genesis = codes ",\"genesis\":\"" ++ (encode_lower genesis ++ 34 ∷ [])
+abbrev pub version_text : Version → List ℕ
+version_text v = decimal v.major ++ (46 ∷ (decimal v.minor ++ (46 ∷ decimal v.patch)))
 
 -- a named number, if there is one
-abbrev pub number_part : List ℕ → Option ℕ → List ℕ
-number_part name None = []
-number_part name (Some n) = codes ",\"" ++ (name ++ (codes "\":" ++ decimal n))
+abbrev pub number_entry : List ℕ → Option ℕ → List Entry
+number_entry name None = []
+number_entry name (Some n) = (name, whole n) ∷ []
 
--- a named truth value
-abbrev pub truth_part : List ℕ → Bool → List ℕ
-truth_part name is = codes ",\"" ++ (name ++ (codes "\":" ++ truth is))
+abbrev pub field_entry : Report → Field → List Entry
+field_entry r field = number_entry (field_name field) (field_value field r)
 
-abbrev pub field_part : Report → Field → List ℕ
-field_part r field = number_part (field_name field) (field_value field r)
+-- the numbers of these members
+abbrev pub node_numbers : List Member → List Json
+node_numbers ms = map (λ (m : Member). whole m.node) ms
 
-abbrev pub fields_part : Report → List ℕ
-fields_part r = flat_map (field_part r) all_fields
-
--- the numbers of these members, each after a comma
-abbrev pub more_numbers : List Member → List ℕ
-more_numbers ms = flat_map (λ (m : Member). 44 ∷ decimal m.node) ms
-
--- the numbers of these members, with commas between them
-abbrev pub numbers : List Member → List ℕ
-numbers [] = []
-numbers (m ∷ ms) = decimal m.node ++ more_numbers ms
-
-abbrev pub members_part : List Member → List ℕ
-members_part ms = codes ",\"member_nodes\":[" ++ (numbers ms ++ 93 ∷ [])
-
--- whether at least as many of the nodes hold another state
-abbrev pub differs_part : List Report → Report → List ℕ
-differs_part rs r = truth_part (codes "state_differs") (is_rivalled rs r)
-
-abbrev pub report_part : List Report → Report → List ℕ
-report_part rs r =
-    program_part r.node r.status.identity.program
-    ++ (genesis_part r.status.identity.genesis
-    ++ (fields_part r ++ (differs_part rs r ++ members_part r.status.members)))
+-- what the node reports, and whether at least as many nodes hold another state
+abbrev pub report_entries : List Report → Report → List Entry
+report_entries rs r =
+    (codes "node", whole r.node)
+    ∷ (codes "program", string (version_text r.status.identity.program))
+    ∷ (codes "genesis", string (encode_lower r.status.identity.genesis))
+    ∷ (flat_map (field_entry r) all_fields
+    ++ (codes "state_differs", boolean (is_rivalled rs r))
+    ∷ (codes "member_nodes", array_of (node_numbers r.status.members)) ∷ [])
 
 -- ---- of the targets
 
--- the target at this port reports
-abbrev pub up_part : ℕ → List ℕ
-up_part port = codes "{\"port\":" ++ (decimal port ++ codes ",\"up\":true")
-
 -- the target at this port, by its report among those of all
-abbrev pub target_object : List Report → ℕ → Option Report → List ℕ
-target_object rs port None = codes "{\"port\":" ++ (decimal port ++ codes ",\"up\":false}")
-target_object rs port (Some r) = up_part port ++ (report_part rs r ++ 125 ∷ [])
+abbrev pub target_json : List Report → ℕ → Option Report → Json
+target_json rs port None = object_of ((codes "port", whole port) ∷ (codes "up", boolean false) ∷ [])
+target_json rs port (Some r) =
+    object_of ((codes "port", whole port) ∷ (codes "up", boolean true) ∷ report_entries rs r)
 
--- the target whose probe carries this token
-abbrev pub object_of : List Report → ℕ → Target → List ℕ
-object_of rs token t = target_object rs t.port (report_of token rs)
-
--- these targets, each after a comma
-abbrev pub more_objects : ℕ → List Target → List Report → List ℕ
-more_objects token ts rs = by_token (λ token t. 44 ∷ object_of rs token t) token ts
-
--- these targets, with commas between them
-abbrev pub objects : ℕ → List Target → List Report → List ℕ
-objects token [] rs = []
-objects token (t ∷ ts) rs = object_of rs token t ++ more_objects ((token + 1) % (2 ^ 64)) ts rs
+-- these targets, of which the probe of the first carries this token, and that of each other the next
+abbrev pub targets_json : List Report → ℕ → List Target → List Json
+targets_json rs = by_token (λ token t. target_json rs t.port (report_of token rs) ∷ [])
 
 -- ---- of all
 
--- the cluster, whether it is served, and whether all nodes tell one genesis
-abbrev pub head_part : ℕ → Bool → Bool → List ℕ
-head_part cluster served one =
-    codes "{\"cluster\":"
-    ++ (decimal cluster ++ (codes ",\"served\":" ++ (truth served ++ (codes ",\"one_genesis\":" ++ truth one))))
+-- how many of the members of the measure report, and how many there are
+abbrev pub count_entries : Option Report → List Report → List Entry
+count_entries None rs = []
+count_entries (Some measure) rs =
+    (codes "members_up", whole (count_reporting measure.status.members rs))
+    ∷ (codes "members", whole (length measure.status.members)) ∷ []
 
-abbrev pub verdict_part : ℕ → List Report → List ℕ
-verdict_part cluster rs = head_part cluster (is_served rs) (one_genesis rs)
+-- the cluster, whether it is served, whether all nodes report one genesis, whether no two of them hold different states
+-- at one position, and the rest
+abbrev pub status_json : ℕ → ℕ → List Target → List Report → Option Report → Json
+status_json cluster first ts rs measure =
+    object_of ((codes "cluster", whole cluster)
+    ∷ (codes "served", boolean (is_served rs))
+    ∷ (codes "one_genesis", boolean (one_genesis rs))
+    ∷ (codes "one_state", boolean (one_state rs))
+    ∷ (count_entries measure rs
+    ++ (codes "nodes", array_of (targets_json rs first ts)) ∷ []))
 
--- whether no two nodes hold different states at one position
-abbrev pub one_state_part : List Report → List ℕ
-one_state_part rs = truth_part (codes "one_state") (one_state rs)
-
--- so many of so many members report
-abbrev pub counts_part : ℕ → ℕ → List ℕ
-counts_part reporting count =
-    codes ",\"members_up\":" ++ (decimal reporting ++ (codes ",\"members\":" ++ decimal count))
-
--- how many of the members of the measure
-abbrev pub majority_part : Option Report → List Report → List ℕ
-majority_part None rs = []
-majority_part (Some measure) rs =
-    counts_part (count_reporting measure.status.members rs) (length measure.status.members)
-
+-- the object in a line
 abbrev pub json_text : ℕ → ℕ → List Target → List Report → Option Report → List ℕ
-json_text cluster first ts rs measure =
-    verdict_part cluster rs
-    ++ (one_state_part rs
-    ++ (majority_part measure rs ++ (codes ",\"nodes\":[" ++ (objects first ts rs ++ codes "]}\n"))))
+json_text cluster first ts rs measure = print (json_tokens (status_json cluster first ts rs measure)) ++ 10 ∷ []
+
+-- ---- for private clauses: what a writer is given
+
+abbrev pub entry_tokens : Entry → List Token
+entry_tokens e = key e.0 ∷ json_tokens e.1
+
+-- the tokens are appended
+pub record Adds (ts : List Token) (old new : Written) : Type 0 where
+  pub before : new.before ≡ old.before
+  pub tokens : new.tokens ≡ old.tokens ++ ts
+
+-- these members of an object, this value, or these items of an array, are appended
+abbrev pub AddsMembers : List Entry → Written → Written → Type 0
+AddsMembers es = Adds (flat_map entry_tokens es)
+
+abbrev pub AddsValue : Json → Written → Written → Type 0
+AddsValue j = Adds (json_tokens j)
+
+abbrev pub AddsItems : List Json → Written → Written → Type 0
+AddsItems js = Adds (flat_map json_tokens js)

@@ -2,7 +2,7 @@
 #![tactic(auto)]
 
 mod field;
-mod json;
+mod json_object;
 mod lines;
 mod prometheus;
 mod state_metric;

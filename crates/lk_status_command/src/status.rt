@@ -1,6 +1,7 @@
 //! `locks status`: asks the targets, on demand until all are ready, and prints what they report.
 
 ghost use Rattle.std.specs.Io.KnownBytes.{Appends};
+ghost use Rattle.std.specs.IoError.{error_kind};
 ghost use Rattle.std.specs.Option.{option_copied};
 ghost use Rattle.std.specs.Prelude.{◌≡◌, ◌≢◌, ◌≤◌, ◌↔◌, ◌&&◌, true, false, length, IfOk, OnOk, IsTrue};
 ghost use Rattle.lk_status.specs.Rounds.{AreHeard};
@@ -8,7 +9,7 @@ ghost use Rattle.lk_status.specs.Verdicts.{IsServed, is_at};
 ghost use Rattle.lk_status_command.specs.Prints.{lines_text, form_text, Prints};
 ghost use Rattle.lk_status_command.specs.Outcomes.{IsReady, Shows, IsShownServed};
 
-use crate::json::write_json;
+use crate::json_object::write_json;
 use crate::lines::write_lines;
 use crate::prometheus::write_metrics;
 use lk_probe::Report;
@@ -21,7 +22,7 @@ use lk_status_reasons::why::write_why;
 use lk_transport::socket::DatagramSocket;
 use std::alloc::Global;
 use std::io;
-use std::io::Write;
+use std::io::{ErrorKind, Write};
 
 // The receives of 100 ms in a second.
 const A_SECOND: u32 = 10;
@@ -71,6 +72,7 @@ fn write_text<W: Write>(
 
 // Writes the reports of a round in the form of the plan.
 fn write_form<W: Write>(
+    alloc: Global,
     plan: &Plan,
     first: u64,
     reports: &[Report],
@@ -83,19 +85,25 @@ fn write_form<W: Write>(
     let inquiry = &plan.inquiry;
     match plan.form {
         Form::Lines => write_text(inquiry, first, reports, measure, out)?,
-        Form::Json => write_json(inquiry, first, reports, measure, out)?,
+        Form::Json => write_json(alloc, inquiry, first, reports, measure, out)?,
         Form::Prometheus => write_metrics(inquiry, first, reports, measure, out)?,
     }
     Ok(())
 }
 
 // Prints the reports of a round, and flushes. Returns whether they show that the cluster is served.
-fn print<W: Write>(plan: &Plan, first: u64, reports: &[Report], out: &mut W) -> io::Result<bool>
+fn print<W: Write>(
+    alloc: Global,
+    plan: &Plan,
+    first: u64,
+    reports: &[Report],
+    out: &mut W,
+) -> io::Result<bool>
     ensures served { IfOk result (λ is. IsTrue is ↔ IsServed reports.now) }
     ensures printed { OnOk result
         (Prints plan.now.form first plan.now.inquiry reports.now (W.contents out.old) (W.contents out.new)) }
 {
-    write_form(plan, first, reports, reference_report(reports), out)?;
+    write_form(alloc, plan, first, reports, reference_report(reports), out)?;
     out.flush()?;
     Ok(is_served(reports))
 }
@@ -197,6 +205,17 @@ fn are_both(one: bool, other: bool) -> bool
     one && other
 }
 
+// Returns the fault of a failed print: the text of a form may need memory.
+fn print_fault(error: &io::Error) -> ProgramFault
+    ensures memory { error_kind error.now ≡ ErrorKind.OutOfMemory → result ≡ ProgramFault.NoMemory }
+    ensures write { error_kind error.now ≢ ErrorKind.OutOfMemory → result ≡ ProgramFault.Write }
+{
+    match error.kind() {
+        ErrorKind::OutOfMemory => ProgramFault::NoMemory,
+        _ => ProgramFault::Write,
+    }
+}
+
 // Asks, and prints the reports. Returns whether the cluster is served, and ready if that is waited for.
 fn ask_and_print<S: DatagramSocket, W: Write>(
     alloc: Global,
@@ -207,9 +226,9 @@ fn ask_and_print<S: DatagramSocket, W: Write>(
     ensures { IfOk result (λ is. Shows S.sent S.incoming S.failures S.is_observable plan.now is socket.new) }
 {
     let round = round_of(alloc, socket, plan)?;
-    match print(plan, round.first, &round.reports, out) {
+    match print(alloc, plan, round.first, &round.reports, out) {
         Ok(is_served) => Ok(are_both(is_served, round.is_ready)),
-        Err(_) => Err(ProgramFault::Write),
+        Err(error) => Err(print_fault(&error)),
     }
 }
 

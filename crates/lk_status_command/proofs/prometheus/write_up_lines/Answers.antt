@@ -5,7 +5,7 @@ use Rattle.lk_status.specs.declared.target.Target.{Target}
 use Rattle.lk_status_command.specs.Metrics.{up_line}
 use Rattle.lk_status_command.specs.Tokens.{by_token}
 use Rattle.lk_types.proofs.Appending.{appends_nothing}
-use Rattle.lk_status_command.proofs.Writing.{next_target, targets_more, targets_done}
+use Rattle.lk_status_command.proofs.Writing.{next_item, targets_more, targets_done}
 use Rattle.lk_status_command.proofs.prometheus.write_up_lines.Goals as goal
 
 pub targets-init : goal.targets-init
@@ -25,7 +25,7 @@ targets-preserved g c =
     (g.W.Write.contents c.write_up_line.new.out) (up_line c.args.inquiry.now t is)) c.is_reported.ensures
     c.in_ok-write_up_line.ensures in
     targets_more text _ _ _ _ c.targets.token targets c.targets.target-index t
-    (next_target targets c.targets.target-index t c.targets-test.true c.target-item.is)
+    (next_item targets c.targets.target-index t c.targets-test.true c.target-item.is)
     c.targets.invariant written
 
 pub returns : goal.returns
